@@ -1,0 +1,9 @@
+pub mod Walking
+pub mod CleanWalks
+pub mod Positions
+pub mod Meanings
+pub mod MergedPaths
+pub mod Scanning
+pub mod Grounding
+pub mod Storing
+pub mod Contents

@@ -1,0 +1,5 @@
+pub mod Segments
+pub mod Faults
+pub mod Grounds
+pub mod Merging
+pub mod Reading

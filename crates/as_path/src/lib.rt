@@ -1,0 +1,220 @@
+// The AS_PATH attribute: its first fault, its ground, its merged path.
+use types::AsNumber;
+use types::Fault;
+use types::Ground;
+use types::Refusal;
+use types::Role;
+ghost use mathlib.Core.Path.{_≡_};
+ghost use Prim.Native.Nat.{_+_, _*_, _/_, _^_, _≤_, _<_};
+ghost use lib.ListN.{length, set};
+ghost use Rattle.as_path.specs.declared.Scan.the-variants.{Clean};
+ghost use Rattle.as_path.specs.Segments.{numberAt, numbersAt, segmentAt, segments};
+ghost use Rattle.as_path.specs.Faults.{firstFault};
+ghost use Rattle.as_path.specs.Grounds.{hasSet, groundOf, isNotNeighbour};
+ghost use Rattle.as_path.specs.Merging.{mergeRuns, mergedPath};
+ghost use Rattle.as_path.specs.Reading.{Stored, contentOf, readingOf, bufferAfter};
+
+// The most numbers of a merged path.
+pub const MOST_NUMBERS: usize = 64;
+
+// The first fault of an attribute, with its place.
+pub enum Scan {
+    Clean,
+    Faulty(Fault, usize),
+}
+
+// The first ground of an attribute without a fault.
+pub enum Grounded {
+    By(Ground),
+    Not,
+}
+
+// What an attribute was read as; Path says how many numbers of the buffer are the merged path.
+pub enum Reading {
+    Path(usize),
+    OnGround(Ground),
+    Refused(Refusal),
+}
+
+fn wide(x: u8) -> u32
+    ensures { λ r. ⌜ (r ≡ x) × (r ≤ 255) ⌝ }
+{
+    x as u32
+}
+
+fn size(x: u8) -> usize
+    ensures { λ r. ⌜ (r ≡ x) × (r ≤ 255) ⌝ }
+{
+    x as usize
+}
+
+// Number k of a segment's body.
+fn number_at(body: &[u8], k: usize) -> u32
+    requires { ⌜ 4 * k + 4 ≤ length (now body) ⌝ }
+    ensures { λ r. ⌜ r ≡ numberAt 4 (now (body .entry)) (4 * k) ⌝ }
+{
+    let i = 4 * k;
+    let a = wide(body[i]);
+    let b = wide(body[i + 1]);
+    let c = wide(body[i + 2]);
+    let d = wide(body[i + 3]);
+    a * 16777216 + b * 65536 + c * 256 + d
+}
+
+fn first_fault(attr: &[u8]) -> Scan
+    ensures { λ r. ⌜ r ≡ firstFault 4 (now (attr .entry)) ⌝ }
+{
+    let mut at: usize = 0;
+    'segments: loop {
+        if attr.len() <= at {
+            break 'segments Scan::Clean;
+        }
+        let left = attr.len() - at;
+        if left < 2 {
+            break 'segments Scan::Faulty(Fault::CutShort, at);
+        }
+        let kind = attr[at];
+        if kind == 0 {
+            break 'segments Scan::Faulty(Fault::UnknownType, at);
+        }
+        if 4 < kind {
+            break 'segments Scan::Faulty(Fault::UnknownType, at);
+        }
+        if 2 < kind {
+            break 'segments Scan::Faulty(Fault::Confederation, at);
+        }
+        let from = at + 2;
+        let count = size(attr[at + 1]);
+        if count == 0 {
+            break 'segments Scan::Faulty(Fault::NoNumbers, at);
+        }
+        if left - 2 < 4 * count {
+            break 'segments Scan::Faulty(Fault::CutShort, at);
+        }
+        let to = from + 4 * count;
+        let body = &attr[from..to];
+        let mut k: usize = 0;
+        while k < count {
+            if number_at(body, k) == 0 {
+                break 'segments Scan::Faulty(Fault::ZeroNumber, from + 4 * k);
+            }
+            k += 1;
+        }
+        at = to;
+    }
+}
+
+// A segment of type 1 anywhere.
+fn has_set(attr: &[u8]) -> bool
+    requires { ⌜ firstFault 4 (now attr) ≡ Clean ⌝ }
+    ensures { λ r. ⌜ r ≡ hasSet (segments 4 (now (attr .entry))) ⌝ }
+{
+    let mut at: usize = 0;
+    while at < attr.len() {
+        if attr[at] == 1 {
+            return true;
+        }
+        let count = size(attr[at + 1]);
+        at = at + 2 + 4 * count;
+    }
+    false
+}
+
+// The first segment is a sequence, and its first number ought to be the neighbour and is not.
+fn is_not_neighbour(role: Role, neighbour: AsNumber, attr: &[u8]) -> bool
+    requires { ⌜ (0 < length (now attr)) × (firstFault 4 (now attr) ≡ Clean) ⌝ }
+    ensures { λ r. ⌜ r ≡ isNotNeighbour role (neighbour .0) (segmentAt 4 (now (attr .entry)) 0) ⌝ }
+{
+    if attr[0] != 2 {
+        return false;
+    }
+    if role.is_route_server() {
+        return false;
+    }
+    let first = number_at(&attr[2..6], 0);
+    let expected = neighbour.0;
+    first != expected
+}
+
+fn ground(role: Role, neighbour: AsNumber, attr: &[u8]) -> Grounded
+    requires { ⌜ firstFault 4 (now attr) ≡ Clean ⌝ }
+    ensures { λ r. ⌜ r ≡ groundOf role (neighbour .0) (segments 4 (now (attr .entry))) ⌝ }
+{
+    if attr.len() == 0 {
+        return Grounded::By(Ground::Empty);
+    }
+    if is_not_neighbour(role, neighbour, attr) {
+        return Grounded::By(Ground::NotNeighbour);
+    }
+    if has_set(attr) {
+        return Grounded::By(Ground::AsSet);
+    }
+    Grounded::Not
+}
+
+// A store that a buffer without the index passes over.
+fn put(path: &mut [u32], i: usize, x: u32)
+    ensures { λ r. ⌜ now (path .exit) ≡ set (now (path .entry)) i x ⌝ }
+{
+    if i < path.len() {
+        path[i] = x;
+    }
+}
+
+// Stores a segment's numbers from index n on, each run as one number; answers the index after them.
+fn merge_segment(body: &[u8], path: &mut [u32], n: usize) -> usize
+    requires { ⌜ (4 ≤ length (now body)) × (n + length (now body) < 2 ^ 64) ⌝ }
+    ensures { λ r. ⌜ Stored (now (path .entry)) n (mergeRuns (numbersAt 4 (length (now (body .entry)) / 4) (now (body .entry)) 0)) (now (path .exit)) r ⌝ }
+{
+    let count = body.len() / 4;
+    let mut last = number_at(body, 0);
+    put(path, n, last);
+    let mut to = n + 1;
+    let mut k: usize = 1;
+    while k < count {
+        let x = number_at(body, k);
+        k += 1;
+        if x != last {
+            put(path, to, x);
+            to += 1;
+            last = x;
+        }
+    }
+    to
+}
+
+// Stores the merged path; answers how many numbers it has.
+fn merge(attr: &[u8], path: &mut [u32]) -> usize
+    requires { ⌜ firstFault 4 (now attr) ≡ Clean ⌝ }
+    ensures { λ r. ⌜ Stored (now (path .entry)) 0 (mergedPath (segments 4 (now (attr .entry)))) (now (path .exit)) r ⌝ }
+{
+    let mut n: usize = 0;
+    let mut at: usize = 0;
+    while at < attr.len() {
+        let from = at + 2;
+        let count = size(attr[at + 1]);
+        let to = from + 4 * count;
+        n = merge_segment(&attr[from..to], path, n);
+        at = to;
+    }
+    n
+}
+
+// Reads an attribute. Of a merged path the buffer takes as much as it holds.
+pub fn read(role: Role, neighbour: AsNumber, attr: &[u8], path: &mut [u32]) -> Reading
+    ensures { λ r. ⌜ (r ≡ readingOf (contentOf role (neighbour .0) (now (attr .entry)))) × (now (path .exit) ≡ bufferAfter (contentOf role (neighbour .0) (now (attr .entry))) (now (path .entry))) ⌝ }
+{
+    match first_fault(attr) {
+        Scan::Faulty(fault, at) => Reading::Refused(Refusal::Attribute(fault, at)),
+        Scan::Clean => match ground(role, neighbour, attr) {
+            Grounded::By(g) => Reading::OnGround(g),
+            Grounded::Not => {
+                let n = merge(attr, path);
+                if MOST_NUMBERS < n {
+                    return Reading::Refused(Refusal::PathLength);
+                }
+                Reading::Path(n)
+            }
+        },
+    }
+}

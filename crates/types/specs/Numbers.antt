@@ -1,0 +1,106 @@
+-- The number that the rules give to each case of the enums, and the values that a verdict holds.
+use Prim.Native.Nat.{ℕ}
+use mathlib.Core.Bool.{cond}
+use lib.Dec.{eqb}
+use Rattle.types.specs.declared.Role.{Role}
+use Rattle.types.specs.declared.Role.the-variants.{Customer, Peer, Provider, RouteServer, RouteServerClient, MutualTransit}
+use Rattle.types.specs.declared.RoleRead.{RoleRead}
+use Rattle.types.specs.declared.RoleRead.the-variants.{Is, Nothing}
+use Rattle.types.specs.declared.Ground.{Ground}
+use Rattle.types.specs.declared.Ground.the-variants.{Empty, NotNeighbour, AsSet}
+use Rattle.types.specs.declared.Cause.{Cause}
+use Rattle.types.specs.declared.Cause.the-variants.{ByGround, ByHops}
+use Rattle.types.specs.declared.Verdict.{Verdict}
+use Rattle.types.specs.declared.Verdict.the-variants.{Valid, Invalid, Unknown}
+use Rattle.types.specs.declared.Fault.{Fault}
+use Rattle.types.specs.declared.Fault.the-variants.{CutShort, UnknownType, Confederation, NoNumbers, ZeroNumber}
+use Rattle.types.specs.declared.Refusal.{Refusal}
+use Rattle.types.specs.declared.Refusal.the-variants.{TableLength, RegisterMalformed, RoutesMalformed, SourceNumber, CustomerZero, ProviderList, NoRecord, RegisterFull, RoleNumber, NeighbourZero, AttributeLength, Attribute, PathLength, RouteTaken, NoRoute, RoutesFull}
+
+-- Roles: 1 customer, 2 lateral peer, 3 provider, 4 route server, 5 route-server client, 6 mutual transit.
+abbrev pub roleNumber : Role → ℕ
+roleNumber Customer = 1
+roleNumber Peer = 2
+roleNumber Provider = 3
+roleNumber RouteServer = 4
+roleNumber RouteServerClient = 5
+roleNumber MutualTransit = 6
+
+-- No other number is a role.
+abbrev pub roleOf : ℕ → RoleRead
+roleOf n =
+    cond (eqb n 1) (Is Customer)
+    (cond (eqb n 2) (Is Peer)
+    (cond (eqb n 3) (Is Provider)
+    (cond (eqb n 4) (Is RouteServer)
+    (cond (eqb n 5) (Is RouteServerClient)
+    (cond (eqb n 6) (Is MutualTransit)
+    Nothing)))))
+
+-- Grounds: 1 empty path, 2 the first number is not the neighbour (the rules say stranger), 3 a set.
+abbrev pub groundNumber : Ground → ℕ
+groundNumber Empty = 1
+groundNumber NotNeighbour = 2
+groundNumber AsSet = 3
+
+-- Verdict words: 0 Valid, 1 Invalid, 2 Unknown.
+abbrev pub verdictNumber : Verdict → ℕ
+verdictNumber Valid = 0
+verdictNumber (Invalid c) = 1
+verdictNumber (Unknown a b) = 2
+
+abbrev pub causeGround : Cause → ℕ
+causeGround (ByGround g) = groundNumber g
+causeGround (ByHops a b) = 0
+
+-- A ledger entry's ground: 0 where the verdict has none.
+abbrev pub verdictGround : Verdict → ℕ
+verdictGround Valid = 0
+verdictGround (Invalid c) = causeGround c
+verdictGround (Unknown a b) = 0
+
+abbrev pub causeA : Cause → ℕ
+causeA (ByGround g) = 0
+causeA (ByHops a b) = a
+
+abbrev pub causeB : Cause → ℕ
+causeB (ByGround g) = 0
+causeB (ByHops a b) = b
+
+-- The places a and b: 0 for Valid and for a ground.
+abbrev pub placeA : Verdict → ℕ
+placeA Valid = 0
+placeA (Invalid c) = causeA c
+placeA (Unknown a b) = a
+
+abbrev pub placeB : Verdict → ℕ
+placeB Valid = 0
+placeB (Invalid c) = causeB c
+placeB (Unknown a b) = b
+
+-- Rows 12 to 16 of the table of refusals.
+abbrev pub faultNumber : Fault → ℕ
+faultNumber CutShort = 12
+faultNumber UnknownType = 13
+faultNumber Confederation = 14
+faultNumber NoNumbers = 15
+faultNumber ZeroNumber = 16
+
+-- The table of refusals, row by row.
+abbrev pub refusalNumber : Refusal → ℕ
+refusalNumber TableLength = 1
+refusalNumber RegisterMalformed = 2
+refusalNumber RoutesMalformed = 3
+refusalNumber SourceNumber = 4
+refusalNumber CustomerZero = 5
+refusalNumber ProviderList = 6
+refusalNumber NoRecord = 7
+refusalNumber RegisterFull = 8
+refusalNumber RoleNumber = 9
+refusalNumber NeighbourZero = 10
+refusalNumber AttributeLength = 11
+refusalNumber (Attribute f p) = faultNumber f
+refusalNumber PathLength = 17
+refusalNumber RouteTaken = 18
+refusalNumber NoRoute = 19
+refusalNumber RoutesFull = 20

@@ -1,0 +1,256 @@
+// The types that every layer shares. The rules number the cases of each enum: specs/Numbers.antt has those numbers.
+ghost use mathlib.Core.Path.{_≡_};
+ghost use Rattle.types.specs.Roles.{isRouteServer, isUpstream};
+ghost use Rattle.types.specs.Numbers.{roleOf, roleNumber, groundNumber, faultNumber, refusalNumber, verdictNumber, verdictGround, placeA, placeB};
+
+// The number of an autonomous system.
+pub struct AsNumber(pub u32);
+
+// The caller's number of a kept route.
+pub struct RouteNumber(pub u32);
+
+// What the neighbour is to the network that judges the route (RFC 9234).
+pub enum Role {
+    Customer,
+    Peer,
+    Provider,
+    RouteServer,
+    RouteServerClient,
+    MutualTransit,
+}
+
+// A role read from a number.
+pub enum RoleRead {
+    Is(Role),
+    Nothing,
+}
+
+impl Role {
+    pub const LEAST: u32 = 1;
+
+    pub const GREATEST: u32 = 6;
+
+    pub fn from_number(n: u32) -> RoleRead
+        ensures { λ r. ⌜ r ≡ roleOf n ⌝ }
+    {
+        if n < Role::LEAST {
+            return RoleRead::Nothing;
+        }
+        if Role::GREATEST < n {
+            return RoleRead::Nothing;
+        }
+        match n {
+            1 => RoleRead::Is(Role::Customer),
+            2 => RoleRead::Is(Role::Peer),
+            3 => RoleRead::Is(Role::Provider),
+            4 => RoleRead::Is(Role::RouteServer),
+            5 => RoleRead::Is(Role::RouteServerClient),
+            _ => RoleRead::Is(Role::MutualTransit),
+        }
+    }
+
+    pub fn number(self) -> u32
+        ensures { λ r. ⌜ r ≡ roleNumber self ⌝ }
+    {
+        match self {
+            Role::Customer => 1,
+            Role::Peer => 2,
+            Role::Provider => 3,
+            Role::RouteServer => 4,
+            Role::RouteServerClient => 5,
+            Role::MutualTransit => 6,
+        }
+    }
+
+    // A route server need not put its own number on the path.
+    pub fn is_route_server(self) -> bool
+        ensures { λ r. ⌜ r ≡ isRouteServer self ⌝ }
+    {
+        match self {
+            Role::Customer => false,
+            Role::Peer => false,
+            Role::Provider => false,
+            Role::RouteServer => true,
+            Role::RouteServerClient => false,
+            Role::MutualTransit => false,
+        }
+    }
+
+    // Its routes are judged upstream; the others' downstream.
+    pub fn is_upstream(self) -> bool
+        ensures { λ r. ⌜ r ≡ isUpstream self ⌝ }
+    {
+        match self {
+            Role::Customer => true,
+            Role::Peer => true,
+            Role::Provider => false,
+            Role::RouteServer => true,
+            Role::RouteServerClient => true,
+            Role::MutualTransit => false,
+        }
+    }
+}
+
+// Why a route is Invalid before any hop is looked at.
+pub enum Ground {
+    Empty,
+    NotNeighbour,
+    AsSet,
+}
+
+impl Ground {
+    pub fn number(self) -> u32
+        ensures { λ r. ⌜ r ≡ groundNumber self ⌝ }
+    {
+        match self {
+            Ground::Empty => 1,
+            Ground::NotNeighbour => 2,
+            Ground::AsSet => 3,
+        }
+    }
+}
+
+// What the hop check says of two neighbours on a path.
+pub enum Hop {
+    NoAttestation,
+    ProviderPlus,
+    NotProviderPlus,
+}
+
+// Why a route is Invalid: its ground, or the two places of the hops that are Not Provider+ (upstream the second is 0).
+pub enum Cause {
+    ByGround(Ground),
+    ByHops(u32, u32),
+}
+
+pub enum Verdict {
+    Valid,
+    Invalid(Cause),
+    Unknown(u32, u32),
+}
+
+impl Verdict {
+    pub fn number(self) -> u32
+        ensures { λ r. ⌜ r ≡ verdictNumber self ⌝ }
+    {
+        match self {
+            Verdict::Valid => 0,
+            Verdict::Invalid(_) => 1,
+            Verdict::Unknown(_, _) => 2,
+        }
+    }
+
+    // The number of its ground; 0 where it has none.
+    pub fn ground(self) -> u32
+        ensures { λ r. ⌜ r ≡ verdictGround self ⌝ }
+    {
+        match self {
+            Verdict::Valid => 0,
+            Verdict::Invalid(c) => match c {
+                Cause::ByGround(g) => g.number(),
+                Cause::ByHops(_, _) => 0,
+            },
+            Verdict::Unknown(_, _) => 0,
+        }
+    }
+
+    pub fn place_a(self) -> u32
+        ensures { λ r. ⌜ r ≡ placeA self ⌝ }
+    {
+        match self {
+            Verdict::Valid => 0,
+            Verdict::Invalid(c) => match c {
+                Cause::ByGround(_) => 0,
+                Cause::ByHops(a, _) => a,
+            },
+            Verdict::Unknown(a, _) => a,
+        }
+    }
+
+    pub fn place_b(self) -> u32
+        ensures { λ r. ⌜ r ≡ placeB self ⌝ }
+    {
+        match self {
+            Verdict::Valid => 0,
+            Verdict::Invalid(c) => match c {
+                Cause::ByGround(_) => 0,
+                Cause::ByHops(_, b) => b,
+            },
+            Verdict::Unknown(_, b) => b,
+        }
+    }
+}
+
+// What a judging answers. A downstream verdict without a ground comes with the gap between the ramps, L - K.
+pub enum Answer {
+    Plain(Verdict),
+    WithGap(Verdict, i32),
+}
+
+// What is wrong with a segment of an AS_PATH attribute.
+pub enum Fault {
+    CutShort,
+    UnknownType,
+    Confederation,
+    NoNumbers,
+    ZeroNumber,
+}
+
+impl Fault {
+    pub fn number(self) -> u32
+        ensures { λ r. ⌜ r ≡ faultNumber self ⌝ }
+    {
+        match self {
+            Fault::CutShort => 12,
+            Fault::UnknownType => 13,
+            Fault::Confederation => 14,
+            Fault::NoNumbers => 15,
+            Fault::ZeroNumber => 16,
+        }
+    }
+}
+
+// Why a call is refused. A fault of the attribute comes with its place, the byte where it begins.
+pub enum Refusal {
+    TableLength,
+    RegisterMalformed,
+    RoutesMalformed,
+    SourceNumber,
+    CustomerZero,
+    ProviderList,
+    NoRecord,
+    RegisterFull,
+    RoleNumber,
+    NeighbourZero,
+    AttributeLength,
+    Attribute(Fault, usize),
+    PathLength,
+    RouteTaken,
+    NoRoute,
+    RoutesFull,
+}
+
+impl Refusal {
+    pub fn number(self) -> u32
+        ensures { λ r. ⌜ r ≡ refusalNumber self ⌝ }
+    {
+        match self {
+            Refusal::TableLength => 1,
+            Refusal::RegisterMalformed => 2,
+            Refusal::RoutesMalformed => 3,
+            Refusal::SourceNumber => 4,
+            Refusal::CustomerZero => 5,
+            Refusal::ProviderList => 6,
+            Refusal::NoRecord => 7,
+            Refusal::RegisterFull => 8,
+            Refusal::RoleNumber => 9,
+            Refusal::NeighbourZero => 10,
+            Refusal::AttributeLength => 11,
+            Refusal::Attribute(f, _) => f.number(),
+            Refusal::PathLength => 17,
+            Refusal::RouteTaken => 18,
+            Refusal::NoRoute => 19,
+            Refusal::RoutesFull => 20,
+        }
+    }
+}

@@ -1,0 +1,6 @@
+pub mod Searching
+pub mod Ramps
+pub mod Gaps
+pub mod Orders
+pub mod Locality
+pub mod Drafting
