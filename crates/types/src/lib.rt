@@ -254,3 +254,9 @@ impl Refusal {
         }
     }
 }
+
+// What a judging ends in.
+pub enum Judged {
+    Answered(Answer),
+    Refused(Refusal),
+}

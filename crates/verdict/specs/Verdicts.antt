@@ -1,5 +1,5 @@
 -- The verdict of a path over any hop function ("Roles and hops"; draft 16, sections 5 and 6).
-use Prim.Native.Nat.{ℕ, _-_}
+use Prim.Native.Nat.{ℕ, _+_, _-_}
 use mathlib.Core.List.{List}
 use mathlib.Core.Bool.{Bool, cond}
 use lib.ListN.{length}
