@@ -260,3 +260,22 @@ pub enum Judged {
     Answered(Answer),
     Refused(Refusal),
 }
+
+// What File answers.
+pub enum Filed {
+    New,
+    Replaced,
+    Refused(Refusal),
+}
+
+// What Withdraw and Drop answer.
+pub enum Removal {
+    Done,
+    Refused(Refusal),
+}
+
+// What Clear answers: how many records went.
+pub enum Cleared {
+    Gone(u32),
+    Refused(Refusal),
+}

@@ -1,0 +1,101 @@
+-- One turn of each loop of the run-time check, and the check as a whole. Assumes nothing.
+use mathlib.Core.Path.{_≡_, refl, sym, ap, _∙_}
+use mathlib.Core.List.{List}
+use mathlib.Core.Bool.{Bool, true, false, _&&_}
+use Prim.Native.Nat.{ℕ, zero, suc, _+_, _-_, _*_, _≤_, _<_, _^_}
+use native.Mathlib.Omega.{arith}
+use native.Mathlib.Nat.{not-suc-le-zero, mul-le-mul-left, suc-mul, add-assoc}
+use native.Mathlib.Numerals.{add-one}
+use lib.Dec.{eqb, leb}
+use lib.ListN.{length, drop, getD, drop-of-length-le}
+use lib.Seq.{drop-drop, getD-drop, drop-cons}
+use borrow.Author.Tests.{eq-eqb, ne-eqb, le-leb, lt-leb}
+use Rattle.table.specs.Table.{width, rowsOk, allZero, wellFormed}
+use Rattle.table.proofs.Laws.{count-index}
+
+-- ---- the rows
+
+-- The check of m rows is that of the first, and that of the others from where its body ends.
+ok-peel : (s : List ℕ) (h t p m o b : ℕ) → 0 < m
+    → rowsOk h t m o b (drop p s)
+    ≡ (eqb (getD s (p + h) 0) o
+    && (leb (getD s (p + h + 1) 0) (b - o) && rowsOk h t (m - 1) (o + getD s (p + h + 1) 0) b (drop (p + width h t) s)))
+unfolding rowsOk
+ok-peel s h t p zero o b l = absurd (not-suc-le-zero l)
+ok-peel s h t p (suc m) o b l =
+    let e : suc m - 1 ≡ m = omega arith in
+    rw (e, getD-drop p s h 0, count-index s p h, drop-drop (width h t) p s)
+
+module _ (s : List ℕ) (h t p m o b : ℕ) (l : 0 < m) where
+  -- A wrong start fails.
+  pub ok-start : (getD s (p + h) 0 ≡ o → ⊥) → false ≡ rowsOk h t m o b (drop p s)
+  ok-start x = rw (ok-peel s h t p m o b l, ne-eqb (getD s (p + h) 0) o x)
+
+  -- A count beyond the body words that are left fails.
+  pub ok-count : getD s (p + h) 0 ≡ o → b - o < getD s (p + h + 1) 0 → false ≡ rowsOk h t m o b (drop p s)
+  ok-count x y = rw (ok-peel s h t p m o b l, eq-eqb (getD s (p + h) 0) o x, lt-leb (getD s (p + h + 1) 0) (b - o) y)
+
+  -- A right row leaves the others to check.
+  pub ok-step : getD s (p + h) 0 ≡ o → getD s (p + h + 1) 0 ≤ b - o
+      → rowsOk h t (m - 1) (o + getD s (p + h + 1) 0) b (drop (p + width h t) s) ≡ rowsOk h t m o b (drop p s)
+  ok-step x y = rw (ok-peel s h t p m o b l, eq-eqb (getD s (p + h) 0) o x, le-leb (getD s (p + h + 1) 0) (b - o) y)
+
+-- With no row left, the counts must have come to b.
+pub ok-done : (h t m o b : ℕ) (xs : List ℕ) → m ≤ 0 → eqb o b ≡ rowsOk h t m o b xs
+unfolding rowsOk
+ok-done h t zero o b xs l = refl
+ok-done h t (suc m) o b xs l = absurd (not-suc-le-zero l)
+
+-- ---- the zeros
+
+-- The check from i on is that of word i, and that of the words behind it.
+zero-peel : (s : List ℕ) (i : ℕ) → i < length s → allZero (drop i s) ≡ (eqb (getD s i 0) 0 && allZero (drop (i + 1) s))
+unfolding allZero
+zero-peel s i l = rw (add-one, drop-cons s i 0)
+
+-- A word that is not 0 fails.
+pub zero-no : (s : List ℕ) (i : ℕ) → i < length s → (getD s i 0 ≡ 0 → ⊥) → false ≡ allZero (drop i s)
+zero-no s i l x = rw (zero-peel s i l, ne-eqb (getD s i 0) 0 x)
+
+-- A word that is 0 leaves the words behind it to check.
+pub zero-step : (s : List ℕ) (i : ℕ) → i < length s → getD s i 0 ≡ 0 → allZero (drop (i + 1) s) ≡ allZero (drop i s)
+zero-step s i l x = rw (zero-peel s i l, eq-eqb (getD s i 0) 0 x)
+
+-- No words pass.
+pub zero-done : (s : List ℕ) (i : ℕ) → length s ≤ i → true ≡ allZero (drop i s)
+unfolding allZero
+zero-done s i l = rw (drop-of-length-le s l)
+
+-- ---- the whole check
+
+-- The rows of any word's number of entries are far from the end of the address space.
+pub product-fits : (n h t : ℕ) → n < 2 ^ 32 → h < 2 ^ 16 → t < 2 ^ 16 → n * width h t < 2 ^ 50
+product-fits n h t l k j =
+    let m : n * width h t ≤ n * 262144 = mul-le-mul-left n (omega arith) in
+    omega arith
+
+module _ (h t : ℕ) (ws : List ℕ) where
+  -- Fewer than two words fail.
+  pub wf-short : length ws < 2 → false ≡ wellFormed h t ws
+  unfolding wellFormed
+  wf-short l = rw (lt-leb 2 (length ws) l)
+
+  module _ (n b : ℕ) (e : n ≡ getD ws 0 0) (f : b ≡ getD ws 1 0) (l : 2 ≤ length ws) where
+    -- Rows and bodies that do not fit fail.
+    pub wf-long : length ws < 2 + n * width h t + b → false ≡ wellFormed h t ws
+    unfolding wellFormed
+    wf-long k = rw (le-leb 2 (length ws) l, ← e, ← f, lt-leb (2 + n * width h t + b) (length ws) k)
+
+    module _ (k : 2 + n * width h t + b ≤ length ws) where
+      -- Where they fit, the check is that of the rows and that of the zeros.
+      pub wf-all : (rowsOk h t n 0 (getD ws 1 0) (drop 2 ws) && allZero (drop (2 + n * width h t + b) ws)) ≡ wellFormed h t ws
+      unfolding wellFormed
+      wf-all = rw (le-leb 2 (length ws) l, ← e, ← f, le-leb (2 + n * width h t + b) (length ws) k)
+
+      -- Rows that fail, fail.
+      pub wf-rows : false ≡ rowsOk h t n 0 (getD ws 1 0) (drop 2 ws) → false ≡ wellFormed h t ws
+      wf-rows r = ap (λ (x : Bool). x && allZero (drop (2 + n * width h t + b) ws)) r ∙ wf-all
+
+      -- Rows that pass leave the zeros to check.
+      pub wf-zeros : true ≡ rowsOk h t n 0 (getD ws 1 0) (drop 2 ws) → allZero (drop (2 + n * width h t + b) ws) ≡ wellFormed h t ws
+      wf-zeros r = ap (λ (x : Bool). x && allZero (drop (2 + n * width h t + b) ws)) r ∙ wf-all

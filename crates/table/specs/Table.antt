@@ -1,0 +1,117 @@
+-- A packed table of words ("Tables"): word 0 the number of entries, word 1 the number of body words, a row for
+-- each entry, the bodies, zeros to the end. A row is h head words, the start of the entry's body, the body's length, and t tail words.
+use mathlib.Core.Path.{_≡_}
+use mathlib.Core.Bool.{Bool, true, _&&_}
+use mathlib.Core.List.{List, [], _∷_, _++_}
+use Prim.Native.Nat.{ℕ, zero, suc, _+_, _-_, _*_, _≤_, _<_, _^_}
+use lib.Dec.{eqb, leb}
+use lib.ListN.{length, take, drop, getD, replicate}
+
+pub record Entry : Type 0 where
+  pub head : List ℕ
+  pub body : List ℕ
+  pub tail : List ℕ
+
+-- The words of a row.
+abbrev pub width : ℕ → ℕ → ℕ
+width h t = h + 2 + t
+
+-- The rows of entries, where the bodies before them take o words.
+unfoldable pub rows : ℕ → List Entry → List ℕ
+rows o [] = []
+rows o (e ∷ es) = e .head ++ (o ∷ (length (e .body) ∷ (e .tail ++ rows (o + length (e .body)) es)))
+
+unfoldable pub bodies : List Entry → List ℕ
+bodies [] = []
+bodies (e ∷ es) = e .body ++ bodies es
+
+-- Zeros behind l, up to size words.
+unfoldable pub pad : ℕ → List ℕ → List ℕ
+pad size l = l ++ replicate (size - length l) 0
+
+-- The table of size words that holds the entries.
+unfoldable pub encode : ℕ → List Entry → List ℕ
+encode size es = pad size (length es ∷ (length (bodies es) ∷ (rows 0 es ++ bodies es)))
+
+-- The m entries whose rows begin xs and whose bodies begin ys. A row's start is not looked at.
+unfoldable pub decodeRows : ℕ → ℕ → ℕ → List ℕ → List ℕ → List Entry
+decodeRows h t zero xs ys = []
+decodeRows h t (suc m) xs ys =
+    let c = getD xs (h + 1) 0 in
+    let es = decodeRows h t m (drop (width h t) xs) (drop c ys) in
+    record { head = take h xs; body = take c ys; tail = take t (drop (h + 2) xs) } ∷ es
+
+-- The entries that a table holds.
+unfoldable pub decode : ℕ → ℕ → List ℕ → List Entry
+decode h t ws = decodeRows h t (getD ws 0 0) (drop 2 ws) (drop (2 + getD ws 0 0 * width h t) ws)
+
+-- ---- the word rules
+
+-- The m rows that begin xs have the starts that their counts make from o on, and the counts end at b.
+unfoldable pub rowsOk : ℕ → ℕ → ℕ → ℕ → ℕ → List ℕ → Bool
+rowsOk h t zero o b xs = eqb o b
+rowsOk h t (suc m) o b xs =
+    let r = rowsOk h t m (o + getD xs (h + 1) 0) b (drop (width h t) xs) in
+    eqb (getD xs h 0) o && (leb (getD xs (h + 1) 0) (b - o) && r)
+
+unfoldable pub allZero : List ℕ → Bool
+allZero [] = true
+allZero (x ∷ xs) = eqb x 0 && allZero xs
+
+-- Rows and bodies fit, the starts and counts are right, and zeros follow to the end.
+unfoldable pub wellFormed : ℕ → ℕ → List ℕ → Bool
+wellFormed h t ws =
+    let n = getD ws 0 0 in
+    let b = getD ws 1 0 in
+    let end = 2 + n * width h t + b in
+    leb 2 (length ws) && (leb end (length ws) && (rowsOk h t n 0 b (drop 2 ws) && allZero (drop end ws)))
+
+-- Each head has h words and each tail t.
+unfoldable pub Wide : ℕ → ℕ → List Entry → Type 0
+Wide h t [] = Unit
+Wide h t (e ∷ es) = ((length (e .head) ≡ h) × (length (e .tail) ≡ t)) × Wide h t es
+
+-- What well-formedness comes to: the words are the table of the entries that they hold.
+pub record Sound (h t : ℕ) (ws : List ℕ) : Type 0 where
+  pub wide : Wide h t (decode h t ws)
+  pub same : ws ≡ encode (length ws) (decode h t ws)
+  pub fits : 2 + length (decode h t ws) * width h t + length (bodies (decode h t ws)) ≤ length ws
+
+-- ---- changes
+
+unfoldable pub insertAt : ℕ → Entry → List Entry → List Entry
+insertAt i e es = take i es ++ (e ∷ drop i es)
+
+unfoldable pub removeAt : ℕ → List Entry → List Entry
+removeAt i es = take i es ++ drop (suc i) es
+
+-- An entry may go in at i.
+pub record Insertable (h t : ℕ) (ws : List ℕ) (i : ℕ) (e : Entry) : Type 0 where
+  pub sound : Sound h t ws
+  pub within : i ≤ length (decode h t ws)
+  pub head : length (e .head) ≡ h
+  pub tail : length (e .tail) ≡ t
+  pub room : 2 + (length (decode h t ws) + 1) * width h t + length (bodies (decode h t ws)) + length (e .body) ≤ length ws
+  pub small : length ws < 2 ^ 32
+
+-- The entry at i may go out.
+pub record Removable (h t : ℕ) (ws : List ℕ) (i : ℕ) : Type 0 where
+  pub sound : Sound h t ws
+  pub within : i < length (decode h t ws)
+  pub small : length ws < 2 ^ 32
+
+-- The m rows that begin xs, with their starts counted anew from o.
+unfoldable pub restarted : ℕ → ℕ → ℕ → ℕ → List ℕ → List ℕ
+restarted h t zero o xs = xs
+restarted h t (suc m) o xs =
+    let c = getD xs (h + 1) 0 in
+    take h xs ++ (o ∷ (c ∷ (take t (drop (h + 2) xs) ++ restarted h t m (o + c) (drop (width h t) xs))))
+
+-- The sum of the counts of the m rows that begin xs.
+unfoldable pub counts : ℕ → ℕ → ℕ → List ℕ → ℕ
+counts h t zero xs = 0
+counts h t (suc m) xs = getD xs (h + 1) 0 + counts h t m (drop (width h t) xs)
+
+-- Where the body of the entry at i starts, or would.
+unfoldable pub startOf : ℕ → List Entry → ℕ
+startOf i es = length (bodies (take i es))
