@@ -1,0 +1,85 @@
+-- What an accepted call makes of the records, in the table's terms: an insertion, a replacement, a removal at a place. Assumes nothing.
+use Prim.Native.Nat.{ℕ, zero, suc, _+_, _*_, _≤_, _<_}
+use mathlib.Core.Path.{_≡_, refl, sym, _∙_, ap}
+use mathlib.Core.Bool.{Bool, true, false}
+use mathlib.Core.List.{List, [], _∷_, _++_, map, map-append}
+use native.Mathlib.Omega.{arith}
+use native.Mathlib.Nat.{add-assoc}
+use lib.ListN.{length, getD, take, drop}
+use lib.Seq.{split-at}
+use Rattle.table.specs.Table.{Entry, insertAt, removeAt}
+use Rattle.keyed.specs.Keyed.{samePair, beforePair, ascends, holds, rank, put, without}
+use Rattle.keyed.proofs.Orders.{ordered-pairs}
+use Rattle.keyed.proofs.Ranks.{holds-at}
+use Rattle.keyed.proofs.Puts.{put-new, put-over, erase-at}
+use Rattle.verdict.specs.Records.{Record}
+use Rattle.register.specs.Register.{entryOf, recordAt, keyOf, listed, placeOf}
+use Rattle.register.specs.Calls.{holdsRecord, putRecord, eraseRecord}
+use Rattle.register.proofs.Entries.{take-map}
+
+drop-map : {A B : Type 0} (f : A → B) (i : ℕ) (l : List A) → drop i (map f l) ≡ map f (drop i l)
+drop-map f zero l = refl
+drop-map f (suc i) [] = refl
+drop-map f (suc i) (x ∷ l) = drop-map f i l
+
+listed-append : (rs ss : List Record) → listed (rs ++ ss) ≡ listed rs + listed ss
+unfolding listed
+listed-append [] ss = omega arith
+listed-append (r ∷ rs) ss = omega (arith, listed-append rs ss)
+
+-- Records before a place, one record, and records from a place on: as entries, and how many numbers they list.
+pub inserted-entries : (i : ℕ) (r : Record) (rs : List Record) → insertAt i (entryOf r) (map entryOf rs) ≡ map entryOf (take i rs ++ (r ∷ drop i rs))
+unfolding insertAt
+inserted-entries i r rs = (λ q. take-map entryOf i rs q ++ (entryOf r ∷ drop-map entryOf i rs q)) ∙ sym (map-append entryOf (take i rs) (r ∷ drop i rs))
+
+pub removed-entries : (i : ℕ) (rs : List Record) → removeAt i (map entryOf rs) ≡ map entryOf (take i rs ++ drop (suc i) rs)
+unfolding removeAt
+removed-entries i rs = (λ q. take-map entryOf i rs q ++ drop-map entryOf (suc i) rs q) ∙ sym (map-append entryOf (take i rs) (drop (suc i) rs))
+
+-- The numbers in all lists are those before a place, at it and behind it.
+listed-at : (i : ℕ) (rs : List Record) → i < length rs
+    → listed rs ≡ listed (take i rs) + (length (recordAt rs i .providers) + listed (drop (suc i) rs))
+unfolding listed
+listed-at i rs h = ap listed (split-at rs i (record { customer = 0; source = 0; providers = [] }) h) ∙ listed-append (take i rs) (recordAt rs i ∷ drop (suc i) rs)
+
+listed-split : (i : ℕ) (rs : List Record) → listed (take i rs) + listed (drop i rs) ≡ listed rs
+unfolding listed
+listed-split zero rs = omega arith
+listed-split (suc i) [] = refl
+listed-split (suc i) (r ∷ rs) = omega (arith, listed-split i rs)
+
+module _ (r : Record) (rs : List Record) where
+  module _ (free : holdsRecord (r .customer) (r .source) rs ≡ false) where
+    pub put-at : putRecord r rs ≡ take (placeOf (r .customer) (r .source) rs) rs ++ (r ∷ drop (placeOf (r .customer) (r .source) rs) rs)
+    unfolding placeOf
+    put-at = put-new keyOf samePair beforePair ordered-pairs r rs free
+
+    pub listed-new : listed (putRecord r rs) ≡ listed rs + length (r .providers)
+    unfolding listed
+    listed-new =
+        let p = placeOf (r .customer) (r .source) rs in
+        let e : listed (putRecord r rs) ≡ listed (take p rs) + (length (r .providers) + listed (drop p rs)) =
+        ap listed put-at ∙ listed-append (take p rs) (r ∷ drop p rs) in
+        omega (arith, e, listed-split p rs)
+
+  module _ (asc : ascends keyOf samePair beforePair rs ≡ true) (taken : holdsRecord (r .customer) (r .source) rs ≡ true) where
+    pub put-in-place : putRecord r rs ≡ take (placeOf (r .customer) (r .source) rs) rs ++ (r ∷ drop (suc (placeOf (r .customer) (r .source) rs)) rs)
+    unfolding placeOf
+    put-in-place = put-over keyOf samePair beforePair ordered-pairs r rs asc taken
+
+    pub place-within : placeOf (r .customer) (r .source) rs < length rs
+    unfolding placeOf
+    place-within = holds-at keyOf samePair beforePair ordered-pairs (keyOf r) rs (record { customer = 0; source = 0; providers = [] }) asc taken .0
+
+    pub listed-over : listed (putRecord r rs) + length (recordAt rs (placeOf (r .customer) (r .source) rs) .providers) ≡ listed rs + length (r .providers)
+    unfolding listed
+    listed-over =
+        let p = placeOf (r .customer) (r .source) rs in
+        let e : listed (putRecord r rs) ≡ listed (take p rs) + (length (r .providers) + listed (drop (suc p) rs)) =
+        ap listed put-in-place ∙ listed-append (take p rs) (r ∷ drop (suc p) rs) in
+        omega (arith, e, listed-at p rs place-within)
+
+module _ (customer source : ℕ) (rs : List Record) (asc : ascends keyOf samePair beforePair rs ≡ true) (taken : holdsRecord customer source rs ≡ true) where
+  pub erase-place : eraseRecord customer source rs ≡ take (placeOf customer source rs) rs ++ drop (suc (placeOf customer source rs)) rs
+  unfolding placeOf
+  erase-place = erase-at keyOf samePair beforePair ordered-pairs (customer, source) rs asc taken

@@ -1,0 +1,186 @@
+-- Each call is refused by the first of its rows that is given, and by no other; a refusal leaves the words. Assumes nothing.
+use Prim.Native.Nat.{ℕ}
+use mathlib.Core.Path.{_≡_, refl, sym, _∙_, ap}
+use mathlib.Core.Bool.{Bool, true, false, cond, not}
+use mathlib.Core.Logic.{_↔_}
+use mathlib.Core.List.{List, [], _∷_, map}
+use mathlib.Core.Option.{Option, none, some}
+use borrow.Author.Tests.{not-false, not-true, eqb-true, eq-eqb}
+use native.Mathlib.Omega.{arith}
+use lib.Dec.{ltb, eqb}
+use lib.ListN.{length}
+use Rattle.types.specs.declared.Refusal.{Refusal}
+use Rattle.types.specs.declared.Refusal.the-variants.{TableLength, RegisterMalformed, SourceNumber, CustomerZero, ProviderList, NoRecord, RegisterFull}
+use Rattle.types.specs.Numbers.{refusalNumber}
+use Rattle.types.specs.declared.Filed.{Filed}
+use Rattle.types.specs.declared.Filed.the-variants as filed
+use Rattle.types.specs.declared.Removal.{Removal}
+use Rattle.types.specs.declared.Removal.the-variants as removal
+use Rattle.types.specs.declared.Cleared.{Cleared}
+use Rattle.types.specs.declared.Cleared.the-variants as cleared
+use Rattle.types.specs.Rows.{rowIf, firstGiven, Step, unlessRefused}
+use Rattle.types.proofs.Refusing.{FirstAt, row-passed, accepted-none, answers-first, refusal-leaves, Numbered, numbered}
+use Rattle.table.proofs.Exact.{length-encode}
+use Rattle.keyed.specs.Keyed.{samePair}
+use Rattle.verdict.specs.Records.{Record}
+use Rattle.register.specs.Register.{registerWords, lastSource, recordsOf, wordsOf, entryOf, listOk, roomFor, recordsOk, registerOk}
+use Rattle.register.specs.Calls.{tableRow, registerRow, sourceRow, customerRow, holdsRecord, countRecords, ofSource, recordFor, putRecord, eraseRecord, clearRecords, filedAs, fileRows, withdrawRows, clearRows, fileStep, withdrawStep, clearStep}
+use Rattle.register.proofs.Entries.{entries-wide, records-fit}
+use Rattle.register.proofs.Holding.{room-records, room-lists, has-room, words-ok, records-ok}
+use Rattle.register.proofs.Keeping.{record-ok, put-ok, without-ok}
+
+-- A refusal is told from an acceptance, and from every other refusal.
+filed-apart : (b : Bool) (r : Refusal) → cond b filed.Replaced filed.New ≡ filed.Refused r → ⊥
+filed-apart true r e = let z : _≡_ {A = ℕ} 0 1 = cc in omega arith
+filed-apart false r e = let z : _≡_ {A = ℕ} 0 1 = cc in omega arith
+
+filed-same : (r s : Refusal) → filed.Refused r ≡ filed.Refused s → r ≡ s
+filed-same r s e = cc
+
+removal-apart : (r : Refusal) → removal.Done ≡ removal.Refused r → ⊥
+removal-apart r e = let z : _≡_ {A = ℕ} 0 1 = cc in omega arith
+
+removal-same : (r s : Refusal) → removal.Refused r ≡ removal.Refused s → r ≡ s
+removal-same r s e = cc
+
+cleared-apart : (n : ℕ) (r : Refusal) → cleared.Gone n ≡ cleared.Refused r → ⊥
+cleared-apart n r e = let z : _≡_ {A = ℕ} 0 1 = cc in omega arith
+
+cleared-same : (r s : Refusal) → cleared.Refused r ≡ cleared.Refused s → r ≡ s
+cleared-same r s e = cc
+
+-- ---- exactly when a call is refused, and what a refusal leaves
+
+module _ (ws : List ℕ) (source customer : ℕ) (list : List ℕ) (r : Refusal) where
+  pub file-refuses : (fileStep ws source customer list .answer ≡ filed.Refused r) ↔ ((i : ℕ) × FirstAt (fileRows ws source customer list) i r)
+  unfolding fileStep
+  file-refuses =
+      answers-first (fileRows ws source customer list) filed.Refused ws _ filed-same
+      (filed-apart (holdsRecord customer source (recordsOf ws))) r
+
+  pub file-leaves : fileStep ws source customer list .answer ≡ filed.Refused r → fileStep ws source customer list .words ≡ ws
+  unfolding fileStep
+  file-leaves =
+      refusal-leaves (fileRows ws source customer list) filed.Refused ws _
+      (filed-apart (holdsRecord customer source (recordsOf ws))) r
+
+module _ (ws : List ℕ) (source customer : ℕ) (r : Refusal) where
+  pub withdraw-refuses : (withdrawStep ws source customer .answer ≡ removal.Refused r) ↔ ((i : ℕ) × FirstAt (withdrawRows ws source customer) i r)
+  unfolding withdrawStep
+  withdraw-refuses = answers-first (withdrawRows ws source customer) removal.Refused ws _ removal-same removal-apart r
+
+  pub withdraw-leaves : withdrawStep ws source customer .answer ≡ removal.Refused r → withdrawStep ws source customer .words ≡ ws
+  unfolding withdrawStep
+  withdraw-leaves = refusal-leaves (withdrawRows ws source customer) removal.Refused ws _ removal-apart r
+
+module _ (ws : List ℕ) (source : ℕ) (r : Refusal) where
+  pub clear-refuses : (clearStep ws source .answer ≡ cleared.Refused r) ↔ ((i : ℕ) × FirstAt (clearRows ws source) i r)
+  unfolding clearStep
+  clear-refuses =
+      answers-first (clearRows ws source) cleared.Refused ws _ cleared-same (cleared-apart (countRecords source (recordsOf ws))) r
+
+  pub clear-leaves : clearStep ws source .answer ≡ cleared.Refused r → clearStep ws source .words ≡ ws
+  unfolding clearStep
+  clear-leaves = refusal-leaves (clearRows ws source) cleared.Refused ws _ (cleared-apart (countRecords source (recordsOf ws))) r
+
+-- ---- the rows in the order of their numbers
+
+module _ (ws : List ℕ) (source customer : ℕ) where
+  wrong-length : (r : Refusal) → tableRow ws ≡ some r → refusalNumber r ≡ 1
+  wrong-length = numbered (not (eqb (length ws) registerWords)) TableLength
+
+  malformed : (r : Refusal) → registerRow ws ≡ some r → refusalNumber r ≡ 2
+  malformed = numbered (not (registerOk ws)) RegisterMalformed
+
+  source-over : (r : Refusal) → sourceRow source ≡ some r → refusalNumber r ≡ 4
+  source-over = numbered (ltb lastSource source) SourceNumber
+
+  no-customer : (r : Refusal) → customerRow customer ≡ some r → refusalNumber r ≡ 5
+  no-customer = numbered (eqb customer 0) CustomerZero
+
+  pub file-numbers : (list : List ℕ) → Numbered (fileRows ws source customer list) (1 ∷ 2 ∷ 4 ∷ 5 ∷ 6 ∷ 8 ∷ [])
+  file-numbers list = (
+    wrong-length,
+    (
+      malformed,
+      (
+        source-over,
+        (
+          no-customer,
+          (
+            numbered (not (listOk list)) ProviderList,
+            (
+              numbered (not (roomFor (putRecord (recordFor source customer list) (recordsOf ws)))) RegisterFull,
+              tt,
+            ),
+          ),
+        ),
+      ),
+    ),
+  )
+
+  pub withdraw-numbers : Numbered (withdrawRows ws source customer) (1 ∷ 2 ∷ 4 ∷ 5 ∷ 7 ∷ [])
+  withdraw-numbers = (
+    wrong-length,
+    (malformed, (source-over, (no-customer, (numbered (not (holdsRecord customer source (recordsOf ws))) NoRecord, tt)))),
+  )
+
+  pub clear-numbers : Numbered (clearRows ws source) (1 ∷ 2 ∷ 4 ∷ [])
+  clear-numbers = (wrong-length, (malformed, (source-over, tt)))
+
+-- ---- accepted calls
+
+length-words : (rs : List Record) → roomFor rs ≡ true → length (wordsOf rs) ≡ registerWords
+unfolding wordsOf
+length-words rs e = length-encode 2 0 registerWords (map entryOf rs) (entries-wide rs) (records-fit rs (room-records rs e) (room-lists rs e))
+
+-- A register of the right length that keeps the word rules.
+pub record Register (ws : List ℕ) : Type 0 where
+  pub long : length ws ≡ registerWords
+  pub ok : registerOk ws ≡ true
+
+pub records-register : (rs : List Record) → recordsOk rs ≡ true → Register (wordsOf rs)
+records-register rs e = record { long = length-words rs (has-room rs e); ok = words-ok rs e }
+
+-- Every call leaves a well-formed register well formed.
+module _ (ws : List ℕ) (w : Register ws) where
+  abbrev rs : List Record
+  rs = recordsOf ws
+
+  pub file-keeps : (source customer : ℕ) (list : List ℕ) → Register (fileStep ws source customer list .words)
+  unfolding fileStep
+  file-keeps source customer list = go (firstGiven rows) refl
+    where
+      rows : List (Option Refusal)
+      rows = fileRows ws source customer list
+
+      r : Record
+      r = recordFor source customer list
+
+      go : (o : Option Refusal) → firstGiven rows ≡ o
+          → Register (unlessRefused o filed.Refused ws (record { answer = filedAs r rs; words = wordsOf (putRecord r rs) }) .words)
+      go (some _) e = w
+      go none e =
+          let given = accepted-none rows e in
+          records-register (putRecord r rs)
+          (put-ok rs (records-ok ws (w .ok)) r
+          (record-ok r (row-passed _ _ (given 2)) (row-passed _ _ (given 3)) (not-false _ (row-passed _ _ (given 4))))
+          (not-false _ (row-passed _ _ (given 5))))
+
+  pub withdraw-keeps : (source customer : ℕ) → Register (withdrawStep ws source customer .words)
+  unfolding withdrawStep
+  withdraw-keeps source customer = go (firstGiven (withdrawRows ws source customer))
+    where
+      go : (o : Option Refusal)
+          → Register (unlessRefused o removal.Refused ws (record { answer = removal.Done; words = wordsOf (eraseRecord customer source rs) }) .words)
+      go (some _) = w
+      go none = records-register (eraseRecord customer source rs) (without-ok rs (records-ok ws (w .ok)) (samePair (customer, source)))
+
+  pub clear-keeps : (source : ℕ) → Register (clearStep ws source .words)
+  unfolding clearStep
+  clear-keeps source = go (firstGiven (clearRows ws source))
+    where
+      go : (o : Option Refusal)
+          → Register (unlessRefused o cleared.Refused ws (record { answer = cleared.Gone (countRecords source rs); words = wordsOf (clearRecords source rs) }) .words)
+      go (some _) = w
+      go none = records-register (clearRecords source rs) (without-ok rs (records-ok ws (w .ok)) (ofSource source))

@@ -1,0 +1,86 @@
+-- The register ("Tables"): provider records in a packed table with two head words, customer and source, and no tail.
+use Prim.Native.Nat.{ℕ, _+_}
+use mathlib.Core.Bool.{Bool, true, cond, _&&_}
+use mathlib.Core.List.{List, [], _∷_, map}
+use lib.Dec.{leb, ltb, eqb}
+use lib.ListN.{length, getD}
+use Rattle.table.specs.Table.{Entry, bodies, encode, decode, wellFormed}
+use Rattle.keyed.specs.Keyed.{samePair, beforePair, ascends, rank, every}
+use Rattle.verdict.specs.Records.{Record}
+
+-- The limits, each named once.
+abbrev pub registerWords : ℕ
+registerWords = 12290
+
+abbrev pub mostRecords : ℕ
+mostRecords = 1024
+
+abbrev pub mostBodyWords : ℕ
+mostBodyWords = 8192
+
+abbrev pub mostProviders : ℕ
+mostProviders = 256
+
+abbrev pub lastSource : ℕ
+lastSource = 7
+
+-- ---- records
+
+abbrev pub recordOf : Entry → Record
+recordOf e = record { customer = getD (e .head) 0 0; source = getD (e .head) 1 0; providers = e .body }
+
+abbrev pub entryOf : Record → Entry
+entryOf r = record { head = r .customer ∷ (r .source ∷ []); body = r .providers; tail = [] }
+
+-- The records that a register's words hold, and the words that hold records.
+unfoldable pub recordsOf : List ℕ → List Record
+recordsOf ws = map recordOf (decode 2 0 ws)
+
+unfoldable pub wordsOf : List Record → List ℕ
+wordsOf rs = encode registerWords (map entryOf rs)
+
+-- A record's key: first the customer, then the source.
+abbrev pub keyOf : Record → ℕ × ℕ
+keyOf r = (r .customer, r .source)
+
+-- Record i; past the end, one that no register holds.
+abbrev pub recordAt : List Record → ℕ → Record
+recordAt rs i = getD rs i (record { customer = 0; source = 0; providers = [] })
+
+-- Where the record of a customer and a source stands, or would: how many come before it.
+unfoldable pub placeOf : ℕ → ℕ → List Record → ℕ
+placeOf customer source rs = rank keyOf samePair beforePair (customer, source) rs
+
+-- How many numbers the lists hold together.
+unfoldable pub listed : List Record → ℕ
+listed [] = 0
+listed (r ∷ rs) = length (r .providers) + listed rs
+
+-- ---- the column rules
+
+-- A list ascends strictly.
+unfoldable pub risesFrom : ℕ → List ℕ → Bool
+risesFrom x [] = true
+risesFrom x (y ∷ l) = ltb x y && risesFrom y l
+
+unfoldable pub rises : List ℕ → Bool
+rises [] = true
+rises (x ∷ l) = risesFrom x l
+
+-- A list that may be filed: 1 to 256 numbers, ascending (row 6).
+unfoldable pub listOk : List ℕ → Bool
+listOk l = leb 1 (length l) && (leb (length l) mostProviders && rises l)
+
+unfoldable pub recordOk : Record → Bool
+recordOk r = leb 1 (r .customer) && (leb (r .source) lastSource && listOk (r .providers))
+
+-- The register fits its two limits (row 8).
+unfoldable pub roomFor : List Record → Bool
+roomFor rs = leb (length rs) mostRecords && leb (listed rs) mostBodyWords
+
+unfoldable pub recordsOk : List Record → Bool
+recordsOk rs = roomFor rs && (every recordOk rs && ascends keyOf samePair beforePair rs)
+
+-- Words of the right length that are a well-formed register (row 2).
+unfoldable pub registerOk : List ℕ → Bool
+registerOk ws = wellFormed 2 0 ws && recordsOk (recordsOf ws)

@@ -1,0 +1,31 @@
+-- Two sources file for one customer: the whole register, word by word, by computation from the definitions.
+use Prim.Native.Nat.{ℕ}
+use mathlib.Core.Path.{_≡_, refl}
+use mathlib.Core.List.{List, [], _∷_, _++_}
+use lib.ListN.{replicate}
+use Rattle.types.specs.declared.Filed.{Filed}
+use Rattle.types.specs.declared.Filed.the-variants as filed
+use Rattle.types.specs.Rows.{firstGiven, Step}
+use Rattle.table.specs.Table.{rows, bodies, pad, encode, decodeRows, decode, rowsOk, allZero, wellFormed}
+use Rattle.keyed.specs.Keyed.{ascendsFrom, ascends, holds, put, every}
+use Rattle.register.specs.Register.{recordsOf, wordsOf, listed, risesFrom, rises, listOk, recordOk, roomFor, recordsOk, registerOk}
+use Rattle.register.specs.Calls.{fileStep}
+
+abbrev empty : List ℕ
+empty = replicate 12290 0
+
+abbrev first : Step Filed
+first = fileStep empty 2 65010 (65001 ∷ 65002 ∷ [])
+
+abbrev second : Step Filed
+second = fileStep (first .words) 0 65010 (65003 ∷ [])
+
+-- Source 2 files 65010 to {65001, 65002}, then source 0 files 65010 to {65003}: neither rubs out the other.
+pub whole-register :
+    second
+    ≡ record {
+      answer = filed.New;
+      words = (2 ∷ 3 ∷ 65010 ∷ 0 ∷ 0 ∷ 1 ∷ 65010 ∷ 2 ∷ 1 ∷ 2 ∷ 65003 ∷ 65001 ∷ 65002 ∷ []) ++ replicate 12277 0;
+    }
+unfolding fileStep firstGiven rows bodies pad encode decodeRows decode rowsOk allZero wellFormed ascendsFrom ascends holds put every recordsOf wordsOf listed risesFrom rises listOk recordOk roomFor recordsOk registerOk
+whole-register = refl
