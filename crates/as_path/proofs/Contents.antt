@@ -5,7 +5,6 @@ use mathlib.Core.List.{List}
 use native.Mathlib.Omega.{arith}
 use borrow.Author.Tests.{lt-ltb, le-ltb}
 use lib.ListN.{length}
-use Rattle.types.specs.declared.Role.{Role}
 use Rattle.types.specs.declared.Ground.{Ground}
 use Rattle.types.specs.declared.Fault.{Fault}
 use Rattle.types.specs.declared.Refusal.the-variants.{PathLength}
@@ -18,7 +17,7 @@ use Rattle.as_path.specs.Grounds.{groundOf}
 use Rattle.as_path.specs.Merging.{mergedPath}
 use Rattle.as_path.specs.Reading.{mostNumbers, Stored, faulty, grounded, merged, contentOf, readingOf}
 
-module _ (role : Role) (neighbour : ℕ) (xs : List ℕ) where
+module _ (role : ℕ) (neighbour : ℕ) (xs : List ℕ) where
   pub content-faulty : {f : Fault} {p : ℕ} → firstFault 4 xs ≡ Faulty f p → contentOf role neighbour xs ≡ faulty f p
   unfolding contentOf
   content-faulty e = rw e

@@ -6,7 +6,6 @@ use mathlib.Core.List.{List, [], _∷_, map}
 use native.Mathlib.Omega.{arith}
 use borrow.Author.Tests.{eq-eqb, ne-eqb}
 use lib.ListN.{length, getD}
-use Rattle.types.specs.declared.Role.{Role}
 use Rattle.types.specs.declared.Ground.the-variants.{Empty, NotNeighbour, AsSet}
 use Rattle.types.specs.Roles.{isRouteServer}
 use Rattle.as_path.specs.declared.Scan.the-variants.{Clean}
@@ -61,7 +60,7 @@ unfolding numbersAt
 first-number w zero xs p h = absurd (h refl)
 first-number w (suc n) xs p h = refl
 
-module _ (w : ℕ) (xs : List ℕ) (role : Role) (neighbour : ℕ) where
+module _ (w : ℕ) (xs : List ℕ) (role : ℕ) (neighbour : ℕ) where
   pub no-sequence : (typeAt xs 0 ≡ 2 → ⊥) → false ≡ isNotNeighbour role neighbour (segmentAt w xs 0)
   no-sequence e = rw (ne-eqb (typeAt xs 0) 2 e)
 

@@ -4,7 +4,6 @@ use mathlib.Core.List.{List, [], _∷_}
 use mathlib.Core.Bool.{Bool, false, not, cond, _&&_, _||_}
 use lib.ListN.{getD}
 use lib.Dec.{eqb}
-use Rattle.types.specs.declared.Role.{Role}
 use Rattle.types.specs.declared.Ground.the-variants.{Empty, NotNeighbour, AsSet}
 use Rattle.types.specs.Roles.{isRouteServer}
 use Rattle.as_path.specs.declared.Grounded.{Grounded}
@@ -23,10 +22,10 @@ hasSet [] = false
 hasSet (s ∷ ss) = isSet s || hasSet ss
 
 -- The first segment is a sequence, the role is not 4, and its first number is not the neighbour.
-abbrev pub isNotNeighbour : Role → ℕ → Segment → Bool
+abbrev pub isNotNeighbour : ℕ → ℕ → Segment → Bool
 isNotNeighbour role neighbour s = isSequence s && not (isRouteServer role) && not (eqb (getD (s .numbers) 0 0) neighbour)
 
-unfoldable pub groundOf : Role → ℕ → List Segment → Grounded
+unfoldable pub groundOf : ℕ → ℕ → List Segment → Grounded
 groundOf role neighbour [] = By Empty
 groundOf role neighbour (s ∷ ss) =
     cond (isNotNeighbour role neighbour s) (By NotNeighbour)

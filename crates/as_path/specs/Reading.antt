@@ -6,7 +6,6 @@ use mathlib.Core.Bool.{cond}
 use lib.ListN.{length}
 use lib.Seq.{sets}
 use lib.Dec.{ltb}
-use Rattle.types.specs.declared.Role.{Role}
 use Rattle.types.specs.declared.Ground.{Ground}
 use Rattle.types.specs.declared.Fault.{Fault}
 use Rattle.types.specs.declared.Refusal.the-variants.{Attribute, PathLength}
@@ -43,7 +42,7 @@ abbrev pub afterScan : Scan → Content → Content
 afterScan Clean c = c
 afterScan (Faulty f p) c = faulty f p
 
-unfoldable pub contentOf : Role → ℕ → List ℕ → Content
+unfoldable pub contentOf : ℕ → ℕ → List ℕ → Content
 contentOf role neighbour xs =
     afterScan (firstFault 4 xs) (afterGround (groundOf role neighbour (segments 4 xs)) (mergedPath (segments 4 xs)))
 

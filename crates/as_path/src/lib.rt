@@ -7,6 +7,7 @@ use types::Role;
 ghost use mathlib.Core.Path.{_≡_};
 ghost use Prim.Native.Nat.{_+_, _*_, _/_, _^_, _≤_, _<_};
 ghost use lib.ListN.{length, set};
+ghost use Rattle.types.specs.Numbers.{roleNumber};
 ghost use Rattle.as_path.specs.declared.Scan.the-variants.{Clean};
 ghost use Rattle.as_path.specs.Segments.{numberAt, numbersAt, segmentAt, segments};
 ghost use Rattle.as_path.specs.Faults.{firstFault};
@@ -123,7 +124,7 @@ fn has_set(attr: &[u8]) -> bool
 // The first segment is a sequence, and its first number ought to be the neighbour and is not.
 fn is_not_neighbour(role: Role, neighbour: AsNumber, attr: &[u8]) -> bool
     requires { ⌜ (0 < length (now attr)) × (firstFault 4 (now attr) ≡ Clean) ⌝ }
-    ensures { λ r. ⌜ r ≡ isNotNeighbour role (neighbour .0) (segmentAt 4 (now (attr .entry)) 0) ⌝ }
+    ensures { λ r. ⌜ r ≡ isNotNeighbour (roleNumber role) (neighbour .0) (segmentAt 4 (now (attr .entry)) 0) ⌝ }
 {
     if attr[0] != 2 {
         return false;
@@ -138,7 +139,7 @@ fn is_not_neighbour(role: Role, neighbour: AsNumber, attr: &[u8]) -> bool
 
 fn ground(role: Role, neighbour: AsNumber, attr: &[u8]) -> Grounded
     requires { ⌜ firstFault 4 (now attr) ≡ Clean ⌝ }
-    ensures { λ r. ⌜ r ≡ groundOf role (neighbour .0) (segments 4 (now (attr .entry))) ⌝ }
+    ensures { λ r. ⌜ r ≡ groundOf (roleNumber role) (neighbour .0) (segments 4 (now (attr .entry))) ⌝ }
 {
     if attr.len() == 0 {
         return Grounded::By(Ground::Empty);
@@ -202,7 +203,7 @@ fn merge(attr: &[u8], path: &mut [u32]) -> usize
 
 // Reads an attribute. Of a merged path the buffer takes as much as it holds.
 pub fn read(role: Role, neighbour: AsNumber, attr: &[u8], path: &mut [u32]) -> Reading
-    ensures { λ r. ⌜ (r ≡ readingOf (contentOf role (neighbour .0) (now (attr .entry)))) × (now (path .exit) ≡ bufferAfter (contentOf role (neighbour .0) (now (attr .entry))) (now (path .entry))) ⌝ }
+    ensures { λ r. ⌜ (r ≡ readingOf (contentOf (roleNumber role) (neighbour .0) (now (attr .entry)))) × (now (path .exit) ≡ bufferAfter (contentOf (roleNumber role) (neighbour .0) (now (attr .entry))) (now (path .entry))) ⌝ }
 {
     match first_fault(attr) {
         Scan::Faulty(fault, at) => Reading::Refused(Refusal::Attribute(fault, at)),

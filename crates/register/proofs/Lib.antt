@@ -2,6 +2,10 @@ pub mod Entries
 pub mod Holding
 pub mod Lists
 pub mod Checking
+pub mod Looking
+pub mod Uniting
+pub mod Hopping
 pub mod Placing
 pub mod Keeping
 pub mod Refusals
+pub mod Filing

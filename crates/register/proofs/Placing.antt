@@ -22,7 +22,7 @@ drop-map f zero l = refl
 drop-map f (suc i) [] = refl
 drop-map f (suc i) (x ∷ l) = drop-map f i l
 
-listed-append : (rs ss : List Record) → listed (rs ++ ss) ≡ listed rs + listed ss
+pub listed-append : (rs ss : List Record) → listed (rs ++ ss) ≡ listed rs + listed ss
 unfolding listed
 listed-append [] ss = omega arith
 listed-append (r ∷ rs) ss = omega (arith, listed-append rs ss)
@@ -37,7 +37,7 @@ unfolding removeAt
 removed-entries i rs = (λ q. take-map entryOf i rs q ++ drop-map entryOf (suc i) rs q) ∙ sym (map-append entryOf (take i rs) (drop (suc i) rs))
 
 -- The numbers in all lists are those before a place, at it and behind it.
-listed-at : (i : ℕ) (rs : List Record) → i < length rs
+pub listed-at : (i : ℕ) (rs : List Record) → i < length rs
     → listed rs ≡ listed (take i rs) + (length (recordAt rs i .providers) + listed (drop (suc i) rs))
 unfolding listed
 listed-at i rs h = ap listed (split-at rs i (record { customer = 0; source = 0; providers = [] }) h) ∙ listed-append (take i rs) (recordAt rs i ∷ drop (suc i) rs)

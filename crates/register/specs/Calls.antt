@@ -1,6 +1,7 @@
 -- File, Withdraw and Clear ("The calls"): the answer, and the register's words after it, for every argument and all words before.
-use Prim.Native.Nat.{ℕ}
-use mathlib.Core.Bool.{Bool, not, cond}
+use Prim.Native.Nat.{ℕ, _≤_}
+use mathlib.Core.Path.{_≡_}
+use mathlib.Core.Bool.{Bool, true, not, cond}
 use mathlib.Core.List.{List, [], _∷_}
 use mathlib.Core.Option.{Option}
 use lib.Dec.{ltb, eqb}
@@ -16,7 +17,7 @@ use Rattle.types.specs.declared.Cleared.the-variants as cleared
 use Rattle.types.specs.Rows.{rowIf, firstGiven, Step, unlessRefused}
 use Rattle.keyed.specs.Keyed.{samePair, beforePair, holds, put, without, countOf}
 use Rattle.verdict.specs.Records.{Record}
-use Rattle.register.specs.Register.{registerWords, lastSource, recordsOf, wordsOf, keyOf, listOk, roomFor, registerOk}
+use Rattle.register.specs.Register.{registerWords, lastSource, recordsOf, wordsOf, keyOf, placeOf, listOk, roomFor, registerOk}
 
 -- ---- records: looked for, put in, taken out
 
@@ -90,6 +91,15 @@ fileStep ws source customer list =
       answer = filedAs (recordFor source customer list) (recordsOf ws);
       words = wordsOf (putRecord (recordFor source customer list) (recordsOf ws));
     })
+
+-- A filing that passed rows 1 to 6, and the place of its pair.
+pub record Passed (ws : List ℕ) (place source customer : ℕ) (list : List ℕ) : Type 0 where
+  pub long : length ws ≡ registerWords
+  pub ok : registerOk ws ≡ true
+  pub known : source ≤ lastSource
+  pub some : customer ≡ 0 → ⊥
+  pub rising : listOk list ≡ true
+  pub here : place ≡ placeOf customer source (recordsOf ws)
 
 unfoldable pub withdrawStep : List ℕ → ℕ → ℕ → Step Removal
 withdrawStep ws source customer =

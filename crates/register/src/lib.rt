@@ -1,13 +1,19 @@
 // The register of provider records: its check, its look-up, and File, Withdraw and Clear.
+use types::AsNumber;
+use types::Cleared;
+use types::Filed;
+use types::Hop;
+use types::Refusal;
+use types::Removal;
 ghost use mathlib.Core.Path.{_≡_};
-ghost use mathlib.Core.Bool.{true, _&&_};
+ghost use mathlib.Core.Bool.{true, false, _&&_};
 ghost use Prim.Native.Nat.{_≤_, _<_};
 ghost use lib.ListN.{length};
 ghost use Rattle.table.specs.Table.{Sound};
 ghost use Rattle.keyed.specs.Keyed.{samePair, beforePair, ascends, every};
 ghost use Rattle.verdict.specs.Records.{isIn, hopOf};
 ghost use Rattle.register.specs.Register.{recordsOf, recordAt, keyOf, rises, listOk, recordOk, recordsOk, registerOk, placeOf};
-ghost use Rattle.register.specs.Calls.{holdsRecord, fileStep, withdrawStep, clearStep};
+ghost use Rattle.register.specs.Calls.{holdsRecord, Passed, fileStep, withdrawStep, clearStep};
 
 // The words of a register.
 pub const WORDS: usize = 12290;
@@ -19,6 +25,9 @@ const MOST_BODY_WORDS: usize = 8192;
 const MOST_PROVIDERS: usize = 256;
 
 const LAST_SOURCE: u32 = 7;
+
+// A row of the register ends with its count.
+const NO_TAIL: [u32; 0] = [0u32; 0];
 
 // ---- the check
 
@@ -117,4 +126,181 @@ pub fn is_register(reg: &[u32]) -> bool
         return false;
     }
     are_records(reg)
+}
+
+// ---- look-up
+
+// Where the record of a customer and a source stands, or would stand: how many records come before it.
+pub fn find(reg: &[u32], customer: u32, source: u32) -> usize
+    requires { ⌜ registerOk (now reg) ≡ true ⌝ }
+    ensures { λ r. ⌜ (r ≡ placeOf customer source (recordsOf (now (reg .entry)))) × (r ≤ length (recordsOf (now (reg .entry)))) ⌝ }
+{
+    let mut low: usize = 0;
+    let mut high = table::word(reg, 0);
+    while low < high {
+        let middle = low + (high - low) / 2;
+        let at = 2 + middle * 4;
+        if is_before(reg[at], reg[at + 1], customer, source) {
+            low = middle + 1;
+        } else {
+            high = middle;
+        }
+    }
+    low
+}
+
+// Whether the record at a place that `find` answered is the one looked for.
+fn is_at(reg: &[u32], place: usize, customer: u32, source: u32) -> bool
+    requires { ⌜ (registerOk (now reg) ≡ true) × (place ≡ placeOf customer source (recordsOf (now reg))) ⌝ }
+    ensures { λ r. ⌜ r ≡ holdsRecord customer source (recordsOf (now (reg .entry))) ⌝ }
+{
+    if place < table::word(reg, 0) {
+        let at = 2 + place * 4;
+        if reg[at] == customer {
+            return reg[at + 1] == source;
+        }
+    }
+    false
+}
+
+fn contains(list: &[u32], y: u32) -> bool
+    ensures { λ r. ⌜ r ≡ isIn y (now (list .entry)) ⌝ }
+{
+    let mut i: usize = 0;
+    while i < list.len() {
+        if list[i] == y {
+            return true;
+        }
+        i += 1;
+    }
+    false
+}
+
+// The hop from x to y, where x's records begin at a place that `find` answered.
+pub fn hop_from(reg: &[u32], place: usize, x: u32, y: u32) -> Hop
+    requires { ⌜ (registerOk (now reg) ≡ true) × (place ≡ placeOf x 0 (recordsOf (now reg))) ⌝ }
+    ensures { λ r. ⌜ r ≡ hopOf (recordsOf (now (reg .entry))) x y ⌝ }
+{
+    let n = table::word(reg, 0);
+    let bodies = 2 + n * 4;
+    let mut i = place;
+    loop {
+        if n <= i {
+            break;
+        }
+        let at = 2 + i * 4;
+        if reg[at] != x {
+            break;
+        }
+        let from = bodies + table::word(reg, at + 2);
+        let to = from + table::word(reg, at + 3);
+        if contains(&reg[from..to], y) {
+            return Hop::ProviderPlus;
+        }
+        i += 1;
+    }
+    if place < i {
+        Hop::NotProviderPlus
+    } else {
+        Hop::NoAttestation
+    }
+}
+
+// ---- the calls
+
+// A new record goes in at its place, if there is room for it.
+fn add(reg: &mut [u32], place: usize, source: u32, customer: u32, list: &[u32]) -> Filed
+    requires { ⌜ Passed (now reg) place source customer (now list) × (holdsRecord customer source (recordsOf (now reg)) ≡ false) ⌝ }
+    ensures { λ r. ⌜ (r ≡ fileStep (now (reg .entry)) source customer (now (list .entry)) .answer) × (now (reg .exit) ≡ fileStep (now (reg .entry)) source customer (now (list .entry)) .words) ⌝ }
+{
+    if MOST_RECORDS <= table::word(reg, 0) {
+        return Filed::Refused(Refusal::RegisterFull);
+    }
+    if MOST_BODY_WORDS - table::word(reg, 1) < list.len() {
+        return Filed::Refused(Refusal::RegisterFull);
+    }
+    let head = [customer, source];
+    table::insert(reg, 2, 0, place, &head, list, &NO_TAIL);
+    Filed::New
+}
+
+// A list takes the place of the one that stands under its pair, if there is room for it.
+fn replace(reg: &mut [u32], place: usize, source: u32, customer: u32, list: &[u32]) -> Filed
+    requires { ⌜ Passed (now reg) place source customer (now list) × (holdsRecord customer source (recordsOf (now reg)) ≡ true) ⌝ }
+    ensures { λ r. ⌜ (r ≡ fileStep (now (reg .entry)) source customer (now (list .entry)) .answer) × (now (reg .exit) ≡ fileStep (now (reg .entry)) source customer (now (list .entry)) .words) ⌝ }
+{
+    let others = table::word(reg, 1) - table::word(reg, 2 + place * 4 + 3);
+    if MOST_BODY_WORDS - others < list.len() {
+        return Filed::Refused(Refusal::RegisterFull);
+    }
+    let head = [customer, source];
+    table::remove(reg, 2, 0, place);
+    table::insert(reg, 2, 0, place, &head, list, &NO_TAIL);
+    Filed::Replaced
+}
+
+pub fn file(reg: &mut [u32], source: u32, customer: AsNumber, list: &[u32]) -> Filed
+    ensures { λ r. ⌜ (r ≡ fileStep (now (reg .entry)) source (customer .0) (now (list .entry)) .answer) × (now (reg .exit) ≡ fileStep (now (reg .entry)) source (customer .0) (now (list .entry)) .words) ⌝ }
+{
+    if reg.len() != WORDS {
+        return Filed::Refused(Refusal::TableLength);
+    }
+    if !is_register(reg) {
+        return Filed::Refused(Refusal::RegisterMalformed);
+    }
+    if LAST_SOURCE < source {
+        return Filed::Refused(Refusal::SourceNumber);
+    }
+    let c = customer.0;
+    if c == 0 {
+        return Filed::Refused(Refusal::CustomerZero);
+    }
+    if !is_list(list) {
+        return Filed::Refused(Refusal::ProviderList);
+    }
+    let place = find(reg, c, source);
+    if is_at(reg, place, c, source) {
+        return replace(reg, place, source, c, list);
+    }
+    add(reg, place, source, c, list)
+}
+
+pub fn withdraw(reg: &mut [u32], source: u32, customer: AsNumber) -> Removal
+    ensures { λ r. ⌜ (r ≡ withdrawStep (now (reg .entry)) source (customer .0) .answer) × (now (reg .exit) ≡ withdrawStep (now (reg .entry)) source (customer .0) .words) ⌝ }
+{
+    if reg.len() != WORDS {
+        return Removal::Refused(Refusal::TableLength);
+    }
+    if !is_register(reg) {
+        return Removal::Refused(Refusal::RegisterMalformed);
+    }
+    if LAST_SOURCE < source {
+        return Removal::Refused(Refusal::SourceNumber);
+    }
+    let c = customer.0;
+    if c == 0 {
+        return Removal::Refused(Refusal::CustomerZero);
+    }
+    let place = find(reg, c, source);
+    if !is_at(reg, place, c, source) {
+        return Removal::Refused(Refusal::NoRecord);
+    }
+    table::remove(reg, 2, 0, place);
+    Removal::Done
+}
+
+pub fn clear(reg: &mut [u32], source: u32) -> Cleared
+    ensures { λ r. ⌜ (r ≡ clearStep (now (reg .entry)) source .answer) × (now (reg .exit) ≡ clearStep (now (reg .entry)) source .words) ⌝ }
+{
+    if reg.len() != WORDS {
+        return Cleared::Refused(Refusal::TableLength);
+    }
+    if !is_register(reg) {
+        return Cleared::Refused(Refusal::RegisterMalformed);
+    }
+    if LAST_SOURCE < source {
+        return Cleared::Refused(Refusal::SourceNumber);
+    }
+    let gone = table::clear(reg, 2, 0, 1, source);
+    Cleared::Gone(gone as u32)
 }

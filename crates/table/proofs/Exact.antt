@@ -17,7 +17,7 @@ use Rattle.table.proofs.Checking.{wf-zeros}
 -- ---- a table decodes to its entries
 
 -- The rows of an entry and of others, and z behind them, without the brackets.
-rows-first : (o : ℕ) (e : Entry) (es : List Entry) (z : List ℕ)
+pub rows-first : (o : ℕ) (e : Entry) (es : List Entry) (z : List ℕ)
     → rows o (e ∷ es) ++ z ≡ e .head ++ (o ∷ (length (e .body) ∷ (e .tail ++ (rows (o + length (e .body)) es ++ z))))
 unfolding rows
 rows-first o e es z =

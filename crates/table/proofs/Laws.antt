@@ -29,7 +29,7 @@ row-front xs h o l =
     ∙ rw (add-one, drop-cons xs (suc h) 0)
 
 -- A row, with o for its start.
-row-set : (xs : List ℕ) (h t o : ℕ) → width h t ≤ length xs
+pub row-set : (xs : List ℕ) (h t o : ℕ) → width h t ≤ length xs
     → take (width h t) (set xs h o) ≡ take h xs ++ (o ∷ (getD xs (h + 1) 0 ∷ take t (drop (h + 2) xs)))
 row-set xs h t o l =
     let r : List ℕ = take t (drop (h + 2) xs) in
@@ -48,7 +48,7 @@ restarted-peel h t (suc m) o xs l =
     rw e
 
 -- The first row's count, then those of the others.
-counts-peel : (h t m : ℕ) (xs : List ℕ) → 0 < m → counts h t m xs ≡ getD xs (h + 1) 0 + counts h t (m - 1) (drop (width h t) xs)
+pub counts-peel : (h t m : ℕ) (xs : List ℕ) → 0 < m → counts h t m xs ≡ getD xs (h + 1) 0 + counts h t (m - 1) (drop (width h t) xs)
 unfolding counts
 counts-peel h t zero xs l = absurd (not-suc-le-zero l)
 counts-peel h t (suc m) xs l =

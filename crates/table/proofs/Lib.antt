@@ -6,3 +6,5 @@ pub mod Removing
 pub mod Checking
 pub mod Exact
 pub mod After
+pub mod Keeping
+pub mod Clearing

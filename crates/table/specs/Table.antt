@@ -1,7 +1,7 @@
 -- A packed table of words ("Tables"): word 0 the number of entries, word 1 the number of body words, a row for
 -- each entry, the bodies, zeros to the end. A row is h head words, the start of the entry's body, the body's length, and t tail words.
 use mathlib.Core.Path.{_≡_}
-use mathlib.Core.Bool.{Bool, true, _&&_}
+use mathlib.Core.Bool.{Bool, true, cond, _&&_}
 use mathlib.Core.List.{List, [], _∷_, _++_}
 use Prim.Native.Nat.{ℕ, zero, suc, _+_, _-_, _*_, _≤_, _<_, _^_}
 use lib.Dec.{eqb, leb}
@@ -115,3 +115,24 @@ counts h t (suc m) xs = getD xs (h + 1) 0 + counts h t m (drop (width h t) xs)
 -- Where the body of the entry at i starts, or would.
 unfoldable pub startOf : ℕ → List Entry → ℕ
 startOf i es = length (bodies (take i es))
+
+-- ---- the entries whose head word at a column is not a value
+
+unfoldable pub keptEntries : ℕ → ℕ → List Entry → List Entry
+keptEntries column value [] = []
+keptEntries column value (e ∷ es) =
+    cond (eqb (getD (e .head) column 0) value) (keptEntries column value es) (e ∷ keptEntries column value es)
+
+-- The same on words: of the m rows that begin xs, those kept, with their starts counted anew from o.
+unfoldable pub keptRows : ℕ → ℕ → ℕ → ℕ → ℕ → ℕ → List ℕ → List ℕ
+keptRows h t column value zero o xs = []
+keptRows h t column value (suc m) o xs =
+    let c = getD xs (h + 1) 0 in
+    cond (eqb (getD xs column 0) value) (keptRows h t column value m o (drop (width h t) xs))
+    (take h xs ++ (o ∷ (c ∷ (take t (drop (h + 2) xs) ++ keptRows h t column value m (o + c) (drop (width h t) xs)))))
+
+-- The entries with a value in a column may go out.
+pub record Clearable (h t : ℕ) (ws : List ℕ) (column : ℕ) : Type 0 where
+  pub sound : Sound h t ws
+  pub within : column < h
+  pub small : length ws < 2 ^ 32

@@ -3,8 +3,8 @@ ghost use mathlib.Core.Path.{_≡_};
 ghost use mathlib.Core.List.{[], _∷_, _++_};
 ghost use Prim.Native.Nat.{_+_, _*_, _^_, _≤_, _<_};
 ghost use lib.ListN.{length, take, drop, getD};
-ghost use Rattle.words.specs.Words.{spliced};
-ghost use Rattle.table.specs.Table.{width, restarted, counts, encode, decode, Sound, Insertable, Removable, insertAt, removeAt, startOf, rowsOk, allZero, wellFormed};
+ghost use Rattle.words.specs.Words.{spliced, pasted};
+ghost use Rattle.table.specs.Table.{width, restarted, counts, encode, decode, Sound, Insertable, Removable, insertAt, removeAt, startOf, rowsOk, allZero, wellFormed, bodies, keptEntries, keptRows, Clearable};
 
 pub fn word(s: &[u32], i: usize) -> usize
     requires { ⌜ i < length (now s) ⌝ }
@@ -157,4 +157,75 @@ pub fn remove(s: &mut [u32], h: usize, t: usize, i: usize)
     restart(s, h, t, at, n - i - 1, start as u32);
     s[0] = (n - 1) as u32;
     s[1] = (b - k) as u32;
+}
+
+// The bodies of the entries to keep move together, over the others; answers how many words they take.
+fn pack_bodies(s: &mut [u32], h: usize, t: usize, column: usize, value: u32) -> usize
+    requires { ⌜ Clearable h t (now s) column × (0 < length (decode h t (now s))) ⌝ }
+    ensures { λ r. ⌜ (now (s .exit) ≡ pasted (now (s .entry)) (2 + length (decode h t (now (s .entry))) * width h t) (bodies (keptEntries column value (decode h t (now (s .entry)))))) × (r ≡ length (bodies (keptEntries column value (decode h t (now (s .entry)))))) ⌝ }
+{
+    let n = word(s, 0);
+    let end = 2 + n * (h + 2 + t);
+    let mut from = end;
+    let mut to = end;
+    let mut i: usize = 0;
+    while i < n {
+        let row = 2 + i * (h + 2 + t);
+        let count = word(s, row + h + 1);
+        let x = s[row + column];
+        let start = from;
+        from += count;
+        i += 1;
+        if x != value {
+            words::copy_down(s, to, start, count);
+            to += count;
+        }
+    }
+    to - end
+}
+
+// The rows to keep move together, over the others, and get their starts anew; answers how many there are.
+fn pack_rows(s: &mut [u32], h: usize, t: usize, column: usize, value: u32) -> usize
+    requires { ⌜ (2 + getD (now s) 0 0 * width h t ≤ length (now s)) × (column < h) × (counts h t (getD (now s) 0 0) (drop 2 (now s)) < 2 ^ 32) ⌝ }
+    ensures { λ r. ⌜ (now (s .exit) ≡ pasted (now (s .entry)) 2 (keptRows h t column value (getD (now (s .entry)) 0 0) 0 (drop 2 (now (s .entry))))) × (r * width h t ≡ length (keptRows h t column value (getD (now (s .entry)) 0 0) 0 (drop 2 (now (s .entry))))) ⌝ }
+{
+    let n = word(s, 0);
+    let mut m: usize = 0;
+    let mut next: u32 = 0;
+    let mut i: usize = 0;
+    while i < n {
+        let row = 2 + i * (h + 2 + t);
+        let count = s[row + h + 1];
+        let x = s[row + column];
+        i += 1;
+        if x != value {
+            let at = 2 + m * (h + 2 + t);
+            words::copy_down(s, at, row, h + 2 + t);
+            s[at + h] = next;
+            next += count;
+            m += 1;
+        }
+    }
+    m
+}
+
+// The entries whose head word at a column is a value go out, in one pass over rows and bodies; answers how many went.
+pub fn clear(s: &mut [u32], h: usize, t: usize, column: usize, value: u32) -> usize
+    requires { ⌜ Clearable h t (now s) column ⌝ }
+    ensures { λ r. ⌜ (now (s .exit) ≡ encode (length (now (s .entry))) (keptEntries column value (decode h t (now (s .entry))))) × (r + length (keptEntries column value (decode h t (now (s .entry)))) ≡ length (decode h t (now (s .entry)))) ⌝ }
+{
+    let n = word(s, 0);
+    if n == 0 {
+        return 0;
+    }
+    let b = word(s, 1);
+    let end = 2 + n * (h + 2 + t);
+    let k = pack_bodies(s, h, t, column, value);
+    let m = pack_rows(s, h, t, column, value);
+    let kept = 2 + m * (h + 2 + t);
+    words::copy_down(s, kept, end, k);
+    words::zero(s, kept + k, end + b);
+    s[0] = m as u32;
+    s[1] = k as u32;
+    n - m
 }

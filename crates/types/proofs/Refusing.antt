@@ -105,3 +105,7 @@ Numbered (row ∷ rows) (n ∷ ns) = ((r : Refusal) → row ≡ some r → refus
 
 pub numbered : (b : Bool) (s r : Refusal) → rowIf b s ≡ some r → refusalNumber r ≡ refusalNumber s
 numbered b s r e = ap refusalNumber (sym (row-given b s r e .1))
+
+-- A step's answer and words.
+pub parts : {A : Type 0} {s : Step A} {a : A} {ws : List ℕ} → s ≡ record { answer = a; words = ws } → (a ≡ s .answer) × (ws ≡ s .words)
+parts e = (sym (ap (λ s. s .answer) e), sym (ap (λ s. s .words) e))

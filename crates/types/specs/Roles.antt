@@ -1,22 +1,16 @@
--- What a role decides ("Roles and hops").
-use mathlib.Core.Bool.{Bool, true, false}
-use Rattle.types.specs.declared.Role.{Role}
-use Rattle.types.specs.declared.Role.the-variants.{Customer, Peer, Provider, RouteServer, RouteServerClient, MutualTransit}
+-- What a role's number decides ("Roles and hops").
+use Prim.Native.Nat.{ℕ}
+use mathlib.Core.Bool.{Bool, not, _&&_, _||_}
+use lib.Dec.{leb, eqb}
+
+-- The roles are 1 to 6.
+abbrev pub isRole : ℕ → Bool
+isRole n = leb 1 n && leb n 6
 
 -- Role 4, whose routes are spared the neighbour check.
-abbrev pub isRouteServer : Role → Bool
-isRouteServer Customer = false
-isRouteServer Peer = false
-isRouteServer Provider = false
-isRouteServer RouteServer = true
-isRouteServer RouteServerClient = false
-isRouteServer MutualTransit = false
+abbrev pub isRouteServer : ℕ → Bool
+isRouteServer n = eqb n 4
 
--- Roles 1, 2, 4 and 5 are judged upstream, 3 and 6 downstream.
-abbrev pub isUpstream : Role → Bool
-isUpstream Customer = true
-isUpstream Peer = true
-isUpstream Provider = false
-isUpstream RouteServer = true
-isUpstream RouteServerClient = true
-isUpstream MutualTransit = false
+-- Roles 3 and 6 are judged downstream, the others upstream.
+abbrev pub isUpstream : ℕ → Bool
+isUpstream n = not (eqb n 3 || eqb n 6)

@@ -64,30 +64,21 @@ impl Role {
 
     // A route server need not put its own number on the path.
     pub fn is_route_server(self) -> bool
-        ensures { λ r. ⌜ r ≡ isRouteServer self ⌝ }
+        ensures { λ r. ⌜ r ≡ isRouteServer (roleNumber self) ⌝ }
     {
-        match self {
-            Role::Customer => false,
-            Role::Peer => false,
-            Role::Provider => false,
-            Role::RouteServer => true,
-            Role::RouteServerClient => false,
-            Role::MutualTransit => false,
-        }
+        let n = self.number();
+        n == 4
     }
 
     // Its routes are judged upstream; the others' downstream.
     pub fn is_upstream(self) -> bool
-        ensures { λ r. ⌜ r ≡ isUpstream self ⌝ }
+        ensures { λ r. ⌜ r ≡ isUpstream (roleNumber self) ⌝ }
     {
-        match self {
-            Role::Customer => true,
-            Role::Peer => true,
-            Role::Provider => false,
-            Role::RouteServer => true,
-            Role::RouteServerClient => true,
-            Role::MutualTransit => false,
+        let n = self.number();
+        if n == 3 {
+            return false;
         }
+        n != 6
     }
 }
 
@@ -277,5 +268,11 @@ pub enum Removal {
 // What Clear answers: how many records went.
 pub enum Cleared {
     Gone(u32),
+    Refused(Refusal),
+}
+
+// What Re-judge answers: how many routes changed.
+pub enum Rejudged {
+    Changed(u32),
     Refused(Refusal),
 }

@@ -6,7 +6,6 @@ use mathlib.Core.Bool.{Bool, not}
 use native.Mathlib.Omega.{arith}
 use lib.ListN.{length}
 use Rattle.types.specs.declared.Hop.{Hop}
-use Rattle.types.specs.declared.Role.{Role}
 use Rattle.verdict.specs.Hops.{HopFunction, isPlus, isNotPlus, isUnattested, asAt, up, down, lowest, highest}
 use Rattle.verdict.specs.Verdicts.{rampUp, rampDown, upstream, downstream, judged}
 use Rattle.verdict.proofs.Searching.{lowest-same, highest-same}
@@ -42,6 +41,6 @@ module _ {hop hop' : HopFunction} {path : List ℕ} (same : SameHops hop hop' pa
   same-down = omega (arith, ramp-down-highest hop path, ramp-down-highest hop' path, same-highest (λ h. not (isPlus h)))
 
   -- Records that say the same of the path's hops give the same answer, verdict, places and gap, in every role.
-  pub same-judged : (role : Role) → judged hop path role ≡ judged hop' path role
+  pub same-judged : (role : ℕ) → judged hop path role ≡ judged hop' path role
   unfolding judged upstream downstream
   same-judged role = rw (same-lowest isNotPlus, same-lowest isUnattested, same-highest isNotPlus, same-up, same-down)

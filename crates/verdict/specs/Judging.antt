@@ -1,19 +1,19 @@
--- The answer to one route over any hop function: rows 9 to 17 in order, the grounds, the verdict.
+-- The answer to one route over any hop function: rows 9 to 17 in order, the grounds, the verdict ("The calls", Judge).
 use Prim.Native.Nat.{ℕ}
-use mathlib.Core.Bool.{cond}
-use mathlib.Core.List.{List}
+use mathlib.Core.Bool.{not, cond}
+use mathlib.Core.List.{List, [], _∷_}
+use mathlib.Core.Option.{Option, none, some}
 use lib.Dec.{eqb, ltb}
 use lib.ListN.{length}
-use Rattle.types.specs.declared.Role.{Role}
-use Rattle.types.specs.declared.RoleRead.{RoleRead}
-use Rattle.types.specs.declared.RoleRead.the-variants.{Is, Nothing}
 use Rattle.types.specs.declared.Cause.the-variants.{ByGround}
 use Rattle.types.specs.declared.Verdict.the-variants.{Invalid}
 use Rattle.types.specs.declared.Answer.the-variants.{Plain}
+use Rattle.types.specs.declared.Refusal.{Refusal}
 use Rattle.types.specs.declared.Refusal.the-variants.{RoleNumber, NeighbourZero, AttributeLength, Attribute, PathLength}
 use Rattle.types.specs.declared.Judged.{Judged}
 use Rattle.types.specs.declared.Judged.the-variants.{Answered, Refused}
-use Rattle.types.specs.Numbers.{roleOf}
+use Rattle.types.specs.Roles.{isRole}
+use Rattle.types.specs.Rows.{rowIf, firstGiven}
 use Rattle.as_path.specs.Reading.{mostNumbers, Content, faulty, grounded, merged, contentOf}
 use Rattle.verdict.specs.Hops.{HopFunction}
 use Rattle.verdict.specs.Verdicts.{judged}
@@ -22,19 +22,24 @@ use Rattle.verdict.specs.Verdicts.{judged}
 abbrev pub mostBytes : ℕ
 mostBytes = 1024
 
+-- Rows 9, 10 and 11.
+abbrev pub argumentRows : ℕ → ℕ → List ℕ → List (Option Refusal)
+argumentRows role neighbour attribute =
+    rowIf (not (isRole role)) RoleNumber
+    ∷ rowIf (eqb neighbour 0) NeighbourZero
+    ∷ rowIf (ltb mostBytes (length attribute)) AttributeLength
+    ∷ []
+
 -- Rows 12 to 16, the grounds, row 17, the verdict.
-abbrev pub answerTo : HopFunction → Role → Content → Judged
+abbrev pub answerTo : HopFunction → ℕ → Content → Judged
 answerTo hop role (faulty f p) = Refused (Attribute f p)
 answerTo hop role (grounded g) = Answered (Plain (Invalid (ByGround g)))
 answerTo hop role (merged path) = cond (ltb mostNumbers (length path)) (Refused PathLength) (Answered (judged hop path role))
 
--- Rows 9, 10 and 11 before them.
-abbrev pub afterRole : HopFunction → RoleRead → ℕ → List ℕ → Judged
-afterRole hop Nothing neighbour attribute = Refused RoleNumber
-afterRole hop (Is role) neighbour attribute =
-    cond (eqb neighbour 0) (Refused NeighbourZero)
-    (cond (ltb mostBytes (length attribute)) (Refused AttributeLength)
-    (answerTo hop role (contentOf role neighbour attribute)))
+abbrev pub unlessGiven : Option Refusal → Judged → Judged
+unlessGiven (some r) next = Refused r
+unlessGiven none next = next
 
 unfoldable pub judgedRoute : HopFunction → ℕ → ℕ → List ℕ → Judged
-judgedRoute hop role neighbour attribute = afterRole hop (roleOf role) neighbour attribute
+judgedRoute hop role neighbour attribute =
+    unlessGiven (firstGiven (argumentRows role neighbour attribute)) (answerTo hop role (contentOf role neighbour attribute))

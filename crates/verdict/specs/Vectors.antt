@@ -13,6 +13,7 @@ use Rattle.types.specs.declared.Fault.the-variants.{CutShort}
 use Rattle.types.specs.declared.Refusal.the-variants.{AttributeLength, Attribute, PathLength}
 use Rattle.types.specs.declared.Judged.{Judged}
 use Rattle.types.specs.declared.Judged.the-variants.{Answered, Refused}
+use Rattle.types.specs.Rows.{firstGiven}
 use Rattle.as_path.specs.Segments.{numberAt, numbersAt, placesFrom, places, segments}
 use Rattle.as_path.specs.Faults.{numbersFault, segmentFault, faultAmong, firstFault}
 use Rattle.as_path.specs.Grounds.{hasSet, groundOf}
@@ -86,7 +87,7 @@ given v = judgedRoute (hopOf registerD) (v .role) (v .neighbour) (sequence (v .p
 
 -- Every vector's answer is the definitions' own.
 pub starred : map given vectors ≡ map wanted vectors
-unfolding judgedRoute contentOf numberAt numbersAt placesFrom places segments numbersFault segmentFault faultAmong firstFault hasSet groundOf runsAfter mergeRuns mergedPath lowest highest climb descend isIn attested united hopOf upstream downstream judged bytes
+unfolding judgedRoute firstGiven contentOf numberAt numbersAt placesFrom places segments numbersFault segmentFault faultAmong firstFault hasSet groundOf runsAfter mergeRuns mergedPath lowest highest climb descend isIn attested united hopOf upstream downstream judged bytes
 starred = refl
 
 -- Vector A's attribute, byte by byte.
@@ -115,5 +116,5 @@ pub edges :
     ∷ plain (Unknown 2 0)
     ∷ Refused AttributeLength
     ∷ []
-unfolding count judgedRoute contentOf numberAt numbersAt placesFrom places segments numbersFault segmentFault faultAmong firstFault hasSet groundOf runsAfter mergeRuns mergedPath lowest highest climb descend isIn attested united hopOf upstream downstream judged bytes
+unfolding count judgedRoute firstGiven contentOf numberAt numbersAt placesFrom places segments numbersFault segmentFault faultAmong firstFault hasSet groundOf runsAfter mergeRuns mergedPath lowest highest climb descend isIn attested united hopOf upstream downstream judged bytes
 edges = refl

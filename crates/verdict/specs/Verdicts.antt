@@ -6,7 +6,6 @@ use lib.ListN.{length}
 use lib.IntN.{ℤ, pos, _-ℤ_}
 use lib.Signed.{leZ}
 use lib.Dec.{leb}
-use Rattle.types.specs.declared.Role.{Role}
 use Rattle.types.specs.declared.Cause.the-variants.{ByHops}
 use Rattle.types.specs.declared.Verdict.{Verdict}
 use Rattle.types.specs.declared.Verdict.the-variants.{Valid, Invalid, Unknown}
@@ -51,6 +50,6 @@ module _ (hop : HopFunction) (path : List ℕ) where
       (cond (leZ gapOf (pos 1)) Valid
       (Unknown rampUp rampDown))
 
-  -- The answer for a role: every downstream one has the gap.
-  unfoldable pub judged : Role → Answer
+  -- The answer for a role's number: every downstream one has the gap.
+  unfoldable pub judged : ℕ → Answer
   judged role = cond (isUpstream role) (Plain upstream) (WithGap downstream gapOf)

@@ -3,11 +3,11 @@ use mathlib.Core.Path.{_≡_, sym, ap, _∙_}
 use mathlib.Core.List.{List, [], _∷_, _++_, append-assoc}
 use Prim.Native.Nat.{ℕ, suc, _+_, _-_, _≤_, _<_}
 use native.Mathlib.Omega.{arith}
-use native.Mathlib.Nat.{suc-add}
+use native.Mathlib.Nat.{suc-add, add-zero, zero-add}
 use native.Mathlib.Numerals.{add-one}
 use lib.ListN.{length, take, drop, set, getD, length-set, length-append, length-take, length-drop, take-append-drop}
 use lib.Seq.{take-set-le, drop-set-lt, take-set-lt, drop-cons, take-suc, getD-set-same, getD-take, length-take-le, slice-empty, take-suc-set}
-use lib.Seq.{drop-drop, take-at, drop-at, drop-append-add, set-split, take-take, take-append-le, drop-append-le}
+use lib.Seq.{drop-drop, take-at, drop-at, drop-append-add, set-split, take-take, take-append-le, drop-append-le, set-append-left}
 use Rattle.words.specs.Words.{opened, closed, zeroed, pasted, spliced}
 
 -- A word that moves up by k, where those above it have: the rest is left to do.
@@ -122,7 +122,7 @@ unfolding pasted
 store-one s n a room = set-split s n a room ∙ ap (λ (m : ℕ). take n s ++ (a ∷ drop m s)) (sym (add-one n))
 
 -- A run within the slice leaves its length.
-length-pasted : (s p : List ℕ) (at : ℕ) → at + length p ≤ length s → length (pasted s at p) ≡ length s
+pub length-pasted : (s p : List ℕ) (at : ℕ) → at + length p ≤ length s → length (pasted s at p) ≡ length s
 unfolding pasted
 length-pasted s p at room =
     let d : List ℕ = drop (at + length p) s in
@@ -133,3 +133,68 @@ pub store-paste : (s p : List ℕ) (at n a : ℕ) → at + length p ≡ n → n 
 store-paste s p at n a e room =
     let l : length (pasted s at p) ≡ length s = length-pasted s p at (omega arith) in
     store-one (pasted s at p) n a (omega arith) ∙ paste-paste s p (a ∷ []) at n e (omega arith)
+
+-- A word that is copied down: the rest is left to do.
+pub copy-step : (s : List ℕ) (to from n to′ from′ : ℕ) → to ≤ from → from < length s → to + 1 ≡ to′ → from + 1 ≡ from′
+    → pasted (set s to (getD s from 0)) to′ (take n (drop from′ (set s to (getD s from 0)))) ≡ pasted s to (take (suc n) (drop from s))
+copy-step s to from n to′ from′ low room et ef =
+    let v : ℕ = getD s from 0 in
+    let back : drop from′ (set s to v) ≡ drop (suc from) s = drop-set-lt from′ s to v (omega arith) ∙ ap (λ (j : ℕ). drop j s) (sym ef ∙ add-one from) in
+    (λ i. pasted (store-one s to v (omega arith) i) to′ (take n (back i)))
+    ∙ paste-paste s (v ∷ []) (take n (drop (suc from) s)) to to′ et (omega arith)
+    ∙ ap (λ (l : List ℕ). pasted s to (take (suc n) l)) (sym (drop-cons s from 0 room))
+
+-- Where no word is left to write, nothing changes.
+pub paste-none : (s : List ℕ) (at : ℕ) → pasted s at [] ≡ s
+unfolding pasted
+paste-none s at = ap (λ (j : ℕ). take at s ++ drop j s) (add-zero at) ∙ take-append-drop at s
+
+-- What stands before a pasted run.
+pub take-pasted : (s p : List ℕ) (at n : ℕ) → n ≤ at → at ≤ length s → take n (pasted s at p) ≡ take n s
+unfolding pasted
+take-pasted s p at n low room =
+    let y : List ℕ = p ++ drop (at + length p) s in
+    take-append-le n (take at s) y (omega (arith, length-take-le at s room)) ∙ take-take n at s low
+
+-- What stands behind a pasted run.
+pub drop-pasted : (s p : List ℕ) (at n : ℕ) → at + length p ≤ n → at ≤ length s → drop n (pasted s at p) ≡ drop n s
+unfolding pasted
+drop-pasted s p at n high room =
+    let d : List ℕ = drop (at + length p) s in
+    let r : List ℕ = take at s ++ p in
+    let j : ℕ = n - (at + length p) in
+    let e : n ≡ length r + j = omega (arith, length-append (take at s) p, length-take-le at s room) in
+    let f : at + length p + j ≡ n = omega arith in
+    (λ i. drop (e i) (sym (append-assoc (take at s) p d) i)) ∙ drop-append-add r d j ∙ drop-drop j (at + length p) s ∙ ap (λ (k : ℕ). drop k s) f
+
+-- A pasted run and what stands before it.
+pub take-to-pasted : (s p : List ℕ) (at n : ℕ) → at + length p ≡ n → at ≤ length s → take n (pasted s at p) ≡ take at s ++ p
+unfolding pasted
+take-to-pasted s p at n e room =
+    let d : List ℕ = drop (at + length p) s in
+    ap (take n) (sym (append-assoc (take at s) p d))
+    ∙ take-at (take at s ++ p) d n (omega (arith, length-append (take at s) p, length-take-le at s room))
+
+-- A pasted run and what stands behind it.
+pub drop-to-pasted : (s p : List ℕ) (at : ℕ) → at ≤ length s → drop at (pasted s at p) ≡ p ++ drop (at + length p) s
+unfolding pasted
+drop-to-pasted s p at room = drop-at (take at s) (p ++ drop (at + length p) s) at (length-take-le at s room)
+
+-- A word that is stored within a pasted run.
+pub set-pasted : (s p : List ℕ) (at j a : ℕ) → j < length p → at ≤ length s → set (pasted s at p) (at + j) a ≡ pasted s at (set p j a)
+unfolding pasted
+set-pasted s p at j a inside room =
+    let d : List ℕ = drop (at + length p) s in
+    let x : List ℕ = take at s in
+    let lx : length x ≡ at = length-take-le at s room in
+    let n : length p ≡ length (set p j a) = sym (length-set p j a) in
+    ap (λ (m : ℕ). set (x ++ (p ++ d)) (m + j) a) (sym lx)
+    ∙ set-append-add x (p ++ d) j a
+    ∙ ap (λ (l : List ℕ). x ++ l) (set-append-left p d j a inside)
+    ∙ ap (λ (m : ℕ). x ++ (set p j a ++ drop (at + m) s)) n
+  where
+    -- A word that is stored behind x.
+    set-append-add : (x y : List ℕ) (j a : ℕ) → set (x ++ y) (length x + j) a ≡ x ++ set y j a
+    set-append-add [] y j a = ap (λ (k : ℕ). set y k a) (zero-add j)
+    set-append-add (b ∷ x) y j a =
+        ap (λ (k : ℕ). set (b ∷ (x ++ y)) k a) (suc-add (length x) j) ∙ ap (λ (l : List ℕ). b ∷ l) (set-append-add x y j a)

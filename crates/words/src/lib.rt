@@ -1,7 +1,7 @@
 // Runs of words moved within a lent slice.
 ghost use mathlib.Core.Path.{_≡_};
 ghost use Prim.Native.Nat.{_+_, _≤_};
-ghost use lib.ListN.{length};
+ghost use lib.ListN.{length, take, drop};
 ghost use Rattle.words.specs.Words.{opened, zeroed, closed, pasted, spliced};
 
 // The words at..used move up by k.
@@ -61,4 +61,16 @@ pub fn splice(s: &mut [u32], at: usize, used: usize, src: &[u32])
 {
     open_gap(s, at, src.len(), used);
     paste(s, at, src);
+}
+
+// The k words from index from on, copied down to index to.
+pub fn copy_down(s: &mut [u32], to: usize, from: usize, k: usize)
+    requires { ⌜ (to ≤ from) × (from + k ≤ length (now s)) ⌝ }
+    ensures { λ _. ⌜ now (s .exit) ≡ pasted (now (s .entry)) to (take k (drop from (now (s .entry)))) ⌝ }
+{
+    let mut j: usize = 0;
+    while j < k {
+        s[to + j] = s[from + j];
+        j += 1;
+    }
 }

@@ -1,4 +1,5 @@
 -- `as_path::read` meets its contract. Assumes nothing.
+use Rattle.types.specs.Numbers.{roleNumber}
 use mathlib.Core.Path.{_≡_, refl, sym, _∙_}
 use Rattle.as_path.proofs.Contents.{content-faulty, content-grounded, content-merged, too-long, short-enough}
 use borrow.Author.Needs.{needs}
@@ -30,19 +31,19 @@ same-length : tie.Need-same-length
 same-length c = search needs
 
 returns : tie.Need-returns
-returns c = rw (content-merged (c .before .before .before .before .before .before .before .before .before .before .before .before .before .args .role) (c .before .before .before .before .before .before .before .before .before .before .before .before .before .args .neighbour .0) (c .before .before .before .before .before .before .before .before .before .before .before .before .before .args .attr .now) (sym (c .before .before .before .before .before .before .before .before .before .before .first-fault .ensures) ∙ c .before .before .before .before .before .before .before .before .enum-told .given .1) (sym (c .before .before .before .before .before .before .before .ground .ensures) ∙ c .before .before .before .before .before .enum-told2 .given .1)) (too-long (c .before .before .before .merge .ensures) (c .if1 .taken), c .before .before .before .merge .ensures .buffer)
+returns c = rw (content-merged (roleNumber (c .before .before .before .before .before .before .before .before .before .before .before .before .before .args .role)) (c .before .before .before .before .before .before .before .before .before .before .before .before .before .args .neighbour .0) (c .before .before .before .before .before .before .before .before .before .before .before .before .before .args .attr .now) (sym (c .before .before .before .before .before .before .before .before .before .before .first-fault .ensures) ∙ c .before .before .before .before .before .before .before .before .enum-told .given .1) (sym (c .before .before .before .before .before .before .before .ground .ensures) ∙ c .before .before .before .before .before .enum-told2 .given .1)) (too-long (c .before .before .before .merge .ensures) (c .if1 .taken), c .before .before .before .merge .ensures .buffer)
 
 returns-2 : tie.Need-returns-2
-returns-2 c = rw (content-faulty (c .before .before .before .before .before .before .args .role) (c .before .before .before .before .before .before .args .neighbour .0) (c .before .before .before .before .before .before .args .attr .now) (sym (c .before .before .before .first-fault .ensures) ∙ c .before .fault .given .1)) (refl, refl)
+returns-2 c = rw (content-faulty (roleNumber (c .before .before .before .before .before .before .args .role)) (c .before .before .before .before .before .before .args .neighbour .0) (c .before .before .before .before .before .before .args .attr .now) (sym (c .before .before .before .first-fault .ensures) ∙ c .before .fault .given .1)) (refl, refl)
 
 returns-3 : tie.Need-returns-3
-returns-3 c = rw (content-grounded (c .before .before .before .before .before .before .before .before .before .args .role) (c .before .before .before .before .before .before .before .before .before .args .neighbour .0) (c .before .before .before .before .before .before .before .before .before .args .attr .now) (sym (c .before .before .before .before .before .before .first-fault .ensures) ∙ c .before .before .before .before .enum-told .given .1) (sym (c .before .before .before .ground .ensures) ∙ c .before .g .given .1)) (refl, refl)
+returns-3 c = rw (content-grounded (roleNumber (c .before .before .before .before .before .before .before .before .before .args .role)) (c .before .before .before .before .before .before .before .before .before .args .neighbour .0) (c .before .before .before .before .before .before .before .before .before .args .attr .now) (sym (c .before .before .before .before .before .before .first-fault .ensures) ∙ c .before .before .before .before .enum-told .given .1) (sym (c .before .before .before .ground .ensures) ∙ c .before .g .given .1)) (refl, refl)
 
 same-length-2 : tie.Need-same-length-2
 same-length-2 c = search needs
 
 returns-4 : tie.Need-returns-4
-returns-4 c = rw (content-merged (c .before .before .before .before .before .before .before .before .before .before .before .before .before .args .role) (c .before .before .before .before .before .before .before .before .before .before .before .before .before .args .neighbour .0) (c .before .before .before .before .before .before .before .before .before .before .before .before .before .args .attr .now) (sym (c .before .before .before .before .before .before .before .before .before .before .first-fault .ensures) ∙ c .before .before .before .before .before .before .before .before .enum-told .given .1) (sym (c .before .before .before .before .before .before .before .ground .ensures) ∙ c .before .before .before .before .before .enum-told2 .given .1)) (short-enough (c .before .before .before .merge .ensures) (c .if1 .left), c .before .before .before .merge .ensures .buffer)
+returns-4 c = rw (content-merged (roleNumber (c .before .before .before .before .before .before .before .before .before .before .before .before .before .args .role)) (c .before .before .before .before .before .before .before .before .before .before .before .before .before .args .neighbour .0) (c .before .before .before .before .before .before .before .before .before .before .before .before .before .args .attr .now) (sym (c .before .before .before .before .before .before .before .before .before .before .first-fault .ensures) ∙ c .before .before .before .before .before .before .before .before .enum-told .given .1) (sym (c .before .before .before .before .before .before .before .ground .ensures) ∙ c .before .before .before .before .before .enum-told2 .given .1)) (short-enough (c .before .before .before .merge .ensures) (c .if1 .left), c .before .before .before .merge .ensures .buffer)
 
 pub read-spec : {M : Type 1} → statement M
 read-spec =

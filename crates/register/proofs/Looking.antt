@@ -1,0 +1,149 @@
+-- Look-up by customer and source: the binary search, and whether the record is there. Assumes nothing.
+use Prim.Native.Nat.{ℕ, _+_, _-_, _*_, _/_, _≤_, _<_}
+use mathlib.Core.Path.{_≡_, refl, sym, _∙_}
+use mathlib.Core.Bool.{Bool, true, false, _&&_}
+use mathlib.Core.List.{List}
+use native.Mathlib.Omega.{arith}
+use borrow.Author.Tests.{ltb-true, ltb-false, lt-ltb, le-ltb, eq-eqb, ne-eqb}
+use lib.Dec.{ltb, eqb}
+use lib.ListN.{length, getD}
+use Rattle.table.proofs.Sounds.{long}
+use Rattle.keyed.specs.Keyed.{samePair, beforePair, ascends}
+use Rattle.keyed.proofs.Orders.{ordered-pairs, same-flip}
+use Rattle.keyed.proofs.Ranks.{rank-within, rank-below, rank-above, holds-not-end, holds-is}
+use Rattle.verdict.specs.Records.{Record}
+use Rattle.register.specs.Register.{mostRecords, recordsOf, recordAt, keyOf, placeOf, registerOk}
+use Rattle.register.specs.Calls.{holdsRecord}
+use Rattle.register.proofs.Entries.{record-count, customer-is, source-is, row-within}
+use Rattle.register.proofs.Holding.{sound, records-ok, ordered, has-room, room-records}
+
+-- ---- places among records
+
+module _ (rs : List Record) (a : ascends keyOf samePair beforePair rs ≡ true) (c s : ℕ) where
+  -- A place is at most the number of records.
+  pub place-within : placeOf c s rs ≤ length rs
+  unfolding placeOf
+  place-within = rank-within keyOf samePair beforePair (c, s) rs
+
+  -- The records below the pair's place stand before it.
+  pub place-below : (i : ℕ) → i < placeOf c s rs → beforePair (keyOf (recordAt rs i)) (c, s) ≡ true
+  unfolding placeOf
+  place-below i h = rank-below keyOf samePair beforePair (c, s) rs _ i h
+
+  -- The others do not.
+  pub place-above : (i : ℕ) → placeOf c s rs ≤ i → i < length rs → beforePair (keyOf (recordAt rs i)) (c, s) ≡ false
+  unfolding placeOf
+  place-above i h l = rank-above keyOf samePair beforePair ordered-pairs (c, s) rs _ i a h l
+
+  -- A record that stands before the pair is below its place.
+  pub place-over : (i : ℕ) → i < length rs → beforePair (keyOf (recordAt rs i)) (c, s) ≡ true → i < placeOf c s rs
+  place-over i h t = go (ltb i (placeOf c s rs)) refl
+    where
+      go : (b : Bool) → ltb i (placeOf c s rs) ≡ b → i < placeOf c s rs
+      go true p = ltb-true i (placeOf c s rs) p
+      go false p = absurd (let z : _≡_ {A = ℕ} 0 1 = cc (place-above i (ltb-false i (placeOf c s rs) p) h) in omega arith)
+
+  -- One that does not is not.
+  pub place-under : (i : ℕ) → beforePair (keyOf (recordAt rs i)) (c, s) ≡ false → placeOf c s rs ≤ i
+  place-under i t = go (ltb i (placeOf c s rs)) refl
+    where
+      go : (b : Bool) → ltb i (placeOf c s rs) ≡ b → placeOf c s rs ≤ i
+      go true p = absurd (let z : _≡_ {A = ℕ} 0 1 = cc (place-below i (ltb-true i (placeOf c s rs) p)) in omega arith)
+      go false p = ltb-false i (placeOf c s rs) p
+
+-- ---- a well-formed register
+
+module _ (ws : List ℕ) (e : registerOk ws ≡ true) where
+  -- The two counts are within the words.
+  pub head-within : 2 ≤ length ws
+  head-within = long 2 0 ws (sound ws e)
+
+  -- Word 0 counts the records.
+  pub count-is : getD ws 0 0 ≡ length (recordsOf ws)
+  count-is = record-count ws (sound ws e)
+
+  -- There are at most 1024 records.
+  pub few : length (recordsOf ws) ≤ mostRecords
+  few = room-records (recordsOf ws) (has-room (recordsOf ws) (records-ok ws e))
+
+  -- Row i is within the words.
+  pub row-in : (i : ℕ) → i < length (recordsOf ws) → 2 + i * 4 + 4 ≤ length ws
+  row-in i h = row-within ws (sound ws e) i h
+
+  -- The key words of row i.
+  pub key-is : (i : ℕ) → i < length (recordsOf ws)
+      → _≡_ {A = ℕ × ℕ} (getD ws (2 + i * 4) 0, getD ws (2 + i * 4 + 1) 0) (keyOf (recordAt (recordsOf ws) i))
+  key-is i h = λ q. (customer-is ws (sound ws e) i h q, source-is ws (sound ws e) i h q)
+
+  module _ (c s : ℕ) {place n : ℕ} (p : place ≡ placeOf c s (recordsOf ws)) (q : n ≡ getD ws 0 0) where
+    -- Past the last record the register does not hold the pair's.
+    pub past : n ≤ place → false ≡ holdsRecord c s (recordsOf ws)
+    unfolding placeOf
+    past h =
+        sym (holds-not-end keyOf samePair beforePair ordered-pairs (c, s) (recordsOf ws) (ordered ws e)
+        (omega (arith, count-is, place-within (recordsOf ws) (ordered ws e) c s)))
+
+    module _ (h : place < n) where
+      -- The row at the place is within the words.
+      pub there-in : 2 + place * 4 + 4 ≤ length ws
+      there-in = row-in place (omega (arith, count-is))
+
+      -- What stands at the place decides whether the register holds the record.
+      decides : holdsRecord c s (recordsOf ws) ≡ (eqb (getD ws (2 + place * 4) 0) c && eqb (getD ws (2 + place * 4 + 1) 0) s)
+      unfolding placeOf
+      decides =
+          rw p (
+          holds-is keyOf samePair beforePair ordered-pairs (c, s) (recordsOf ws) _ (ordered ws e) (omega (arith, count-is))
+          ∙ same-flip samePair beforePair ordered-pairs (c, s) (keyOf (recordAt (recordsOf ws) (placeOf c s (recordsOf ws))))
+          ∙ (λ t. samePair (sym (key-is (placeOf c s (recordsOf ws)) (omega (arith, count-is))) t) (c, s)))
+
+      -- The customer is the pair's: the source decides.
+      pub there : getD ws (2 + place * 4) 0 ≡ c → eqb (getD ws (2 + place * 4 + 1) 0) s ≡ holdsRecord c s (recordsOf ws)
+      there t = rw (decides, eq-eqb (getD ws (2 + place * 4) 0) c t)
+
+      -- It is not: the register does not hold the record.
+      pub other : (getD ws (2 + place * 4) 0 ≡ c → ⊥) → false ≡ holdsRecord c s (recordsOf ws)
+      other t = rw (decides, ne-eqb (getD ws (2 + place * 4) 0) c t)
+
+-- ---- the search
+
+-- The place looked for is between low and high.
+pub record Between (ws : List ℕ) (c s low high : ℕ) : Type 0 where
+  pub ok : registerOk ws ≡ true
+  pub over : low ≤ placeOf c s (recordsOf ws)
+  pub under : placeOf c s (recordsOf ws) ≤ high
+  pub within : high ≤ length (recordsOf ws)
+  pub small : length (recordsOf ws) ≤ mostRecords
+
+-- Before the first turn it is between 0 and the number of records.
+pub starts : (ws : List ℕ) (c s n : ℕ) → registerOk ws ≡ true → n ≡ getD ws 0 0 → Between ws c s 0 n
+starts ws c s n e p =
+    record {
+      ok = e;
+      over = omega arith;
+      under = omega (arith, place-within (recordsOf ws) (ordered ws e) c s, count-is ws e);
+      within = omega (arith, count-is ws e);
+      small = few ws e;
+    }
+
+module _ {ws : List ℕ} {c s low high : ℕ} (b : Between ws c s low high) where
+  -- The row in the middle is within the words.
+  pub middle-in : low < high → 2 + (low + (high - low) / 2) * 4 + 4 ≤ length ws
+  middle-in h = row-in ws (b .ok) (low + (high - low) / 2) (omega arith)
+
+  module _ (m : ℕ) (l : low ≤ m) (h : m < high) where
+    -- The key words of row m are the record's key.
+    key-of : beforePair (getD ws (2 + m * 4) 0, getD ws (2 + m * 4 + 1) 0) (c, s) ≡ beforePair (keyOf (recordAt (recordsOf ws) m)) (c, s)
+    key-of = λ q. beforePair (key-is ws (b .ok) m (omega arith) q) (c, s)
+
+    -- Record m stands before the pair: the place is behind it.
+    pub turns-up : true ≡ beforePair (getD ws (2 + m * 4) 0, getD ws (2 + m * 4 + 1) 0) (c, s) → Between ws c s (m + 1) high
+    turns-up t =
+        let x = place-over (recordsOf ws) (ordered ws (b .ok)) c s m (omega arith) (sym (t ∙ key-of)) in
+        record { ok = b .ok; over = omega arith; under = b .under; within = b .within; small = b .small }
+
+    -- It does not: the place is not behind it.
+    pub turns-down : false ≡ beforePair (getD ws (2 + m * 4) 0, getD ws (2 + m * 4 + 1) 0) (c, s) → Between ws c s low m
+    turns-down t =
+        let x = place-under (recordsOf ws) (ordered ws (b .ok)) c s m (sym (t ∙ key-of)) in
+        record { ok = b .ok; over = b .over; under = x; within = omega arith; small = b .small }

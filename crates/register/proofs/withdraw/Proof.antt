@@ -1,0 +1,80 @@
+-- `register::withdraw` meets its contract. Assumes nothing.
+use mathlib.Core.Path.{_≡_, sym, _∙_}
+use borrow.Author.Tests.{not-true, not-false}
+use Rattle.types.proofs.Refusing.{parts}
+use Rattle.register.proofs.Filing.{withdraw-length, withdraw-malformed, withdraw-source, withdraw-customer, withdraw-none, withdraw-goes, withdraw-done}
+use borrow.Author.Needs.{needs}
+use Rattle.register.proofs.withdraw.Statement.{statement}
+use Rattle.register.proofs.withdraw.Tie as tie
+
+returns : tie.Need-returns
+returns c = let a = c .before .before .args in
+    parts (withdraw-length (a .reg .now) (a .source) (a .customer .0) (c .if1 .taken))
+
+is-register-requires : tie.Need-is-register-requires
+is-register-requires c κs = search needs
+
+same-length : tie.Need-same-length
+same-length c = search needs
+
+returns-2 : tie.Need-returns-2
+returns-2 c = let a = c .before .before .before .before .before .args in
+    parts (withdraw-malformed (a .reg .now) (a .source) (a .customer .0) (c .before .before .before .if1 .left) (sym (c .before .is-register .ensures) ∙ not-true _ (c .if2 .taken)))
+
+same-length-2 : tie.Need-same-length-2
+same-length-2 c = search needs
+
+returns-3 : tie.Need-returns-3
+returns-3 c = let a = c .before .before .before .before .before .before .args in
+    parts (withdraw-source (a .reg .now) (a .source) (a .customer .0) (c .before .before .before .before .if1 .left) (sym (c .before .before .is-register .ensures) ∙ not-false _ (c .before .if2 .left)) (c .if3 .taken))
+
+same-length-3 : tie.Need-same-length-3
+same-length-3 c = search needs
+
+returns-4 : tie.Need-returns-4
+returns-4 c = let a = c .before .before .before .before .before .before .before .args in
+    parts (withdraw-customer (a .reg .now) (a .source) (a .customer .0) (c .before .before .before .before .before .if1 .left) (sym (c .before .before .before .is-register .ensures) ∙ not-false _ (c .before .before .if2 .left)) (c .before .if3 .left) (c .if4 .taken))
+
+find-requires : tie.Need-find-requires
+find-requires c κs = sym (c .before .before .before .before .is-register .ensures) ∙ not-false _ (c .before .before .before .if2 .left)
+
+is-at-requires : tie.Need-is-at-requires
+is-at-requires c κs = (sym (c .before .before .before .before .before .before .is-register .ensures) ∙ not-false _ (c .before .before .before .before .before .if2 .left), c .before .find .ensures .0)
+
+same-length-4 : tie.Need-same-length-4
+same-length-4 c = search needs
+
+returns-5 : tie.Need-returns-5
+returns-5 c = let a = c .before .before .before .before .before .before .before .before .before .before .before .before .args in
+    parts (withdraw-none (a .reg .now) (a .source) (a .customer .0) (c .before .before .before .before .before .before .before .before .before .before .if1 .left) (sym (c .before .before .before .before .before .before .before .before .is-register .ensures) ∙ not-false _ (c .before .before .before .before .before .before .before .if2 .left)) (c .before .before .before .before .before .before .if3 .left) (c .before .before .before .before .before .if4 .left) (sym (c .before .is-at .ensures) ∙ not-true _ (c .if5 .taken)))
+
+remove-requires : tie.Need-remove-requires
+remove-requires c κs = let a = c .before .before .before .before .before .before .before .before .before .before .before .before .before .args in
+    withdraw-goes (a .reg .now) (a .source) (a .customer .0) (c .before .before .before .before .before .before .before .before .before .before .before .if1 .left) (sym (c .before .before .before .before .before .before .before .before .before .is-register .ensures) ∙ not-false _ (c .before .before .before .before .before .before .before .before .if2 .left)) (c .before .before .before .before .before .before .before .if3 .left) (c .before .before .before .before .before .before .if4 .left) (sym (c .before .before .is-at .ensures) ∙ not-false _ (c .before .if5 .left)) (c .before .before .before .before .find .ensures .0)
+
+same-length-5 : tie.Need-same-length-5
+same-length-5 c = search needs
+
+returns-6 : tie.Need-returns-6
+returns-6 c = let a = c .before .before .before .before .before .before .before .before .before .before .before .before .before .before .before .before .args in
+    withdraw-done (a .reg .now) (a .source) (a .customer .0) (c .before .before .before .before .before .before .before .before .before .before .before .before .before .before .if1 .left) (sym (c .before .before .before .before .before .before .before .before .before .before .before .before .is-register .ensures) ∙ not-false _ (c .before .before .before .before .before .before .before .before .before .before .before .if2 .left)) (c .before .before .before .before .before .before .before .before .before .before .if3 .left) (c .before .before .before .before .before .before .before .before .before .if4 .left) (sym (c .before .before .before .before .before .is-at .ensures) ∙ not-false _ (c .before .before .before .before .if5 .left)) (c .before .before .before .before .before .before .before .find .ensures .0) (c .before .before .remove .ensures)
+
+pub withdraw-spec : {M : Type 1} → statement M
+withdraw-spec =
+    tie.close
+    (tie.spec
+    returns
+    is-register-requires
+    same-length
+    returns-2
+    same-length-2
+    returns-3
+    same-length-3
+    returns-4
+    find-requires
+    is-at-requires
+    same-length-4
+    returns-5
+    remove-requires
+    same-length-5
+    returns-6)

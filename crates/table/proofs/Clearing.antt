@@ -1,0 +1,457 @@
+-- One turn of the loop of `pack_rows`, and what the steps of `clear` make of a table. Assumes nothing.
+use mathlib.Core.Path.{_≡_, refl, sym, ap, _∙_}
+use mathlib.Core.Bool.{Bool, true, false, cond}
+use mathlib.Core.List.{List, [], _∷_, _++_, append-assoc}
+use Prim.Native.Nat.{ℕ, suc, _+_, _-_, _*_, _≤_, _<_, _^_}
+use native.Mathlib.Omega.{arith}
+use native.Mathlib.Nat.{suc-mul, zero-mul, zero-add, sub-zero, mul-le-mul-right, eq-of-mul-eq-mul-right}
+use native.Mathlib.Numerals.{add-one}
+use lib.Dec.{eqb}
+use lib.ListN.{length, take, drop, set, getD, replicate, length-append, length-drop, length-set}
+use lib.ListN.{List·getD-append, replicate-append-replicate, drop-of-length-le}
+use lib.Seq.{getD-drop, drop-drop, take-set-lt, length-take-le, take-at, drop-at}
+use borrow.Author.Tests.{eq-eqb, ne-eqb}
+use Rattle.words.specs.Words.{pasted, zeroed}
+use Rattle.words.proofs.Laws.{length-pasted, paste-none, paste-paste, drop-pasted, set-pasted, take-to-pasted, drop-to-pasted}
+use Rattle.table.specs.Table.{Entry, width, rows, bodies, pad, encode, Wide, decode, counts, keptEntries, keptRows, Clearable}
+use Rattle.table.proofs.Tables.{row-head, row-count, row-tail, row-rest, length-rows, counts-rows}
+use Rattle.table.proofs.Laws.{row-set, count-index, counts-peel}
+use Rattle.table.proofs.Sounds.{less-mul, count-is, body-is}
+use Rattle.table.proofs.Exact.{rows-first}
+use Rattle.table.proofs.Keeping.{kept-wide, kept-length, kept-bodies}
+
+-- ---- the rows that are kept
+
+-- One row more.
+next-mul : (i w : ℕ) → (i + 1) * w ≡ i * w + w
+next-mul i w = ap (λ (k : ℕ). k * w) (add-one i) ∙ suc-mul i w
+
+-- A row with start o.
+abbrev anew : ℕ → ℕ → ℕ → List ℕ → List ℕ
+anew h t o xs = take h xs ++ (o ∷ (getD xs (h + 1) 0 ∷ take t (drop (h + 2) xs)))
+
+module _ (h t column value k o : ℕ) (xs : List ℕ) where
+  -- A row with the value goes out.
+  rows-out : getD xs column 0 ≡ value → keptRows h t column value (suc k) o xs ≡ keptRows h t column value k o (drop (width h t) xs)
+  unfolding keptRows
+  rows-out q =
+      let r : List ℕ = keptRows h t column value k (o + getD xs (h + 1) 0) (drop (width h t) xs) in
+      ap
+      (λ (b : Bool). cond b (keptRows h t column value k o (drop (width h t) xs)) (take h xs ++ (o ∷ (getD xs (h + 1) 0 ∷ (take t (drop (h + 2) xs) ++ r)))))
+      (eq-eqb (getD xs column 0) value q)
+
+  -- Another stays, with its start counted anew.
+  rows-in : (getD xs column 0 ≡ value → ⊥)
+      → keptRows h t column value (suc k) o xs ≡ anew h t o xs ++ keptRows h t column value k (o + getD xs (h + 1) 0) (drop (width h t) xs)
+  unfolding keptRows
+  rows-in q =
+      let r : List ℕ = keptRows h t column value k (o + getD xs (h + 1) 0) (drop (width h t) xs) in
+      ap
+      (λ (b : Bool). cond b (keptRows h t column value k o (drop (width h t) xs)) (take h xs ++ (o ∷ (getD xs (h + 1) 0 ∷ (take t (drop (h + 2) xs) ++ r)))))
+      (ne-eqb (getD xs column 0) value q)
+      ∙ sym (append-assoc (take h xs) (o ∷ (getD xs (h + 1) 0 ∷ take t (drop (h + 2) xs))) r)
+
+-- A row that is copied, with its start stored anew.
+row-anew : (h t o : ℕ) (xs : List ℕ) → width h t ≤ length xs → (set (take (width h t) xs) h o ≡ anew h t o xs) × (length (anew h t o xs) ≡ width h t)
+row-anew h t o xs l =
+    let e : take (width h t) (set xs h o) ≡ anew h t o xs = row-set xs h t o l in
+    let n : width h t ≤ length (set xs h o) = simp length-set l in
+    (sym (take-set-lt (width h t) xs h o (omega arith)) ∙ e, ap length (sym e) ∙ length-take-le (width h t) (set xs h o) n)
+
+-- ---- the loop of `pack_rows`
+
+-- All rows of the slice that are kept.
+abbrev thin : List ℕ → ℕ → ℕ → ℕ → ℕ → List ℕ
+thin ws h t column value = keptRows h t column value (getD ws 0 0) 0 (drop 2 ws)
+
+-- What holds of its locals: the rows from i on are left to do.
+pub record Thinned (ws : List ℕ) (h t column value n : ℕ) (s : List ℕ) (m next i : ℕ) : Type 0 where
+  pub room : 2 + n * width h t ≤ length ws
+  pub within : column < h
+  pub long : length s ≡ length ws
+  pub turn : i ≤ n
+  pub few : m ≤ i
+  pub counted : next + counts h t (n - i) (drop (2 + i * width h t) ws) < 2 ^ 32
+  pub same : drop (2 + i * width h t) s ≡ drop (2 + i * width h t) ws
+  pub left : pasted s (2 + m * width h t) (keptRows h t column value (n - i) next (drop (2 + i * width h t) ws)) ≡ pasted ws 2 (thin ws h t column value)
+  pub sum : m * width h t + length (keptRows h t column value (n - i) next (drop (2 + i * width h t) ws)) ≡ length (thin ws h t column value)
+
+-- It holds at the start.
+pub thinned : (ws : List ℕ) (h t column value n : ℕ)
+    → (2 + getD ws 0 0 * width h t ≤ length ws) × (column < h) × (counts h t (getD ws 0 0) (drop 2 ws) < 2 ^ 32)
+    → n ≡ getD ws 0 0 → Thinned ws h t column value n ws 0 0 0
+thinned ws h t column value n may read =
+    let z = zero-mul (width h t) in
+    let e : n - 0 ≡ getD ws 0 0 = sub-zero n ∙ read in
+    let c : counts h t (n - 0) (drop (2 + 0 * width h t) ws) ≡ counts h t (getD ws 0 0) (drop 2 ws) = λ j. counts h t (e j) (drop (2 + z j) ws) in
+    let r : keptRows h t column value (n - 0) 0 (drop (2 + 0 * width h t) ws) ≡ thin ws h t column value =
+    λ j. keptRows h t column value (e j) 0 (drop (2 + z j) ws) in
+    record {
+      room = omega (arith, may .0, ap (λ (k : ℕ). k * width h t) read);
+      within = may .1;
+      long = refl;
+      turn = omega arith;
+      few = omega arith;
+      counted = omega (arith, c, may .2);
+      same = refl;
+      left = λ j. pasted ws (2 + z j) (r j);
+      sum = omega (arith, z, ap length r);
+    }
+
+module _ {ws : List ℕ} {h t column value n : ℕ} {s : List ℕ} {m next i : ℕ} (P : Thinned ws h t column value n s m next i) where
+  -- The width of a row.
+  abbrev w : ℕ
+  w = width h t
+
+  -- Where no row is left, all is done.
+  pub thin-done : n ≤ i → (s ≡ pasted ws 2 (thin ws h t column value)) × (m * width h t ≡ length (thin ws h t column value))
+  unfolding keptRows
+  thin-done l =
+      let e : n - i ≡ 0 = omega arith in
+      let none : keptRows h t column value (n - i) next (drop (2 + i * w) ws) ≡ [] = ap (λ (k : ℕ). keptRows h t column value k next (drop (2 + i * w) ws)) e in
+      (sym (paste-none s (2 + m * w)) ∙ ap (pasted s (2 + m * w)) (sym none) ∙ P .left, omega (arith, P .sum, ap length none))
+
+  module _ (l : i < n) where
+    -- Row i lies within the slice, and so does the place to which it goes.
+    pub thin-row : (2 + i * width h t + width h t ≤ length ws) × (m * width h t ≤ i * width h t)
+    thin-row = (omega (arith, P .room, less-mul i n w l), mul-le-mul-right w (P .few))
+
+    -- The words from row i on.
+    abbrev xs : List ℕ
+    xs = drop (2 + i * w) ws
+
+    -- The words behind row i.
+    behind : drop w xs ≡ drop (2 + (i + 1) * w) ws
+    behind =
+        let e : 2 + i * w + w ≡ 2 + (i + 1) * w = omega (arith, next-mul i w) in
+        drop-drop w (2 + i * w) ws ∙ ap (λ (k : ℕ). drop k ws) e
+
+    -- They are as they were.
+    same-behind : drop (2 + (i + 1) * w) s ≡ drop (2 + (i + 1) * w) ws
+    same-behind =
+        let e : 2 + i * w + w ≡ 2 + (i + 1) * w = omega (arith, next-mul i w) in
+        ap (λ (k : ℕ). drop k s) (sym e) ∙ sym (drop-drop w (2 + i * w) s) ∙ ap (drop w) (P .same) ∙ behind
+
+    -- The word read in the column.
+    thin-column : getD s (2 + i * w + column) 0 ≡ getD xs column 0
+    thin-column = sym (getD-drop (2 + i * w) s column 0) ∙ ap (λ (r : List ℕ). getD r column 0) (P .same)
+
+    -- The count read.
+    thin-count : getD s (2 + i * w + h + 1) 0 ≡ getD xs (h + 1) 0
+    thin-count = sym (count-index s (2 + i * w) h) ∙ ap (λ (r : List ℕ). getD r (h + 1) 0) (P .same)
+
+    -- The rows that are left are row i and those behind it.
+    one-less : n - i ≡ suc (n - (i + 1))
+    one-less = omega arith
+
+    -- So are the counts that are left.
+    pub thin-counts : next + (getD s (2 + i * width h t + h + 1) 0 + counts h t (n - (i + 1)) (drop (2 + (i + 1) * width h t) ws)) < 2 ^ 32
+    thin-counts =
+        let e : n - i - 1 ≡ n - (i + 1) = omega arith in
+        let c : counts h t (n - i) xs ≡ getD s (2 + i * w + h + 1) 0 + counts h t (n - (i + 1)) (drop (2 + (i + 1) * w) ws) =
+        counts-peel h t (n - i) xs (omega arith) ∙ (λ j. sym thin-count j + counts h t (e j) (behind j)) in
+        omega (arith, P .counted, c)
+
+    -- A turn in which the row goes out.
+    pub thin-out : getD s (2 + i * width h t + column) 0 ≡ value → Thinned ws h t column value n s m next (i + 1)
+    thin-out q =
+        let rest : List ℕ = keptRows h t column value (n - (i + 1)) next (drop (2 + (i + 1) * w) ws) in
+        let e : keptRows h t column value (n - i) next xs ≡ rest =
+        ap (λ (k : ℕ). keptRows h t column value k next xs) one-less
+        ∙ rows-out h t column value (n - (i + 1)) next xs (sym thin-column ∙ q) ∙ ap (keptRows h t column value (n - (i + 1)) next) behind in
+        record {
+          room = P .room;
+          within = P .within;
+          long = P .long;
+          turn = omega arith;
+          few = omega (arith, P .few);
+          counted = omega (arith, thin-counts);
+          same = same-behind;
+          left = ap (pasted s (2 + m * w)) (sym e) ∙ P .left;
+          sum = omega (arith, P .sum, ap length e);
+        }
+
+    -- A turn in which it stays.
+    pub thin-in : (getD s (2 + i * width h t + column) 0 ≡ value → ⊥) → (v : List ℕ)
+        → v ≡ pasted s (2 + m * width h t) (take (width h t) (drop (2 + i * width h t) s))
+        → Thinned ws h t column value n (set v (2 + m * width h t + h) next) (m + 1) (next + getD s (2 + i * width h t + h + 1) 0) (i + 1)
+    thin-in q v made =
+        let at : ℕ = 2 + m * w in
+        let c : ℕ = getD s (2 + i * w + h + 1) 0 in
+        let rest : List ℕ = keptRows h t column value (n - (i + 1)) (next + c) (drop (2 + (i + 1) * w) ws) in
+        let x : List ℕ = anew h t next xs in
+        let lx : w ≤ length xs = simp length-drop (omega (arith, thin-row)) in
+        let e : keptRows h t column value (n - i) next xs ≡ x ++ rest =
+        ap (λ (k : ℕ). keptRows h t column value k next xs) one-less
+        ∙ rows-in h t column value (n - (i + 1)) next xs (λ r. q (thin-column ∙ r))
+        ∙ (λ j. x ++ keptRows h t column value (n - (i + 1)) (next + sym thin-count j) (behind j)) in
+        let n-row : length (take w xs) ≡ w = length-take-le w xs lx in
+        let n-x : length x ≡ w = row-anew h t next xs lx .1 in
+        let low : at ≤ length s = omega (arith, thin-row, P .long) in
+        let is : set v (at + h) next ≡ pasted s at x =
+        ap (λ (r : List ℕ). set r (at + h) next) (made ∙ ap (λ (r : List ℕ). pasted s at (take w r)) (P .same))
+        ∙ set-pasted s (take w xs) at h next (omega (arith, n-row)) low
+        ∙ ap (pasted s at) (row-anew h t next xs lx .0) in
+        let at′ : at + length x ≡ 2 + (m + 1) * w = omega (arith, n-x, next-mul m w) in
+        let under : at + length x ≤ 2 + (i + 1) * w = omega (arith, n-x, next-mul i w, thin-row) in
+        record {
+          room = P .room;
+          within = P .within;
+          long = ap length is ∙ length-pasted s x at (omega (arith, n-x, thin-row, P .long)) ∙ P .long;
+          turn = omega arith;
+          few = omega (arith, P .few);
+          counted = omega (arith, thin-counts);
+          same = ap (drop (2 + (i + 1) * w)) is ∙ drop-pasted s x at (2 + (i + 1) * w) under low ∙ same-behind;
+          left = ap (λ (r : List ℕ). pasted r (2 + (m + 1) * w) rest) is
+              ∙ paste-paste s x rest at (2 + (m + 1) * w) at′ low
+              ∙ ap (pasted s at) (sym e) ∙ P .left;
+          sum = omega (arith, P .sum, ap length e, length-append x rest, n-x, next-mul m w);
+        }
+
+-- ---- the rows that are kept are the rows of the entries that are kept
+
+-- Of one row, and rows u behind it.
+kept-row : (h t column value m o q : ℕ) (e : Entry) (u : List ℕ) → column < h → (length (e .head) ≡ h) × (length (e .tail) ≡ t)
+    → keptRows h t column value (suc m) o (e .head ++ (q ∷ (length (e .body) ∷ (e .tail ++ u))))
+    ≡ cond (eqb (getD (e .head) column 0) value) (keptRows h t column value m o u)
+    (e .head ++ (o ∷ (length (e .body) ∷ (e .tail ++ keptRows h t column value m (o + length (e .body)) u))))
+unfolding keptRows
+kept-row h t column value m o q e u within w =
+    let k : ℕ = length (e .body) in
+    let head = row-head (e .head) (e .tail) u q k h t (w .0) (w .1) in
+    let count = row-count (e .head) (e .tail) u q k h t (w .0) (w .1) in
+    let tail = row-tail (e .head) (e .tail) u q k h t (w .0) (w .1) in
+    let rest = row-rest (e .head) (e .tail) u q k h t (w .0) (w .1) in
+    let x = List·getD-append (e .head) (q ∷ (k ∷ (e .tail ++ u))) 0 column (omega arith) in
+    λ i. cond (eqb (x i) value) (keptRows h t column value m o (rest i))
+    (head i ++ (o ∷ (count i ∷ (tail i ++ keptRows h t column value m (o + count i) (rest i)))))
+
+-- Of all rows, whatever stands behind them.
+kept-rows : (h t column value o q : ℕ) (es : List Entry) (z : List ℕ) → column < h → Wide h t es
+    → keptRows h t column value (length es) o (rows q es ++ z) ≡ rows o (keptEntries column value es)
+unfolding keptRows keptEntries rows Wide
+kept-rows h t column value o q [] z within w = refl
+kept-rows h t column value o q (e ∷ es) z within w =
+    let k : ℕ = length (e .body) in
+    let b : Bool = eqb (getD (e .head) column 0) value in
+    ap (keptRows h t column value (suc (length es)) o) (rows-first q e es z)
+    ∙ kept-row h t column value (length es) o q e (rows (q + k) es ++ z) within (w .0)
+    ∙ (λ i. cond b (kept-rows h t column value o (q + k) es z within (w .1) i)
+    (e .head ++ (o ∷ (k ∷ (e .tail ++ kept-rows h t column value (o + k) (q + k) es z within (w .1) i)))))
+    ∙ within-cond b (keptEntries column value es)
+  where
+    -- The rows of a choice.
+    within-cond : (b : Bool) (ks : List Entry) → cond b (rows o ks) (rows o (e ∷ ks)) ≡ rows o (cond b ks (e ∷ ks))
+    within-cond true ks = refl
+    within-cond false ks = refl
+
+-- ---- the ends of a table
+
+module _ (h t size : ℕ) (es : List Entry) (w : Wide h t es) where
+  -- The counters and the rows.
+  table-front : take (2 + length es * width h t) (encode size es) ≡ length es ∷ (length (bodies es) ∷ rows 0 es)
+  unfolding encode pad
+  table-front =
+      let p : List ℕ = length es ∷ (length (bodies es) ∷ rows 0 es) in
+      let z : List ℕ = replicate (size - suc (suc (length (rows 0 es ++ bodies es)))) 0 in
+      let lp : length p ≡ 2 + length es * width h t = omega (arith, length-rows h t 0 es w) in
+      ap (λ (l : List ℕ). take (2 + length es * width h t) (length es ∷ (length (bodies es) ∷ l))) (append-assoc (rows 0 es) (bodies es) z)
+      ∙ take-at p (bodies es ++ z) (2 + length es * width h t) lp
+
+  -- The zeros behind the bodies.
+  table-zeros : (at : ℕ) → 2 + length es * width h t + length (bodies es) ≡ at → drop at (encode size es) ≡ replicate (size - at) 0
+  unfolding encode pad
+  table-zeros at e =
+      let p : List ℕ = length es ∷ (length (bodies es) ∷ (rows 0 es ++ bodies es)) in
+      let lp : length p ≡ at = omega (arith, length-append (rows 0 es) (bodies es), length-rows h t 0 es w) in
+      drop-at p (replicate (size - length p) 0) at lp ∙ ap (λ (k : ℕ). replicate {A = ℕ} (size - k) 0) lp
+
+-- ---- the steps of `clear`
+
+-- A table without entries has none to clear.
+pub clear-none : (h t column value : ℕ) (ws : List ℕ) → Clearable h t ws column → getD ws 0 0 ≡ 0
+    → (ws ≡ encode (length ws) (keptEntries column value (decode h t ws))) × (0 + length (keptEntries column value (decode h t ws)) ≡ length (decode h t ws))
+unfolding keptEntries
+clear-none h t column value ws may z =
+    let D : List Entry = decode h t ws in
+    let few : length D ≤ 0 = omega (arith, count-is h t ws (may .sound)) in
+    let none : D ≡ [] = drop-of-length-le D few in
+    let e : D ≡ keptEntries column value D = none ∙ ap (keptEntries column value) (sym none) in
+    (may .sound .same ∙ ap (encode (length ws)) e, zero-add (length (keptEntries column value D)) ∙ ap length (sym e))
+
+-- Its arguments, the two counters that it reads, and what they are.
+pub record Known : Type 0 where
+  pub h : ℕ
+  pub t : ℕ
+  pub column : ℕ
+  pub value : ℕ
+  pub ws : List ℕ
+  pub may : Clearable h t ws column
+  pub n : ℕ
+  pub b : ℕ
+  pub n-read : n ≡ getD ws 0 0
+  pub b-read : b ≡ getD ws 1 0
+  pub some : n ≡ 0 → ⊥
+
+-- The linear facts of these numbers, where m rows and k body words are kept.
+pub record Sized (w n b m k size : ℕ) : Type 0 where
+  pub few : m ≤ n
+  pub rows-in : m * w ≤ n * w
+  pub bodies-in : k ≤ b
+  pub room : 2 + n * w + b ≤ size
+  pub small : size < 2 ^ 32
+
+module _ (K : Known) where
+  -- The width of a row.
+  abbrev pub wid : ℕ
+  wid = width (K .h) (K .t)
+
+  -- All entries.
+  abbrev D : List Entry
+  D = decode (K .h) (K .t) (K .ws)
+
+  -- The entries that are kept.
+  abbrev pub kept : List Entry
+  kept = keptEntries (K .column) (K .value) D
+
+  -- The first counter is the number of entries.
+  n-is : K .n ≡ length D
+  n-is = K .n-read ∙ count-is (K .h) (K .t) (K .ws) (K .may .sound)
+
+  -- The second counter is the number of body words.
+  b-is : K .b ≡ length (bodies D)
+  b-is = K .b-read ∙ body-is (K .h) (K .t) (K .ws) (K .may .sound)
+
+  -- There is an entry.
+  pub some-entry : 0 < length D
+  some-entry = omega (arith, K .some, n-is)
+
+  -- The linear facts.
+  pub sizes : (wid ≤ K .n * wid) × (2 + K .n * wid + K .b ≤ length (K .ws)) × (length (K .ws) < 2 ^ 32)
+  sizes =
+      let e : K .n * wid ≡ length D * wid = ap (λ (k : ℕ). k * wid) n-is in (
+        omega (arith, e, less-mul 0 (length D) wid some-entry),
+        omega (arith, e, b-is, K .may .sound .fits),
+        K .may .small,
+      )
+
+  -- The same with the numbers of rows and body words that are kept.
+  pub kept-sizes : (m k : ℕ) → m ≡ length kept → k ≡ length (bodies kept)
+      → Sized wid (K .n) (K .b) m k (length (K .ws))
+  kept-sizes m k em ek =
+      let l : m ≤ K .n = omega (arith, em, n-is, kept-length (K .column) (K .value) D) in
+      record {
+        few = l;
+        rows-in = mul-le-mul-right wid l;
+        bodies-in = omega (arith, ek, b-is, kept-bodies (K .column) (K .value) D);
+        room = sizes .1;
+        small = sizes .2;
+      }
+
+  module _ (s₁ : List ℕ) (e₁ : s₁ ≡ pasted (K .ws) (2 + length D * wid) (bodies kept)) where
+    -- The words behind the bodies that are kept.
+    abbrev rest : List ℕ
+    rest = drop (2 + length D * wid + length (bodies kept)) (K .ws)
+
+    -- The table after the bodies were packed.
+    is₁ : s₁ ≡ (length D ∷ (length (bodies D) ∷ rows 0 D)) ++ (bodies kept ++ rest)
+    unfolding pasted
+    is₁ =
+        let f : take (2 + length D * wid) (K .ws) ≡ length D ∷ (length (bodies D) ∷ rows 0 D) =
+        ap (take (2 + length D * wid)) (K .may .sound .same) ∙ table-front (K .h) (K .t) (length (K .ws)) D (K .may .sound .wide) in
+        e₁ ∙ ap (λ (l : List ℕ). l ++ (bodies kept ++ rest)) f
+
+    -- It has its size.
+    long₁ : length s₁ ≡ length (K .ws)
+    long₁ = ap length e₁ ∙ length-pasted (K .ws) (bodies kept) (2 + length D * wid) (omega (arith, K .may .sound .fits, kept-bodies (K .column) (K .value) D))
+
+    -- What `pack_rows` requires.
+    pub rows-may : (2 + getD s₁ 0 0 * wid ≤ length s₁) × (K .column < K .h) × (counts (K .h) (K .t) (getD s₁ 0 0) (drop 2 s₁) < 2 ^ 32)
+    rows-may =
+        let c : counts (K .h) (K .t) (getD s₁ 0 0) (drop 2 s₁) ≡ length (bodies D) =
+        (λ j. counts (K .h) (K .t) (getD (is₁ j) 0 0) (drop 2 (is₁ j))) ∙ counts-rows (K .h) (K .t) 0 D (bodies kept ++ rest) (K .may .sound .wide) in
+        let e : getD s₁ 0 0 * wid ≡ length D * wid = ap (λ (l : List ℕ). getD l 0 0 * wid) is₁ in
+        (omega (arith, e, long₁, K .may .sound .fits), K .may .within, omega (arith, c, K .may .sound .fits, K .may .small))
+
+    -- The rows that `pack_rows` keeps.
+    kept-are : keptRows (K .h) (K .t) (K .column) (K .value) (getD s₁ 0 0) 0 (drop 2 s₁) ≡ rows 0 kept
+    kept-are =
+        (λ j. keptRows (K .h) (K .t) (K .column) (K .value) (getD (is₁ j) 0 0) 0 (drop 2 (is₁ j)))
+        ∙ kept-rows (K .h) (K .t) (K .column) (K .value) 0 0 D (bodies kept ++ rest) (K .may .within) (K .may .sound .wide)
+
+    -- Their words.
+    length-kept : length (rows 0 kept) ≡ length kept * wid
+    length-kept = length-rows (K .h) (K .t) 0 kept (kept-wide (K .column) (K .value) (K .h) (K .t) D (K .may .sound .wide))
+
+    -- Their number.
+    pub many-kept : (m : ℕ) → m * wid ≡ length (keptRows (K .h) (K .t) (K .column) (K .value) (getD s₁ 0 0) 0 (drop 2 s₁)) → m ≡ length kept
+    many-kept m e =
+        let p : 0 < wid = omega arith in
+        eq-of-mul-eq-mul-right wid p m (length kept) (e ∙ ap length kept-are ∙ length-kept)
+
+    module _ (m k : ℕ) (em : m ≡ length kept) (ek : k ≡ length (bodies kept)) where
+      -- The rows and bodies that are kept.
+      abbrev both : List ℕ
+      both = rows 0 kept ++ bodies kept
+
+      -- Their words, with the two counters.
+      length-both : 2 + length both ≡ 2 + m * wid + k
+      length-both = omega (arith, length-append (rows 0 kept) (bodies kept), length-kept, ap (λ (j : ℕ). j * wid) em, ek)
+
+      -- The bodies that are kept move up to the rows that are kept.
+      step-3 : (s₂ s₃ : List ℕ) → s₂ ≡ pasted s₁ 2 (keptRows (K .h) (K .t) (K .column) (K .value) (getD s₁ 0 0) 0 (drop 2 s₁))
+          → s₃ ≡ pasted s₂ (2 + m * wid) (take k (drop (2 + K .n * wid) s₂)) → s₃ ≡ pasted s₁ 2 both
+      step-3 s₂ s₃ e₂ e₃ =
+          let z = kept-sizes m k em ek in
+          let l : 2 ≤ length s₁ = omega (arith, long₁, z) in
+          let lr : 2 + length (rows 0 kept) ≡ 2 + m * wid = omega (arith, length-kept, ap (λ (j : ℕ). j * wid) em) in
+          let f₂ : s₂ ≡ pasted s₁ 2 (rows 0 kept) = e₂ ∙ ap (pasted s₁ 2) kept-are in
+          let at : 2 + K .n * wid ≡ 2 + length D * wid = ap (λ (j : ℕ). 2 + j * wid) n-is in
+          let low : 2 + length D * wid ≤ length (K .ws) = omega (arith, K .may .sound .fits) in
+          let d : drop (2 + K .n * wid) s₂ ≡ bodies kept ++ rest =
+          ap (drop (2 + K .n * wid)) f₂
+          ∙ drop-pasted s₁ (rows 0 kept) 2 (2 + K .n * wid) (omega (arith, lr, z)) l
+          ∙ (λ j. drop (at j) (e₁ j)) ∙ drop-to-pasted (K .ws) (bodies kept) (2 + length D * wid) low in
+          e₃ ∙ (λ j. pasted (f₂ j) (2 + m * wid) (take k (d j)))
+          ∙ ap (pasted (pasted s₁ 2 (rows 0 kept)) (2 + m * wid)) (take-at (bodies kept) rest k (sym ek))
+          ∙ paste-paste s₁ (rows 0 kept) (bodies kept) 2 (2 + m * wid) lr l
+
+      -- Zeros come behind them.
+      step-4 : (s₃ s₄ : List ℕ) → s₃ ≡ pasted s₁ 2 both → s₄ ≡ zeroed s₃ (2 + m * wid + k) (2 + K .n * wid + K .b)
+          → s₄ ≡ length D ∷ (length (bodies D) ∷ (both ++ replicate (length (K .ws) - (2 + m * wid + k)) 0))
+      unfolding zeroed
+      step-4 s₃ s₄ e₃ e₄ =
+          let z = kept-sizes m k em ek in
+          let at : ℕ = 2 + m * wid + k in
+          let end : ℕ = 2 + K .n * wid + K .b in
+          let l : 2 ≤ length s₁ = omega (arith, long₁, z) in
+          let front : take at s₃ ≡ length D ∷ (length (bodies D) ∷ both) =
+          ap (take at) e₃ ∙ take-to-pasted s₁ both 2 at length-both l ∙ ap (λ (r : List ℕ). take 2 r ++ both) is₁ in
+          let e-rows : K .n * wid ≡ length D * wid = ap (λ (j : ℕ). j * wid) n-is in
+          let back : drop end s₃ ≡ replicate (length (K .ws) - end) 0 =
+          ap (drop end) e₃
+          ∙ drop-pasted s₁ both 2 end (omega (arith, length-both, z)) l
+          ∙ ap (drop end) e₁
+          ∙ drop-pasted (K .ws) (bodies kept) (2 + length D * wid) end (omega (arith, e-rows, ek, z)) (omega (arith, K .may .sound .fits))
+          ∙ ap (drop end) (K .may .sound .same)
+          ∙ table-zeros (K .h) (K .t) (length (K .ws)) D (K .may .sound .wide) end (omega (arith, e-rows, b-is)) in
+          let sum : end - at + (length (K .ws) - end) ≡ length (K .ws) - at = omega (arith, z) in
+          e₄ ∙ (λ j. front j ++ (replicate (end - at) 0 ++ back j))
+          ∙ ap (λ (r : List ℕ). length D ∷ (length (bodies D) ∷ (both ++ r)))
+          (replicate-append-replicate (end - at) (length (K .ws) - end) 0 ∙ ap (λ (j : ℕ). replicate {A = ℕ} j 0) sum)
+
+      -- The two counters are written.
+      step-5 : (s₄ : List ℕ) → s₄ ≡ length D ∷ (length (bodies D) ∷ (both ++ replicate (length (K .ws) - (2 + m * wid + k)) 0))
+          → set (set s₄ 0 m) 1 k ≡ encode (length (K .ws)) kept
+      unfolding encode pad
+      step-5 s₄ e₄ =
+          let n-all : 2 + m * wid + k ≡ suc (suc (length both)) = omega (arith, length-both) in
+          ap (λ (r : List ℕ). set (set r 0 m) 1 k) e₄
+          ∙ (λ j. em j ∷ (ek j ∷ (both ++ replicate (length (K .ws) - n-all j) 0)))
+
+      -- What `clear` leaves and answers.
+      pub clear-done : (s₂ s₃ s₄ : List ℕ) → s₂ ≡ pasted s₁ 2 (keptRows (K .h) (K .t) (K .column) (K .value) (getD s₁ 0 0) 0 (drop 2 s₁))
+          → s₃ ≡ pasted s₂ (2 + m * wid) (take k (drop (2 + K .n * wid) s₂)) → s₄ ≡ zeroed s₃ (2 + m * wid + k) (2 + K .n * wid + K .b)
+          → (set (set s₄ 0 m) 1 k ≡ encode (length (K .ws)) kept) × (K .n - m + length kept ≡ length D)
+      clear-done s₂ s₃ s₄ e₂ e₃ e₄ =
+          (step-5 s₄ (step-4 s₃ s₄ (step-3 s₂ s₃ e₂ e₃) e₄), omega (arith, n-is, em, kept-sizes m k em ek))
