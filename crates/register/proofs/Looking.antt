@@ -1,16 +1,16 @@
 -- Look-up by customer and source: the binary search, and whether the record is there. Assumes nothing.
 use Prim.Native.Nat.{ℕ, _+_, _-_, _*_, _/_, _≤_, _<_}
-use mathlib.Core.Path.{_≡_, refl, sym, _∙_}
-use mathlib.Core.Bool.{Bool, true, false, _&&_}
+use mathlib.Core.Path.{_≡_, sym, _∙_}
+use mathlib.Core.Bool.{true, false, _&&_}
 use mathlib.Core.List.{List}
 use native.Mathlib.Omega.{arith}
-use borrow.Author.Tests.{ltb-true, ltb-false, lt-ltb, le-ltb, eq-eqb, ne-eqb}
-use lib.Dec.{ltb, eqb}
+use borrow.Author.Tests.{eq-eqb, ne-eqb}
+use lib.Dec.{eqb}
 use lib.ListN.{length, getD}
 use Rattle.table.proofs.Sounds.{long}
 use Rattle.keyed.specs.Keyed.{samePair, beforePair, ascends}
 use Rattle.keyed.proofs.Orders.{ordered-pairs, same-flip}
-use Rattle.keyed.proofs.Ranks.{rank-within, rank-below, rank-above, holds-not-end, holds-is}
+use Rattle.keyed.proofs.Ranks.{rank-within, rank-below, rank-above, rank-over, rank-under, holds-not-end, holds-is}
 use Rattle.verdict.specs.Records.{Record}
 use Rattle.register.specs.Register.{mostRecords, recordsOf, recordAt, keyOf, placeOf, registerOk}
 use Rattle.register.specs.Calls.{holdsRecord}
@@ -37,19 +37,13 @@ module _ (rs : List Record) (a : ascends keyOf samePair beforePair rs ≡ true) 
 
   -- A record that stands before the pair is below its place.
   pub place-over : (i : ℕ) → i < length rs → beforePair (keyOf (recordAt rs i)) (c, s) ≡ true → i < placeOf c s rs
-  place-over i h t = go (ltb i (placeOf c s rs)) refl
-    where
-      go : (b : Bool) → ltb i (placeOf c s rs) ≡ b → i < placeOf c s rs
-      go true p = ltb-true i (placeOf c s rs) p
-      go false p = absurd (let z : _≡_ {A = ℕ} 0 1 = cc (place-above i (ltb-false i (placeOf c s rs) p) h) in omega arith)
+  unfolding placeOf
+  place-over i h t = rank-over keyOf samePair beforePair ordered-pairs (c, s) rs _ i a h t
 
   -- One that does not is not.
   pub place-under : (i : ℕ) → beforePair (keyOf (recordAt rs i)) (c, s) ≡ false → placeOf c s rs ≤ i
-  place-under i t = go (ltb i (placeOf c s rs)) refl
-    where
-      go : (b : Bool) → ltb i (placeOf c s rs) ≡ b → placeOf c s rs ≤ i
-      go true p = absurd (let z : _≡_ {A = ℕ} 0 1 = cc (place-below i (ltb-true i (placeOf c s rs) p)) in omega arith)
-      go false p = ltb-false i (placeOf c s rs) p
+  unfolding placeOf
+  place-under i t = rank-under keyOf samePair beforePair (c, s) rs _ i t
 
 -- ---- a well-formed register
 

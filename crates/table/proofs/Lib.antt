@@ -8,3 +8,5 @@ pub mod Exact
 pub mod After
 pub mod Keeping
 pub mod Clearing
+pub mod Setting
+pub mod Typed

@@ -1,0 +1,4 @@
+pub mod Turns
+pub mod Rising
+pub mod Passing
+pub mod Judgements

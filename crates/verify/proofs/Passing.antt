@@ -1,0 +1,53 @@
+-- The pass that finds the four indices of a downstream verdict: its turns and its end. Assumes nothing.
+use Prim.Native.Nat.{ℕ, _+_, _-_, _≤_, _<_}
+use mathlib.Core.Path.{_≡_, refl, _∙_}
+use mathlib.Core.List.{List}
+use native.Mathlib.Omega.{arith}
+use lib.ListN.{length}
+use Rattle.types.specs.declared.Hop.{Hop}
+use Rattle.verdict.specs.Hops.{HopFunction, isNotPlus, asAt, up, down, highest, descend}
+use Rattle.verify.specs.declared.Ramps.{Ramps}
+use Rattle.verify.specs.Ramps.{rampsOf, afterUp, afterDown}
+use Rattle.verify.proofs.Turns.{First, first-starts, first-on, first-done, Climb, climb-starts, climb-on, climb-done, highest-on, descend-on}
+use Rattle.verify.proofs.Rising.{upward}
+
+-- The indices of the part of the path from AS(1) to AS(i).
+pub record Passing (hop : HopFunction) (path : List ℕ) (r : Ramps) (i : ℕ) : Type 0 where
+  pub low : 1 ≤ i
+  pub first : First (λ u. isNotPlus (up hop path u)) (length path) (r .u) i
+  pub last : r .v ≡ highest (λ v. isNotPlus (down hop path v)) 1 (i - 1)
+  pub climbed : Climb hop path (length path) (r .k) i
+  pub descended : r .l ≡ descend hop path (i - 1)
+
+-- The pass starts at AS(1).
+pub passes : (hop : HopFunction) (path : List ℕ) → 1 ≤ length path → Passing hop path (record { u = length path + 1; v = 0; k = 1; l = 1 }) 1
+unfolding highest descend
+passes hop path h =
+    record { low = omega arith; first = first-starts _ _ h; last = refl; climbed = climb-starts hop path _ h; descended = refl }
+
+module _ {hop : HopFunction} {path : List ℕ} {r : Ramps} {i : ℕ} (g : Passing hop path r i) where
+  -- The two hops between AS(i) and AS(i + 1).
+  pub passes-on :
+      {x y : Hop} {s t : Ramps} → i < length path
+      → x ≡ hop (asAt path i) (asAt path (i + 1)) → s ≡ afterUp r (length path) i x
+      → y ≡ hop (asAt path (i + 1)) (asAt path i) → t ≡ afterDown s i y
+      → Passing hop path t (i + 1)
+  passes-on h e p f q =
+      rw (q, p, f, e, ← upward hop path i)
+      (record {
+        low = omega arith;
+        first = first-on (g .first) h;
+        last = rw (highest-on (λ v. isNotPlus (down hop path v)) i (g .low), g .last);
+        climbed = climb-on hop path (g .climbed) h;
+        descended = rw (descend-on hop path i (g .low), g .descended);
+      })
+
+  -- At the end of the path they are the whole path's.
+  pub passed : length path ≤ i → r ≡ rampsOf hop path
+  passed h =
+      let z : i ≡ length path = omega (arith, g .first .within) in
+      let p : r .u ≡ rampsOf hop path .u = first-done (g .first) h in
+      let q : r .v ≡ rampsOf hop path .v = g .last ∙ rw z refl in
+      let s : r .k ≡ rampsOf hop path .k = climb-done hop path (g .climbed) h in
+      let t : r .l ≡ rampsOf hop path .l = g .descended ∙ rw z refl in
+      λ j. record { u = p j; v = q j; k = s j; l = t j }
