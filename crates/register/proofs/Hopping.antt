@@ -11,9 +11,9 @@ use Rattle.types.specs.declared.Hop.the-variants.{NoAttestation, ProviderPlus, 
 use Rattle.keyed.specs.Keyed.{samePair, beforePair, ascends}
 use Rattle.keyed.proofs.Orders.{BeforePair, first, second, before-says, before-self}
 use Rattle.verdict.specs.Records.{Record, isIn, hopOf}
-use Rattle.register.specs.Register.{mostRecords, recordsOf, recordAt, keyOf, placeOf, listed, registerOk}
+use Rattle.register.specs.Register.{rises, mostRecords, recordsOf, recordAt, keyOf, placeOf, listed, registerOk}
 use Rattle.register.proofs.Entries.{list-start, length-is, list-is, list-within, customer-is}
-use Rattle.register.proofs.Holding.{sound, ordered}
+use Rattle.register.proofs.Holding.{providers-rise, sound, ordered}
 use Rattle.register.proofs.Looking.{place-within, place-below, place-above, place-under, count-is, few, row-in}
 use Rattle.register.proofs.Uniting.{Lists, attests, none-attests, listed-united, none-united}
 
@@ -111,6 +111,10 @@ module _ {ws : List ℕ} {place x y n i : ℕ} (b : Passing ws place x y n i) wh
           (λ q. take (z q) (drop (2 + n * 4 + u) ws))
           ∙ (λ q. take (length-of q) (drop (2 + b .counted q * 4 + start-of q) ws))
           ∙ list-is ws (sound ws (b .ok)) i inside
+
+      -- It ascends.
+      pub list-ascends : rises (take (2 + n * 4 + u + v - (2 + n * 4 + u)) (drop (2 + n * 4 + u) ws)) ≡ true
+      list-ascends = rw list-of (providers-rise ws (b .ok) i inside)
 
       module _ (e : getD ws (2 + i * 4) 0 ≡ x) where
         -- Record i is x's and its list holds y.

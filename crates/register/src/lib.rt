@@ -26,6 +26,9 @@ const MOST_PROVIDERS: usize = 256;
 
 const LAST_SOURCE: u32 = 7;
 
+// The longest list that is scanned.
+const SHORT: usize = 16;
+
 // A row of the register ends with its count.
 const NO_TAIL: [u32; 0] = [0u32; 0];
 
@@ -163,7 +166,7 @@ fn is_at(reg: &[u32], place: usize, customer: u32, source: u32) -> bool
     false
 }
 
-fn contains(list: &[u32], y: u32) -> bool
+fn scan(list: &[u32], y: u32) -> bool
     ensures { λ r. ⌜ r ≡ isIn y (now (list .entry)) ⌝ }
 {
     let mut i: usize = 0;
@@ -174,6 +177,37 @@ fn contains(list: &[u32], y: u32) -> bool
         i += 1;
     }
     false
+}
+
+fn halve(list: &[u32], y: u32) -> bool
+    requires { ⌜ rises (now list) ≡ true ⌝ }
+    ensures { λ r. ⌜ r ≡ isIn y (now (list .entry)) ⌝ }
+{
+    let mut low: usize = 0;
+    let mut high = list.len();
+    while low < high {
+        let middle = low + (high - low) / 2;
+        if list[middle] < y {
+            low = middle + 1;
+        } else {
+            high = middle;
+        }
+    }
+    if low < list.len() {
+        return list[low] == y;
+    }
+    false
+}
+
+// A short list is scanned, a long one halved.
+fn contains(list: &[u32], y: u32) -> bool
+    requires { ⌜ rises (now list) ≡ true ⌝ }
+    ensures { λ r. ⌜ r ≡ isIn y (now (list .entry)) ⌝ }
+{
+    if list.len() <= SHORT {
+        return scan(list, y);
+    }
+    halve(list, y)
 }
 
 // The hop from x to y, where x's records begin at a place that `find` answered.

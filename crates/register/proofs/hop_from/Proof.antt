@@ -5,7 +5,7 @@ use mathlib.Core.Logic.{⊎-elim}
 use Prim.Native.Nat.{_-_}
 use native.Mathlib.Omega.{arith}
 use Rattle.register.proofs.Looking.{head-within}
-use Rattle.register.proofs.Hopping.{Passing, starts, row-of, list-in, holds-it, passes, none-left, others-left, no-holder, no-record}
+use Rattle.register.proofs.Hopping.{Passing, starts, row-of, list-in, list-ascends, holds-it, passes, none-left, others-left, no-holder, no-record}
 use Rattle.register.proofs.hop_from.Statement.{statement}
 use Rattle.register.proofs.hop_from.Tie as tie
 
@@ -74,7 +74,9 @@ part-contains-end c =
     omega (arith, list-in (l .before .loop .inv) (l .loop-test .left) (c .before .word2 .ensures .0) (c .word3 .ensures .0))
 
 contains-requires : tie.Need-contains-requires Inv-loop μ-loop
-contains-requires c κs = search needs
+contains-requires c κs =
+    let l = c .before .before .before .before .before in
+    list-ascends (l .before .loop .inv) (l .loop-test .left) (c .before .before .word2 .ensures .0) (c .before .word3 .ensures .0)
 
 returns : tie.Need-returns Inv-loop μ-loop
 returns c =

@@ -1,4 +1,4 @@
--- `register::contains` meets its contract. Assumes nothing.
+-- `register::scan` meets its contract. Assumes nothing.
 use borrow.Author.Needs.{needs}
 use mathlib.Core.Path.{_≡_, refl, sym, _∙_}
 use Prim.Native.Nat.{_-_, _≤_}
@@ -6,8 +6,8 @@ use native.Mathlib.Omega.{arith}
 use lib.ListN.{length, drop}
 use Rattle.verdict.specs.Records.{isIn}
 use Rattle.register.proofs.Uniting.{found, passed, ended}
-use Rattle.register.proofs.contains.Statement.{statement}
-use Rattle.register.proofs.contains.Tie as tie
+use Rattle.register.proofs.scan.Statement.{statement}
+use Rattle.register.proofs.scan.Tie as tie
 
 abbrev Inv-loop : tie.InvT-loop
 Inv-loop list y i₀ i = (i ≤ length list) × (isIn y (drop i list) ≡ isIn y list)
@@ -45,8 +45,8 @@ loop-again c =
 returns-2 : tie.Need-returns-2 Inv-loop μ-loop
 returns-2 c = let a = c .before .before .args in sym (ended (a .y) (a .list .now) (c .before .loop .i) (c .loop-test .left)) ∙ c .before .loop .inv .1
 
-pub contains-spec : {M : Type 1} → statement M
-contains-spec =
+pub scan-spec : {M : Type 1} → statement M
+scan-spec =
     tie.close
     (tie.spec
     Inv-loop
