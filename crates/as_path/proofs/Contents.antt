@@ -1,21 +1,27 @@
 -- What an attribute is read as, case by case. Assumes nothing.
 use Prim.Native.Nat.{ℕ, _≤_, _<_}
-use mathlib.Core.Path.{_≡_, refl}
+use mathlib.Core.Path.{_≡_, refl, sym, _∙_}
+use mathlib.Core.Bool.{Bool, true, false}
 use mathlib.Core.List.{List}
 use native.Mathlib.Omega.{arith}
-use borrow.Author.Tests.{lt-ltb, le-ltb}
+use borrow.Author.Tests.{lt-ltb, le-ltb, ltb-true, ltb-false}
+use lib.Dec.{ltb}
 use lib.ListN.{length}
 use Rattle.types.specs.declared.Ground.{Ground}
 use Rattle.types.specs.declared.Fault.{Fault}
 use Rattle.types.specs.declared.Refusal.the-variants.{PathLength}
 use Rattle.as_path.specs.declared.Reading.the-variants.{Path, Refused}
+use Rattle.as_path.specs.declared.Scan.{Scan}
 use Rattle.as_path.specs.declared.Scan.the-variants.{Clean, Faulty}
+use Rattle.types.specs.declared.Ground.the-variants.{Empty}
+use Rattle.as_path.specs.declared.Grounded.{Grounded}
 use Rattle.as_path.specs.declared.Grounded.the-variants.{By, Not}
 use Rattle.as_path.specs.Segments.{segments}
 use Rattle.as_path.specs.Faults.{firstFault}
 use Rattle.as_path.specs.Grounds.{groundOf}
 use Rattle.as_path.specs.Merging.{mergedPath}
-use Rattle.as_path.specs.Reading.{mostNumbers, Stored, faulty, grounded, merged, contentOf, readingOf}
+use Rattle.as_path.specs.Reading.{mostNumbers, Stored, faulty, grounded, merged, afterGround, afterScan, contentOf, readingOf}
+use Rattle.as_path.proofs.Grounding.{ground-empty}
 
 module _ (role : ℕ) (neighbour : ℕ) (xs : List ℕ) where
   pub content-faulty : {f : Fault} {p : ℕ} → firstFault 4 xs ≡ Faulty f p → contentOf role neighbour xs ≡ faulty f p
@@ -40,3 +46,32 @@ module _ {before l after : List ℕ} {n : ℕ} (s : Stored before 0 l after n) w
   short-enough h =
       let e' : n ≡ length l = omega (arith, s .index) in
       rw (e', le-ltb mostNumbers (length l) (omega arith))
+
+clash {ℓ} : {X : Type ℓ} → _≡_ {A = ℕ} 0 1 → X
+clash z = absurd (omega arith)
+
+-- What a merged path shows: no fault, at least a byte, and which path it is.
+pub record Merged (xs l : List ℕ) : Type 0 where
+  pub clean : firstFault 4 xs ≡ Clean
+  pub some : 0 < length xs
+  pub same : l ≡ mergedPath (segments 4 xs)
+
+pub merged-means : (role neighbour : ℕ) (xs l : List ℕ) → contentOf role neighbour xs ≡ merged l → Merged xs l
+unfolding contentOf
+merged-means role neighbour xs l = scan (firstFault 4 xs) refl
+  where
+    empty-is : ltb 0 (length xs) ≡ false → length xs ≡ 0
+    empty-is t = let h : length xs ≤ 0 = ltb-false 0 (length xs) t in omega arith
+
+    bytes : groundOf role neighbour (segments 4 xs) ≡ Not → (b : Bool) → ltb 0 (length xs) ≡ b → 0 < length xs
+    bytes g true t = ltb-true 0 (length xs) t
+    bytes g false t = clash (let z : By Empty ≡ Not = ground-empty 4 xs role neighbour (empty-is t) ∙ g in cc)
+
+    ground : firstFault 4 xs ≡ Clean → (g : Grounded) → groundOf role neighbour (segments 4 xs) ≡ g
+        → afterGround g (mergedPath (segments 4 xs)) ≡ merged l → Merged xs l
+    ground f (By g) e h = clash (cc)
+    ground f Not e h = record { clean = f; some = bytes e (ltb 0 (length xs)) refl; same = cc }
+
+    scan : (s : Scan) → firstFault 4 xs ≡ s → afterScan s (afterGround (groundOf role neighbour (segments 4 xs)) (mergedPath (segments 4 xs))) ≡ merged l → Merged xs l
+    scan Clean e h = ground e (groundOf role neighbour (segments 4 xs)) refl h
+    scan (Faulty f p) e h = clash (cc)

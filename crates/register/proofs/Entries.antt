@@ -10,7 +10,6 @@ use Rattle.table.proofs.Typed
 use Rattle.table.proofs.Typed.{Typing, no-words}
 use Rattle.verdict.specs.Records.{Record}
 use Rattle.register.specs.Register.{registerWords, mostRecords, mostBodyWords, recordOf, entryOf, recordsOf, wordsOf, recordAt, listed}
-pub use Rattle.table.proofs.Typed.{take-map}
 
 -- ---- entries and records
 

@@ -1,52 +1,41 @@
 -- What an accepted call makes of the records, in the table's terms: an insertion, a replacement, a removal at a place. Assumes nothing.
-use Prim.Native.Nat.{ℕ, zero, suc, _+_, _*_, _≤_, _<_}
-use mathlib.Core.Path.{_≡_, refl, sym, _∙_, ap}
-use mathlib.Core.Bool.{Bool, true, false}
-use mathlib.Core.List.{List, [], _∷_, _++_, map, map-append}
+use Prim.Native.Nat.{ℕ, suc, _+_, _<_}
+use mathlib.Core.Path.{_≡_, sym, _∙_, ap}
+use mathlib.Core.Bool.{true, false}
+use mathlib.Core.List.{List, [], _∷_, _++_, map}
 use native.Mathlib.Omega.{arith}
-use native.Mathlib.Nat.{add-assoc}
-use lib.ListN.{length, getD, take, drop}
+use lib.ListN.{length, take, drop}
 use lib.Seq.{split-at}
-use Rattle.table.specs.Table.{Entry, insertAt, removeAt}
-use Rattle.keyed.specs.Keyed.{samePair, beforePair, ascends, holds, rank, put, without}
+use Rattle.table.specs.Table.{insertAt, removeAt}
+use Rattle.table.proofs.Typed
+use Rattle.keyed.specs.Keyed.{samePair, beforePair, ascends}
 use Rattle.keyed.proofs.Orders.{ordered-pairs}
 use Rattle.keyed.proofs.Ranks.{holds-at}
 use Rattle.keyed.proofs.Puts.{put-new, put-over, erase-at}
 use Rattle.verdict.specs.Records.{Record}
 use Rattle.register.specs.Register.{entryOf, recordAt, keyOf, listed, placeOf}
 use Rattle.register.specs.Calls.{holdsRecord, putRecord, eraseRecord}
-use Rattle.register.proofs.Entries.{take-map}
+use Rattle.register.proofs.Entries.{bodies-listed}
 
-drop-map : {A B : Type 0} (f : A → B) (i : ℕ) (l : List A) → drop i (map f l) ≡ map f (drop i l)
-drop-map f zero l = refl
-drop-map f (suc i) [] = refl
-drop-map f (suc i) (x ∷ l) = drop-map f i l
-
+-- The numbers in two rows of lists.
 pub listed-append : (rs ss : List Record) → listed (rs ++ ss) ≡ listed rs + listed ss
 unfolding listed
 listed-append [] ss = omega arith
 listed-append (r ∷ rs) ss = omega (arith, listed-append rs ss)
 
--- Records before a place, one record, and records from a place on: as entries, and how many numbers they list.
+-- Records before a place, one record, and records from a place on: as entries.
 pub inserted-entries : (i : ℕ) (r : Record) (rs : List Record) → insertAt i (entryOf r) (map entryOf rs) ≡ map entryOf (take i rs ++ (r ∷ drop i rs))
-unfolding insertAt
-inserted-entries i r rs = (λ q. take-map entryOf i rs q ++ (entryOf r ∷ drop-map entryOf i rs q)) ∙ sym (map-append entryOf (take i rs) (r ∷ drop i rs))
+inserted-entries = Typed.inserted-entries entryOf
 
+-- Records before a place, and records behind it: as entries.
 pub removed-entries : (i : ℕ) (rs : List Record) → removeAt i (map entryOf rs) ≡ map entryOf (take i rs ++ drop (suc i) rs)
-unfolding removeAt
-removed-entries i rs = (λ q. take-map entryOf i rs q ++ drop-map entryOf (suc i) rs q) ∙ sym (map-append entryOf (take i rs) (drop (suc i) rs))
+removed-entries = Typed.removed-entries entryOf
 
 -- The numbers in all lists are those before a place, at it and behind it.
 pub listed-at : (i : ℕ) (rs : List Record) → i < length rs
     → listed rs ≡ listed (take i rs) + (length (recordAt rs i .providers) + listed (drop (suc i) rs))
 unfolding listed
 listed-at i rs h = ap listed (split-at rs i (record { customer = 0; source = 0; providers = [] }) h) ∙ listed-append (take i rs) (recordAt rs i ∷ drop (suc i) rs)
-
-listed-split : (i : ℕ) (rs : List Record) → listed (take i rs) + listed (drop i rs) ≡ listed rs
-unfolding listed
-listed-split zero rs = omega arith
-listed-split (suc i) [] = refl
-listed-split (suc i) (r ∷ rs) = omega (arith, listed-split i rs)
 
 module _ (r : Record) (rs : List Record) where
   module _ (free : holdsRecord (r .customer) (r .source) rs ≡ false) where
@@ -55,12 +44,9 @@ module _ (r : Record) (rs : List Record) where
     put-at = put-new keyOf samePair beforePair ordered-pairs r rs free
 
     pub listed-new : listed (putRecord r rs) ≡ listed rs + length (r .providers)
-    unfolding listed
     listed-new =
-        let p = placeOf (r .customer) (r .source) rs in
-        let e : listed (putRecord r rs) ≡ listed (take p rs) + (length (r .providers) + listed (drop p rs)) =
-        ap listed put-at ∙ listed-append (take p rs) (r ∷ drop p rs) in
-        omega (arith, e, listed-split p rs)
+        let e = ap (Typed.bodied entryOf) put-at ∙ Typed.bodied-inserted entryOf (placeOf (r .customer) (r .source) rs) r rs in
+        sym (bodies-listed (putRecord r rs)) ∙ e ∙ ap (λ n. n + length (r .providers)) (bodies-listed rs)
 
   module _ (asc : ascends keyOf samePair beforePair rs ≡ true) (taken : holdsRecord (r .customer) (r .source) rs ≡ true) where
     pub put-in-place : putRecord r rs ≡ take (placeOf (r .customer) (r .source) rs) rs ++ (r ∷ drop (suc (placeOf (r .customer) (r .source) rs)) rs)

@@ -19,7 +19,7 @@ use Rattle.types.specs.declared.Removal.the-variants as removal
 use Rattle.types.specs.declared.Cleared.{Cleared}
 use Rattle.types.specs.declared.Cleared.the-variants as cleared
 use Rattle.types.specs.Rows.{rowIf, firstGiven, Step, unlessRefused}
-use Rattle.types.proofs.Refusing.{FirstAt, row-passed, accepted-none, answers-first, refusal-leaves, Numbered, numbered}
+use Rattle.types.proofs.Refusing.{FirstAt, row-passed, accepted-none, answers-first, refusal-leaves, Numbered, numbered, removal-apart, removal-same}
 use Rattle.table.proofs.Exact.{length-encode}
 use Rattle.keyed.specs.Keyed.{samePair}
 use Rattle.verdict.specs.Records.{Record}
@@ -36,12 +36,6 @@ filed-apart false r e = let z : _≡_ {A = ℕ} 0 1 = cc in omega arith
 
 filed-same : (r s : Refusal) → filed.Refused r ≡ filed.Refused s → r ≡ s
 filed-same r s e = cc
-
-removal-apart : (r : Refusal) → removal.Done ≡ removal.Refused r → ⊥
-removal-apart r e = let z : _≡_ {A = ℕ} 0 1 = cc in omega arith
-
-removal-same : (r s : Refusal) → removal.Refused r ≡ removal.Refused s → r ≡ s
-removal-same r s e = cc
 
 cleared-apart : (n : ℕ) (r : Refusal) → cleared.Gone n ≡ cleared.Refused r → ⊥
 cleared-apart n r e = let z : _≡_ {A = ℕ} 0 1 = cc in omega arith

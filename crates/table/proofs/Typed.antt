@@ -1,14 +1,14 @@
 -- Tables of records: what each word says of the records whose entries a table holds. Assumes nothing.
 use mathlib.Core.Path.{_≡_, refl, sym, ap, _∙_}
 use mathlib.Core.Bool.{true}
-use mathlib.Core.List.{List, [], _∷_, map}
+use mathlib.Core.List.{List, [], _∷_, _++_, map, map-append}
 use Prim.Native.Nat.{ℕ, zero, suc, _+_, _*_, _≤_, _<_}
 use native.Mathlib.Omega.{arith}
 use native.Mathlib.Nat.{add-zero}
 use lib.ListN.{length, take, drop, getD, length-append, length-map, List·getD-map}
-use Rattle.table.specs.Table.{Entry, width, bodies, encode, decode, Wide, Sound, startOf, wellFormed}
+use Rattle.table.specs.Table.{Entry, width, bodies, encode, decode, insertAt, removeAt, Wide, Sound, startOf, wellFormed}
 use Rattle.table.proofs.Sounds.{blank, nth, count-is, body-is, in-row, wide-at, start-is, row-count-is, head-is, part-is}
-use Rattle.table.proofs.Exact.{decode-encode, encode-passes}
+use Rattle.table.proofs.Exact.{decode-encode, length-encode, encode-passes}
 
 -- Records are written as entries of h head words and t tail words, and read back.
 pub record Typing {R : Type 0} (h t : ℕ) (toEntry : R → Entry) (ofEntry : Entry → R) : Type 0 where
@@ -21,6 +21,12 @@ pub take-map : {A B : Type 0} (f : A → B) (i : ℕ) (l : List A) → take i (m
 take-map f zero l = refl
 take-map f (suc i) [] = refl
 take-map f (suc i) (x ∷ l) = ap (λ k. f x ∷ k) (take-map f i l)
+
+-- The others, mapped before or after the first ones are dropped.
+drop-map : {A B : Type 0} (f : A → B) (i : ℕ) (l : List A) → drop i (map f l) ≡ map f (drop i l)
+drop-map f zero l = refl
+drop-map f (suc i) [] = refl
+drop-map f (suc i) (x ∷ l) = drop-map f i l
 
 -- No words.
 pub no-words : (l : List ℕ) → length l ≡ 0 → l ≡ []
@@ -61,6 +67,34 @@ module _ {R : Type 0} (toEntry : R → Entry) where
         length-append (toEntry r .body) (bodies (map toEntry rs)),
       )
 
+  -- A record put in at a place adds its own body.
+  pub bodied-inserted : (i : ℕ) (r : R) (rs : List R) → bodied (take i rs ++ (r ∷ drop i rs)) ≡ bodied rs + length (toEntry r .body)
+  unfolding bodies
+  bodied-inserted zero r rs = omega (arith, length-append (toEntry r .body) (bodies (map toEntry rs)))
+  bodied-inserted (suc i) r [] = omega (arith, length-append (toEntry r .body) [])
+  bodied-inserted (suc i) r (x ∷ rs) =
+      omega (
+        arith,
+        bodied-inserted i r rs,
+        length-append (toEntry x .body) (bodies (map toEntry (take i rs ++ (r ∷ drop i rs)))),
+        length-append (toEntry x .body) (bodies (map toEntry rs)),
+      )
+
+  -- ---- a record put in or taken out at a place, as entries
+
+  -- The entry of a record goes in among those of others.
+  pub inserted-entries : (i : ℕ) (r : R) (rs : List R)
+      → insertAt i (toEntry r) (map toEntry rs) ≡ map toEntry (take i rs ++ (r ∷ drop i rs))
+  unfolding insertAt
+  inserted-entries i r rs =
+      (λ q. take-map toEntry i rs q ++ (toEntry r ∷ drop-map toEntry i rs q)) ∙ sym (map-append toEntry (take i rs) (r ∷ drop i rs))
+
+  -- The entry of record i goes out.
+  pub removed-entries : (i : ℕ) (rs : List R) → removeAt i (map toEntry rs) ≡ map toEntry (take i rs ++ drop (suc i) rs)
+  unfolding removeAt
+  removed-entries i rs =
+      (λ q. take-map toEntry i rs q ++ drop-map toEntry (suc i) rs q) ∙ sym (map-append toEntry (take i rs) (drop (suc i) rs))
+
 -- ---- entries and records
 
 module _ {R : Type 0} {h t : ℕ} {toEntry : R → Entry} {ofEntry : Entry → R} (T : Typing h t toEntry ofEntry) where
@@ -89,6 +123,10 @@ module _ {R : Type 0} {h t : ℕ} {toEntry : R → Entry} {ofEntry : Entry → R
     -- What is written is read back.
     pub records-of-words : map ofEntry (decode h t (encode size (map toEntry rs))) ≡ rs
     records-of-words = ap (map ofEntry) (decode-encode h t size (map toEntry rs) (entries-wide rs) entries-fit) ∙ records-are rs
+
+    -- What is written has the size that it is to have.
+    pub words-long : length (encode size (map toEntry rs)) ≡ size
+    words-long = length-encode h t size (map toEntry rs) (entries-wide rs) entries-fit
 
     -- What is written is well-formed.
     pub words-formed : wellFormed h t (encode size (map toEntry rs)) ≡ true

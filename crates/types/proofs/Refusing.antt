@@ -7,6 +7,7 @@ use mathlib.Core.Option.{Option, none, some}
 use native.Mathlib.Omega.{arith}
 use lib.ListN.{length, getD}
 use Rattle.types.specs.declared.Refusal.{Refusal}
+use Rattle.types.specs.declared.Removal.the-variants as removal
 use mathlib.Core.Logic.{_↔_}
 use Rattle.types.specs.Numbers.{refusalNumber}
 use Rattle.types.specs.Rows.{rowIf, orElse, firstGiven, Step, unlessRefused}
@@ -109,3 +110,11 @@ numbered b s r e = ap refusalNumber (sym (row-given b s r e .1))
 -- A step's answer and words.
 pub parts : {A : Type 0} {s : Step A} {a : A} {ws : List ℕ} → s ≡ record { answer = a; words = ws } → (a ≡ s .answer) × (ws ≡ s .words)
 parts e = (sym (ap (λ s. s .answer) e), sym (ap (λ s. s .words) e))
+
+-- A refusal to remove is told from an acceptance.
+pub removal-apart : (r : Refusal) → removal.Done ≡ removal.Refused r → ⊥
+removal-apart r e = let z : _≡_ {A = ℕ} 0 1 = cc in omega arith
+
+-- And from every other refusal.
+pub removal-same : (r s : Refusal) → removal.Refused r ≡ removal.Refused s → r ≡ s
+removal-same r s e = cc

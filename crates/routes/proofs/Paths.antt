@@ -1,0 +1,52 @@
+-- A path without zeros: each turn of the loop over it, and the tests of a path. Assumes nothing.
+use Prim.Native.Nat.{ℕ, _+_, _≤_, _<_}
+use mathlib.Core.Path.{_≡_}
+use mathlib.Core.Bool.{true, false, _||_}
+use mathlib.Core.List.{List, []}
+use native.Mathlib.Numerals.{add-one}
+use borrow.Author.Tests.{le-leb, lt-leb, eq-eqb, ne-eqb}
+use lib.Dec.{eqb}
+use lib.ListN.{length, getD, drop, drop-of-length-le}
+use lib.Seq.{drop-cons}
+use Rattle.types.specs.Roles.{isRouteServer}
+use Rattle.as_path.specs.Reading.{mostNumbers}
+use Rattle.routes.specs.Routes.{noZero, pathOk}
+
+module _ (l : List ℕ) (i : ℕ) (same : noZero (drop i l) ≡ noZero l) where
+  -- A zero: the way out.
+  pub zero-there : i < length l → getD l i 0 ≡ 0 → false ≡ noZero l
+  unfolding noZero
+  zero-there h e = rw (drop-cons l i 0 h, eq-eqb (getD l i 0) 0 e) at same
+
+  -- One number more.
+  pub zeros-on : i < length l → (getD l i 0 ≡ 0 → ⊥) → noZero (drop (i + 1) l) ≡ noZero l
+  unfolding noZero
+  zeros-on h e = rw (add-one i) (rw (drop-cons l i 0 h, ne-eqb (getD l i 0) 0 e) at same)
+
+  -- No number is left.
+  pub zeros-none : length l ≤ i → true ≡ noZero l
+  unfolding noZero
+  zeros-none h = rw (drop-of-length-le l h) at same
+
+module _ (role neighbour : ℕ) (l : List ℕ) where
+  -- No number.
+  pub path-empty : length l < 1 → false ≡ pathOk role neighbour l
+  unfolding pathOk
+  path-empty h = rw (lt-leb 1 (length l) h)
+
+  module _ (h : 1 ≤ length l) where
+    -- Too many numbers.
+    pub path-long : mostNumbers < length l → false ≡ pathOk role neighbour l
+    unfolding pathOk
+    path-long k = rw (le-leb 1 (length l) h, lt-leb (length l) mostNumbers k)
+
+    module _ (k : length l ≤ mostNumbers) where
+      -- A zero among them.
+      pub path-zero : noZero l ≡ false → false ≡ pathOk role neighbour l
+      unfolding pathOk
+      path-zero e = rw (le-leb 1 (length l) h, le-leb (length l) mostNumbers k, e)
+
+      -- Otherwise the role or the first number decides.
+      pub path-first : noZero l ≡ true → (isRouteServer role || eqb (getD l 0 0) neighbour) ≡ pathOk role neighbour l
+      unfolding pathOk
+      path-first e = rw (le-leb 1 (length l) h, le-leb (length l) mostNumbers k, e)
