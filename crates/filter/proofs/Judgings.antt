@@ -1,0 +1,188 @@
+-- A route judged: what the reader answers is the content, and each way through Judge is its definition. Assumes nothing.
+use Prim.Native.Nat.{ℕ, _+_, _≤_, _<_}
+use mathlib.Core.Path.{_≡_, refl, sym, _∙_, ap}
+use mathlib.Core.Bool.{Bool, true, false, not, cond}
+use mathlib.Core.List.{List, [], _∷_, _++_}
+use mathlib.Core.Option.{none, some}
+use native.Mathlib.Omega.{arith}
+use borrow.Author.Tests.{eq-eqb, ne-eqb, lt-ltb, le-ltb, ltb-false}
+use lib.Dec.{ltb, eqb}
+use lib.ListN.{length, take, drop}
+use lib.Seq.{sets, sets-eq, take-at}
+use Rattle.types.specs.declared.Role.{Role}
+use Rattle.types.specs.declared.RoleRead.{RoleRead}
+use Rattle.types.specs.declared.RoleRead.the-variants.{Is, Nothing}
+use Rattle.types.specs.declared.Ground.{Ground}
+use Rattle.types.specs.declared.Cause.the-variants.{ByGround}
+use Rattle.types.specs.declared.Verdict.the-variants.{Invalid}
+use Rattle.types.specs.declared.Answer.the-variants.{Plain}
+use Rattle.types.specs.declared.Refusal.{Refusal}
+use Rattle.types.specs.declared.Refusal.the-variants.{TableLength, RegisterMalformed, RoleNumber, NeighbourZero, AttributeLength, PathLength}
+use Rattle.types.specs.declared.Judged.{Judged}
+use Rattle.types.specs.declared.Judged.the-variants.{Answered, Refused}
+use Rattle.types.specs.Numbers.{roleNumber, roleOf}
+use Rattle.types.specs.Roles.{isRole}
+use Rattle.types.specs.Rows.{firstGiven}
+use Rattle.types.proofs.RoleNumbers.{Names, role-named, role-none}
+use Rattle.as_path.specs.declared.Reading.the-variants as reading
+use Rattle.as_path.specs.Reading.{mostNumbers, Content, faulty, grounded, merged, contentOf, readingOf, bufferAfter}
+use Rattle.as_path.proofs.Contents.{Merged, merged-means}
+use Rattle.as_path.proofs.MergedPaths.{merged-first}
+use Rattle.verdict.specs.Hops.{HopFunction}
+use Rattle.verdict.specs.Verdicts.{judged}
+use Rattle.verdict.specs.Judging.{mostBytes, argumentRows, answerTo, judgedRoute}
+use Rattle.register.specs.Register.{registerWords, registerOk}
+use Rattle.filter.specs.declared.Known.{Known}
+use Rattle.filter.specs.declared.Known.the-variants as known
+use Rattle.filter.specs.Known.{afterRole, knownFrom}
+use Rattle.filter.specs.Calls.{hopIn, judgeAnswer}
+
+clash {ℓ} : {X : Type ℓ} → _≡_ {A = ℕ} 0 1 → X
+clash z = absurd (omega arith)
+
+-- ---- what was read
+
+-- A ground was read.
+pub read-grounded : (k : Content) (g : Ground) → readingOf k ≡ reading.OnGround g → k ≡ grounded g
+read-grounded (faulty f p) g e = clash (cc)
+read-grounded (grounded g') g e = ap grounded (cc)
+read-grounded (merged l) g e = go (ltb mostNumbers (length l)) e
+  where
+    go : (b : Bool) → cond b (reading.Refused PathLength) (reading.Path (length l)) ≡ reading.OnGround g → merged l ≡ grounded g
+    go true h = clash (cc)
+    go false h = clash (cc)
+
+module _ (hop : HopFunction) (role : ℕ) where
+  -- A refused reading is a refused judging.
+  pub read-refused : (k : Content) (r : Refusal) → readingOf k ≡ reading.Refused r → Refused r ≡ answerTo hop role k
+  read-refused (faulty f p) r e = cc
+  read-refused (grounded g) r e = clash (cc)
+  read-refused (merged l) r e = go (ltb mostNumbers (length l)) e
+    where
+      go : (b : Bool) → cond b (reading.Refused PathLength) (reading.Path (length l)) ≡ reading.Refused r
+          → Refused r ≡ cond b (Refused PathLength) (Answered (judged hop l role))
+      go true h = cc
+      go false h = clash (cc)
+
+  -- A ground is Invalid.
+  pub read-ground : (k : Content) (g : Ground) → readingOf k ≡ reading.OnGround g → Answered (Plain (Invalid (ByGround g))) ≡ answerTo hop role k
+  read-ground k g e = rw (read-grounded k g e)
+
+-- A path of n numbers was read: they are a merged path, and few enough.
+pub record PathRead (k : Content) (n : ℕ) : Type 0 where
+  pub path : List ℕ
+  pub is : k ≡ merged path
+  pub long : length path ≡ n
+  pub few : n ≤ mostNumbers
+
+pub read-path : (k : Content) (n : ℕ) → readingOf k ≡ reading.Path n → PathRead k n
+read-path (faulty f p) n e = clash (cc)
+read-path (grounded g) n e = clash (cc)
+read-path (merged l) n e = go (ltb mostNumbers (length l)) refl e
+  where
+    go : (b : Bool) → ltb mostNumbers (length l) ≡ b
+        → cond b (reading.Refused PathLength) (reading.Path (length l)) ≡ reading.Path n → PathRead (merged l) n
+    go true t h = clash (cc)
+    go false t h =
+        let z : length l ≡ n = cc in
+        record { path = l; is = refl; long = z; few = omega (arith, ltb-false mostNumbers (length l) t) }
+
+-- The path in the buffer, and that it is judged.
+module _ (role neighbour : ℕ) (xs : List ℕ) {n : ℕ} (p : PathRead (contentOf role neighbour xs) n) where
+  pub some-numbers : 1 ≤ n
+  some-numbers =
+      let m = merged-means role neighbour xs (p .path) (p .is) in
+      let f : 0 < length (p .path) = rw (m .same) (merged-first 4 xs (m .clean) (m .some) .0) in
+      omega (arith, p .long)
+
+  pub in-buffer : (buffer after : List ℕ) → mostNumbers ≤ length buffer → after ≡ bufferAfter (contentOf role neighbour xs) buffer → take n after ≡ p .path
+  in-buffer buffer after h e =
+      ap (take n) (e ∙ ap (λ k. bufferAfter k buffer) (p .is) ∙ sets-eq (p .path) buffer 0 (omega (arith, p .long, p .few)))
+      ∙ take-at (p .path) (drop (0 + length (p .path)) buffer) n (p .long)
+
+  pub path-judged : (hop : HopFunction) → Answered (judged hop (p .path) role) ≡ answerTo hop role (contentOf role neighbour xs)
+  path-judged hop = rw (p .is, le-ltb mostNumbers (length (p .path)) (omega (arith, p .long, p .few)))
+
+-- ---- rows 9, 10 and 11
+
+module _ (role neighbour : ℕ) (xs : List ℕ) where
+  pub know-none : roleOf role ≡ Nothing → known.Refused RoleNumber ≡ knownFrom role neighbour xs
+  know-none e = rw e
+
+  module _ {k : Role} (e : roleOf role ≡ Is k) where
+    pub know-neighbour : neighbour ≡ 0 → known.Refused NeighbourZero ≡ knownFrom role neighbour xs
+    know-neighbour z = rw (e, eq-eqb neighbour 0 z)
+
+    module _ (some : neighbour ≡ 0 → ⊥) where
+      pub know-length : mostBytes < length xs → known.Refused AttributeLength ≡ knownFrom role neighbour xs
+      know-length h = rw (e, ne-eqb neighbour 0 some, lt-ltb mostBytes (length xs) h)
+
+      pub know-role : length xs ≤ mostBytes → known.Role k ≡ knownFrom role neighbour xs
+      know-role h = rw (e, ne-eqb neighbour 0 some, le-ltb mostBytes (length xs) h)
+
+  -- A refusal is the first of the three rows.
+  pub known-refused : (r : Refusal) → knownFrom role neighbour xs ≡ known.Refused r → firstGiven (argumentRows role neighbour xs) ≡ some r
+  unfolding firstGiven
+  known-refused r = go (roleOf role) refl
+    where
+      last : (a b : Bool) (k : Role) → isRole role ≡ true → eqb neighbour 0 ≡ a → ltb mostBytes (length xs) ≡ b
+          → cond a (known.Refused NeighbourZero) (cond b (known.Refused AttributeLength) (known.Role k)) ≡ known.Refused r
+          → firstGiven (argumentRows role neighbour xs) ≡ some r
+      last true b k i p q h = rw (i, p) (ap some (cc))
+      last false true k i p q h = rw (i, p, q) (ap some (cc))
+      last false false k i p q h = clash (cc)
+
+      go : (o : RoleRead) → roleOf role ≡ o → afterRole o neighbour xs ≡ known.Refused r → firstGiven (argumentRows role neighbour xs) ≡ some r
+      go Nothing e h = rw (role-none role e) (ap some (cc))
+      go (Is k) e h = last (eqb neighbour 0) (ltb mostBytes (length xs)) k (role-named role k e .known) refl refl h
+
+  -- A role is known exactly when none of them is given, and has the number given.
+  pub known-role : (k : Role) → knownFrom role neighbour xs ≡ known.Role k → (firstGiven (argumentRows role neighbour xs) ≡ none) × (roleNumber k ≡ role)
+  unfolding firstGiven
+  known-role k = go (roleOf role) refl
+    where
+      last : (a b : Bool) (j : Role) → Names role j → eqb neighbour 0 ≡ a → ltb mostBytes (length xs) ≡ b
+          → cond a (known.Refused NeighbourZero) (cond b (known.Refused AttributeLength) (known.Role j)) ≡ known.Role k
+          → (firstGiven (argumentRows role neighbour xs) ≡ none) × (roleNumber k ≡ role)
+      last true b j i p q h = clash (cc)
+      last false true j i p q h = clash (cc)
+      last false false j i p q h =
+          let z : j ≡ k = cc in
+          (rw (i .known, p, q) refl, ap roleNumber (sym z) ∙ i .number)
+
+      go : (o : RoleRead) → roleOf role ≡ o → afterRole o neighbour xs ≡ known.Role k → (firstGiven (argumentRows role neighbour xs) ≡ none) × (roleNumber k ≡ role)
+      go Nothing e h = clash (cc)
+      go (Is j) e h = last (eqb neighbour 0) (ltb mostBytes (length xs)) j (role-named role j e) refl refl h
+
+-- What rows 9 to 11, and then the reading, make of a judging.
+module _ (hop : HopFunction) (role neighbour : ℕ) (xs : List ℕ) where
+  pub judged-refused : (r : Refusal) → knownFrom role neighbour xs ≡ known.Refused r → judgedRoute hop role neighbour xs ≡ Refused r
+  unfolding judgedRoute
+  judged-refused r e = rw (known-refused role neighbour xs r e)
+
+  pub judged-ready : firstGiven (argumentRows role neighbour xs) ≡ none → judgedRoute hop role neighbour xs ≡ answerTo hop role (contentOf role neighbour xs)
+  unfolding judgedRoute
+  judged-ready e = rw e
+
+  pub judged-known : (k : Role) → knownFrom role neighbour xs ≡ known.Role k
+      → judgedRoute hop role neighbour xs ≡ answerTo hop (roleNumber k) (contentOf (roleNumber k) neighbour xs)
+  unfolding judgedRoute
+  judged-known k e =
+      let p = known-role role neighbour xs k e in
+      rw (p .0, p .1)
+
+-- ---- Judge
+
+module _ (reg : List ℕ) (role neighbour : ℕ) (xs : List ℕ) where
+  pub judge-length : (length reg ≡ registerWords → ⊥) → Refused TableLength ≡ judgeAnswer reg role neighbour xs
+  unfolding judgeAnswer firstGiven
+  judge-length a = rw (ne-eqb (length reg) registerWords a)
+
+  module _ (a : length reg ≡ registerWords) where
+    pub judge-malformed : registerOk reg ≡ false → Refused RegisterMalformed ≡ judgeAnswer reg role neighbour xs
+    unfolding judgeAnswer firstGiven
+    judge-malformed b = rw (eq-eqb (length reg) registerWords a, b)
+
+    pub judge-answers : registerOk reg ≡ true → judgeAnswer reg role neighbour xs ≡ judgedRoute (hopIn reg) role neighbour xs
+    unfolding judgeAnswer firstGiven
+    judge-answers b = rw (eq-eqb (length reg) registerWords a, b)

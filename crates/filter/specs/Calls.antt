@@ -1,0 +1,109 @@
+-- Judge, Keep and Re-judge over the lent tables ("The calls"). File, Withdraw and Clear are the register's, Drop is the ledger's.
+use Prim.Native.Nat.{ℕ}
+use mathlib.Core.Path.{_≡_}
+use mathlib.Core.Bool.{Bool, true, not, _&&_}
+use mathlib.Core.List.{List, [], _∷_, map}
+use mathlib.Core.Option.{Option, none, some}
+use lib.Dec.{eqb}
+use lib.ListN.{length}
+use Rattle.types.specs.declared.Verdict.{Verdict}
+use Rattle.types.specs.declared.Verdict.the-variants.{Valid}
+use Rattle.types.specs.declared.Answer.{Answer}
+use Rattle.types.specs.declared.Refusal.{Refusal}
+use Rattle.types.specs.declared.Refusal.the-variants.{TableLength, RouteTaken, RoutesFull}
+use Rattle.types.specs.declared.Judged.{Judged}
+use Rattle.types.specs.declared.Judged.the-variants.{Answered, Refused}
+use Rattle.types.specs.declared.Rejudged.{Rejudged}
+use Rattle.types.specs.declared.Rejudged.the-variants as rejudged
+use Rattle.types.specs.Rows.{rowIf, firstGiven, Step, unlessRefused}
+use Rattle.as_path.specs.Reading.{Content, faulty, grounded, merged, contentOf}
+use Rattle.verdict.specs.Hops.{HopFunction}
+use Rattle.verdict.specs.Records.{hopOf}
+use Rattle.verdict.specs.Verdicts.{judged}
+use Rattle.verdict.specs.Judging.{argumentRows, unlessGiven, judgedRoute}
+use Rattle.register.specs.Register.{registerWords, recordsOf, registerOk}
+use Rattle.register.specs.Calls.{tableRow, registerRow}
+use Rattle.routes.specs.Routes.{ledgerWords, Route, routesOf, wordsOf, roomFor, ledgerOk}
+use Rattle.routes.specs.Calls.{ledgerRow, holdsRoute, putRoute, routeFor, storeRows, countDiffering}
+use Rattle.rejudge.specs.Rejudging.{verdictOf, rejudgedRoute}
+
+-- The hops that a register's records make.
+abbrev pub hopIn : List ℕ → HopFunction
+hopIn reg = hopOf (recordsOf reg)
+
+-- ---- Judge: rows 1 and 2, then 9 to 17
+
+unfoldable pub judgeAnswer : List ℕ → ℕ → ℕ → List ℕ → Judged
+judgeAnswer reg role neighbour attribute =
+    unlessGiven (firstGiven (tableRow reg ∷ registerRow reg ∷ [])) (judgedRoute (hopIn reg) role neighbour attribute)
+
+-- ---- Keep: rows 1, 2, 3, then 9 to 17, then 18 and 20
+
+abbrev pub tablesRow : List ℕ → List ℕ → Option Refusal
+tablesRow reg led = rowIf (not (eqb (length reg) registerWords && eqb (length led) ledgerWords)) TableLength
+
+-- Rows 9 to 17, as Judge gives them.
+abbrev pub refusalIn : Judged → Option Refusal
+refusalIn (Answered a) = none
+refusalIn (Refused r) = some r
+
+-- A refusal has no verdict; no route is stored for one.
+abbrev pub verdictIn : Judged → Verdict
+verdictIn (Answered a) = verdictOf a
+verdictIn (Refused r) = Valid
+
+-- The merged path, and none for a ground.
+abbrev pub pathIn : Content → List ℕ
+pathIn (faulty f p) = []
+pathIn (grounded g) = []
+pathIn (merged path) = path
+
+-- The entry that Keep stores: with the answer's ground, verdict and places.
+abbrev pub keptRoute : List ℕ → ℕ → ℕ → ℕ → List ℕ → Route
+keptRoute reg number role neighbour attribute =
+    routeFor number role neighbour (verdictIn (judgedRoute (hopIn reg) role neighbour attribute)) (pathIn (contentOf role neighbour attribute))
+
+abbrev pub keepRows : List ℕ → List ℕ → ℕ → ℕ → ℕ → List ℕ → List (Option Refusal)
+keepRows reg led number role neighbour attribute =
+    tablesRow reg led
+    ∷ registerRow reg
+    ∷ ledgerRow led
+    ∷ refusalIn (judgedRoute (hopIn reg) role neighbour attribute)
+    ∷ rowIf (holdsRoute number (routesOf led)) RouteTaken
+    ∷ rowIf (not (roomFor (putRoute (keptRoute reg number role neighbour attribute) (routesOf led)))) RoutesFull
+    ∷ []
+
+-- Keep answers what Judge answers; the words are the ledger's.
+unfoldable pub keepStep : List ℕ → List ℕ → ℕ → ℕ → ℕ → List ℕ → Step Judged
+keepStep reg led number role neighbour attribute =
+    unlessRefused (firstGiven (keepRows reg led number role neighbour attribute)) Refused led
+    (record {
+      answer = judgedRoute (hopIn reg) role neighbour attribute;
+      words = wordsOf (putRoute (keptRoute reg number role neighbour attribute) (routesOf led));
+    })
+
+-- The end of a keeping that is answered: rows 18 and 20, and the store.
+abbrev pub storedStep : List ℕ → Route → Answer → Step Judged
+storedStep led r answer =
+    unlessRefused (firstGiven (storeRows led r)) Refused led (record { answer = Answered answer; words = wordsOf (putRoute r (routesOf led)) })
+
+-- A keeping that passed rows 1, 2, 3, 9, 10 and 11.
+pub record Ready (reg led : List ℕ) (role neighbour : ℕ) (attribute : List ℕ) : Type 0 where
+  pub long : length reg ≡ registerWords
+  pub ok : registerOk reg ≡ true
+  pub long-ledger : length led ≡ ledgerWords
+  pub ok-ledger : ledgerOk led ≡ true
+  pub known : firstGiven (argumentRows role neighbour attribute) ≡ none
+
+-- ---- Re-judge: rows 1, 2, 3
+
+abbrev pub rejudgeRows : List ℕ → List ℕ → List (Option Refusal)
+rejudgeRows reg led = tablesRow reg led ∷ registerRow reg ∷ ledgerRow led ∷ []
+
+unfoldable pub rejudgeStep : List ℕ → List ℕ → Step Rejudged
+rejudgeStep reg led =
+    unlessRefused (firstGiven (rejudgeRows reg led)) rejudged.Refused led
+    (record {
+      answer = rejudged.Changed (countDiffering (routesOf led) (map (rejudgedRoute (hopIn reg)) (routesOf led)));
+      words = wordsOf (map (rejudgedRoute (hopIn reg)) (routesOf led));
+    })

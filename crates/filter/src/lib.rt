@@ -1,0 +1,205 @@
+// The calls of the filter. Each takes any tables and any arguments, and tests its rows in their order.
+use as_path::Reading;
+use routes::Kept;
+use types::Answer;
+use types::AsNumber;
+use types::Cause;
+use types::Cleared;
+use types::Filed;
+use types::Judged;
+use types::Refusal;
+use types::Rejudged;
+use types::Removal;
+use types::Role;
+use types::RoleRead;
+use types::RouteNumber;
+use types::Verdict;
+ghost use mathlib.Core.Path.{_≡_};
+ghost use mathlib.Core.Bool.{true};
+ghost use lib.ListN.{length};
+ghost use Rattle.types.specs.Numbers.{roleNumber};
+ghost use Rattle.as_path.specs.Reading.{contentOf};
+ghost use Rattle.verdict.specs.Judging.{answerTo};
+ghost use Rattle.register.specs.Register.{registerOk};
+ghost use Rattle.filter.specs.Known.{knownFrom};
+ghost use Rattle.register.specs.Calls.{fileStep, withdrawStep, clearStep};
+ghost use Rattle.routes.specs.Routes.{ledgerWords, ledgerOk};
+ghost use Rattle.routes.specs.Calls.{routeFor, dropStep};
+ghost use Rattle.rejudge.specs.Rejudging.{verdictOf};
+ghost use Rattle.filter.specs.Calls.{hopIn, judgeAnswer, storedStep, Ready, keepStep, rejudgeStep};
+
+// The most bytes of an attribute.
+const MOST_BYTES: usize = 1024;
+
+// A role that is known, after rows 9, 10 and 11.
+pub enum Known {
+    Role(Role),
+    Refused(Refusal),
+}
+
+fn know(role: u32, neighbour: u32, attribute: &[u8]) -> Known
+    ensures { λ r. ⌜ r ≡ knownFrom role neighbour (now (attribute .entry)) ⌝ }
+{
+    let RoleRead::Is(role) = Role::from_number(role) else {
+        return Known::Refused(Refusal::RoleNumber);
+    };
+    if neighbour == 0 {
+        return Known::Refused(Refusal::NeighbourZero);
+    }
+    if MOST_BYTES < attribute.len() {
+        return Known::Refused(Refusal::AttributeLength);
+    }
+    Known::Role(role)
+}
+
+// The attribute read, and its ground or its path judged.
+fn judge_known(reg: &[u32], role: Role, neighbour: AsNumber, attribute: &[u8]) -> Judged
+    requires { ⌜ registerOk (now reg) ≡ true ⌝ }
+    ensures { λ r. ⌜ r ≡ answerTo (hopIn (now (reg .entry))) (roleNumber role) (contentOf (roleNumber role) (neighbour .0) (now (attribute .entry))) ⌝ }
+{
+    let mut path = [0u32; 64];
+    match as_path::read(role, neighbour, attribute, &mut path) {
+        Reading::Refused(r) => Judged::Refused(r),
+        Reading::OnGround(g) => Judged::Answered(Answer::Plain(Verdict::Invalid(Cause::ByGround(
+            g,
+        )))),
+        Reading::Path(n) => Judged::Answered(verify::judge(reg, role, &path[..n])),
+    }
+}
+
+pub fn judge(reg: &[u32], role: u32, neighbour: AsNumber, attribute: &[u8]) -> Judged
+    ensures { λ r. ⌜ r ≡ judgeAnswer (now (reg .entry)) role (neighbour .0) (now (attribute .entry)) ⌝ }
+{
+    if reg.len() != register::WORDS {
+        return Judged::Refused(Refusal::TableLength);
+    }
+    if !register::is_register(reg) {
+        return Judged::Refused(Refusal::RegisterMalformed);
+    }
+    match know(role, neighbour.0, attribute) {
+        Known::Refused(r) => Judged::Refused(r),
+        Known::Role(role) => judge_known(reg, role, neighbour, attribute),
+    }
+}
+
+// An answer whose route is stored, if its number is free and there is room.
+fn keep_answer(
+    led: &mut [u32],
+    number: RouteNumber,
+    role: Role,
+    neighbour: AsNumber,
+    answer: Answer,
+    path: &[u32],
+) -> Judged
+    requires { ⌜ (length (now led) ≡ ledgerWords) × (ledgerOk (now led) ≡ true) ⌝ }
+    ensures { λ r. ⌜ (r ≡ storedStep (now (led .entry)) (routeFor (number .0) (roleNumber role) (neighbour .0) (verdictOf answer) (now (path .entry))) answer .answer) × (now (led .exit) ≡ storedStep (now (led .entry)) (routeFor (number .0) (roleNumber role) (neighbour .0) (verdictOf answer) (now (path .entry))) answer .words) ⌝ }
+{
+    match routes::store(
+        led,
+        number,
+        role,
+        neighbour,
+        rejudge::verdict_of(answer),
+        path,
+    ) {
+        Kept::Done => Judged::Answered(answer),
+        Kept::Refused(r) => Judged::Refused(r),
+    }
+}
+
+// The attribute read, judged, and its route stored.
+fn keep_known(
+    reg: &[u32],
+    led: &mut [u32],
+    number: RouteNumber,
+    role: Role,
+    neighbour: AsNumber,
+    attribute: &[u8],
+) -> Judged
+    requires { ⌜ Ready (now reg) (now led) (roleNumber role) (neighbour .0) (now attribute) ⌝ }
+    ensures { λ r. ⌜ (r ≡ keepStep (now (reg .entry)) (now (led .entry)) (number .0) (roleNumber role) (neighbour .0) (now (attribute .entry)) .answer) × (now (led .exit) ≡ keepStep (now (reg .entry)) (now (led .entry)) (number .0) (roleNumber role) (neighbour .0) (now (attribute .entry)) .words) ⌝ }
+{
+    let mut path = [0u32; 64];
+    match as_path::read(role, neighbour, attribute, &mut path) {
+        Reading::Refused(r) => Judged::Refused(r),
+        Reading::OnGround(g) => {
+            let answer = Answer::Plain(Verdict::Invalid(Cause::ByGround(g)));
+            keep_answer(led, number, role, neighbour, answer, &path[..0])
+        }
+        Reading::Path(n) => {
+            let answer = verify::judge(reg, role, &path[..n]);
+            keep_answer(led, number, role, neighbour, answer, &path[..n])
+        }
+    }
+}
+
+pub fn keep(
+    reg: &[u32],
+    led: &mut [u32],
+    number: RouteNumber,
+    role: u32,
+    neighbour: AsNumber,
+    attribute: &[u8],
+) -> Judged
+    ensures { λ r. ⌜ (r ≡ keepStep (now (reg .entry)) (now (led .entry)) (number .0) role (neighbour .0) (now (attribute .entry)) .answer) × (now (led .exit) ≡ keepStep (now (reg .entry)) (now (led .entry)) (number .0) role (neighbour .0) (now (attribute .entry)) .words) ⌝ }
+{
+    if reg.len() != register::WORDS {
+        return Judged::Refused(Refusal::TableLength);
+    }
+    if led.len() != routes::WORDS {
+        return Judged::Refused(Refusal::TableLength);
+    }
+    if !register::is_register(reg) {
+        return Judged::Refused(Refusal::RegisterMalformed);
+    }
+    if !routes::is_ledger(led) {
+        return Judged::Refused(Refusal::RoutesMalformed);
+    }
+    match know(role, neighbour.0, attribute) {
+        Known::Refused(r) => Judged::Refused(r),
+        Known::Role(role) => keep_known(reg, led, number, role, neighbour, attribute),
+    }
+}
+
+pub fn drop(led: &mut [u32], number: RouteNumber) -> Removal
+    ensures { λ r. ⌜ (r ≡ dropStep (now (led .entry)) (number .0) .answer) × (now (led .exit) ≡ dropStep (now (led .entry)) (number .0) .words) ⌝ }
+{
+    routes::drop(led, number)
+}
+
+pub fn rejudge(reg: &[u32], led: &mut [u32]) -> Rejudged
+    ensures { λ r. ⌜ (r ≡ rejudgeStep (now (reg .entry)) (now (led .entry)) .answer) × (now (led .exit) ≡ rejudgeStep (now (reg .entry)) (now (led .entry)) .words) ⌝ }
+{
+    if reg.len() != register::WORDS {
+        return Rejudged::Refused(Refusal::TableLength);
+    }
+    if led.len() != routes::WORDS {
+        return Rejudged::Refused(Refusal::TableLength);
+    }
+    if !register::is_register(reg) {
+        return Rejudged::Refused(Refusal::RegisterMalformed);
+    }
+    if !routes::is_ledger(led) {
+        return Rejudged::Refused(Refusal::RoutesMalformed);
+    }
+    let changed = rejudge::rejudge_all(reg, led);
+    Rejudged::Changed(changed as u32)
+}
+
+pub fn file(reg: &mut [u32], source: u32, customer: AsNumber, providers: &[u32]) -> Filed
+    ensures { λ r. ⌜ (r ≡ fileStep (now (reg .entry)) source (customer .0) (now (providers .entry)) .answer) × (now (reg .exit) ≡ fileStep (now (reg .entry)) source (customer .0) (now (providers .entry)) .words) ⌝ }
+{
+    register::file(reg, source, customer, providers)
+}
+
+pub fn withdraw(reg: &mut [u32], source: u32, customer: AsNumber) -> Removal
+    ensures { λ r. ⌜ (r ≡ withdrawStep (now (reg .entry)) source (customer .0) .answer) × (now (reg .exit) ≡ withdrawStep (now (reg .entry)) source (customer .0) .words) ⌝ }
+{
+    register::withdraw(reg, source, customer)
+}
+
+pub fn clear(reg: &mut [u32], source: u32) -> Cleared
+    ensures { λ r. ⌜ (r ≡ clearStep (now (reg .entry)) source .answer) × (now (reg .exit) ≡ clearStep (now (reg .entry)) source .words) ⌝ }
+{
+    register::clear(reg, source)
+}

@@ -1,0 +1,5 @@
+pub mod Rejudgements
+pub mod Differences
+pub mod Stores
+pub mod Rows
+pub mod Turns

@@ -1,0 +1,195 @@
+-- Routes judged anew: what stays, what a second time does, and that they still keep the rules. Assumes nothing.
+use Prim.Native.Nat.{ℕ, _≤_}
+use mathlib.Core.Path.{_≡_, refl, sym, _∙_, ap}
+use mathlib.Core.Bool.{Bool, true, false, cond}
+use mathlib.Core.List.{List, [], _∷_, _++_, map}
+use native.Mathlib.Omega.{arith}
+use borrow.Author.Tests.{eqb-true, eqb-false, eq-eqb, ne-eqb, leb-true, le-leb}
+use lib.Dec.{leb, ltb, eqb}
+use lib.ListN.{length, length-map}
+use Rattle.types.specs.declared.Verdict.{Verdict}
+use Rattle.types.specs.declared.Verdict.the-variants.{Valid, Invalid, Unknown}
+use Rattle.types.specs.Numbers.{verdictNumber, placeA, placeB}
+use Rattle.types.specs.Roles.{isRole, isUpstream}
+use Rattle.table.specs.Table.{bodies}
+use Rattle.keyed.specs.Keyed.{ascends, ascendsFrom, every}
+use Rattle.keyed.proofs.Orders.{both-left, both-right, both-intro}
+use Rattle.verdict.specs.Hops.{HopFunction}
+use Rattle.verdict.specs.Verdicts.{judged}
+use Rattle.verdict.proofs.Orders.{Within, places-within}
+use Rattle.routes.specs.Routes.{Route, entryOf, keyOf, pathWords, pathOk, routeOk, roomFor, routesOk}
+use Rattle.routes.specs.Calls.{stamped, differs}
+use Rattle.routes.proofs.Holding.{has-room, each-ok, in-order}
+use Rattle.rejudge.specs.Rejudging.{verdictOf, rejudgedRoute}
+
+-- ---- one route
+
+-- A number is the same as itself.
+same-self : (n : ℕ) → eqb n n ≡ true
+same-self n = eq-eqb n n refl
+
+-- A route does not differ from itself.
+pub not-differs : (r : Route) → differs r r ≡ false
+not-differs r = rw (same-self (r .verdict), same-self (r .a), same-self (r .b))
+
+module _ (hop : HopFunction) (r : Route) where
+  -- A route with a ground is left as it is.
+  pub left-alone : (r .ground ≡ 0 → ⊥) → rejudgedRoute hop r ≡ r
+  left-alone k = rw (ne-eqb (r .ground) 0 k)
+
+  -- One without gets the verdict of its role and path.
+  pub gets-verdict : r .ground ≡ 0 → rejudgedRoute hop r ≡ stamped (verdictOf (judged hop (r .path) (r .role))) r
+  gets-verdict e = rw (eq-eqb (r .ground) 0 e)
+
+module _ (r : Route) (e : routeOk r ≡ true) where
+  -- The role of a route is one of the roles.
+  pub has-role : isRole (r .role) ≡ true
+  unfolding routeOk
+  has-role = both-left (isRole (r .role)) _ e
+
+  module _ (g : r .ground ≡ 0) where
+    -- Without a ground its path keeps the rules.
+    pub path-fine : pathOk (r .role) (r .neighbour) (r .path) ≡ true
+    unfolding routeOk
+    path-fine =
+        rw (eq-eqb (r .ground) 0 g)
+        at (both-right (leb (r .b) 64) _
+        (both-right (leb (r .a) 64) _
+        (both-right (leb (r .verdict) 2) _
+        (both-right (leb (r .ground) 3) _
+        (both-right (leb 1 (r .neighbour)) _ (both-right (isRole (r .role)) _ e))))))
+
+    -- It has a number.
+    pub some-numbers : 1 ≤ length (r .path)
+    unfolding pathOk
+    some-numbers = leb-true _ _ (both-left (leb 1 (length (r .path))) _ path-fine)
+
+    -- And at most 64.
+    pub few-numbers : length (r .path) ≤ 64
+    unfolding pathOk
+    few-numbers = leb-true _ _ (both-left (leb (length (r .path)) 64) _ (both-right (leb 1 (length (r .path))) _ path-fine))
+
+-- What a stamp leaves, stays whether the route is stamped or not.
+stays-either : {X : Type 0} (part : Route → X) (v : Verdict) (r : Route) → part (stamped v r) ≡ part r
+    → (b : Bool) → part (cond b (stamped v r) r) ≡ part r
+stays-either part v r e true = e
+stays-either part v r e false = refl
+
+-- The word of a verdict is at most 2.
+word-within : (v : Verdict) → verdictNumber v ≤ 2
+word-within Valid = omega arith
+word-within (Invalid c) = omega arith
+word-within (Unknown a b) = omega arith
+
+module _ (hop : HopFunction) where
+  -- The routes judged anew.
+  abbrev pub anew : Route → Route
+  anew = rejudgedRoute hop
+
+  -- ---- what stays
+
+  module _ (r : Route) where
+    -- The verdict that a route gets.
+    abbrev gets : Verdict
+    gets = verdictOf (judged hop (r .path) (r .role))
+
+    -- The number stays.
+    pub number-stays : anew r .number ≡ r .number
+    number-stays = stays-either (λ s. s .number) gets r refl (eqb (r .ground) 0)
+
+    -- The role stays.
+    pub role-stays : anew r .role ≡ r .role
+    role-stays = stays-either (λ s. s .role) gets r refl (eqb (r .ground) 0)
+
+    -- The neighbour stays.
+    pub neighbour-stays : anew r .neighbour ≡ r .neighbour
+    neighbour-stays = stays-either (λ s. s .neighbour) gets r refl (eqb (r .ground) 0)
+
+    -- The ground stays.
+    pub ground-stays : anew r .ground ≡ r .ground
+    ground-stays = stays-either (λ s. s .ground) gets r refl (eqb (r .ground) 0)
+
+    -- The path stays.
+    pub path-stays : anew r .path ≡ r .path
+    path-stays = stays-either (λ s. s .path) gets r refl (eqb (r .ground) 0)
+
+    -- ---- a second time
+
+    -- A route judged anew is left as it is by the next time.
+    pub once-enough : anew (anew r) ≡ anew r
+    once-enough = go (eqb (r .ground) 0) refl
+      where
+        go : (b : Bool) → eqb (r .ground) 0 ≡ b → anew (anew r) ≡ anew r
+        go true e =
+            let g = eqb-true _ _ e in
+            ap anew (gets-verdict hop r g) ∙ gets-verdict hop (stamped gets r) g ∙ sym (gets-verdict hop r g)
+        go false e = ap anew (left-alone hop r (eqb-false _ _ e))
+
+  -- Routes judged anew are left as they are by the next time.
+  pub all-once : (rs : List Route) → map anew (map anew rs) ≡ map anew rs
+  all-once [] = refl
+  all-once (r ∷ rs) = λ q. once-enough r q ∷ all-once rs q
+
+  -- ---- the rules
+
+  -- The places of the verdict lie on the path.
+  gets-within : (r : Route) → 1 ≤ length (r .path) → Within (length (r .path)) (gets r)
+  unfolding judged
+  gets-within r h = go (isUpstream (r .role)) refl
+    where
+      go : (b : Bool) → isUpstream (r .role) ≡ b → Within (length (r .path)) (gets r)
+      go true e = rw e (places-within hop (r .path) h .0)
+      go false e = rw e (places-within hop (r .path) h .1)
+
+  -- A route without a ground keeps its rules with its verdict.
+  stamped-ok : (r : Route) → routeOk r ≡ true → r .ground ≡ 0 → routeOk (anew r) ≡ true
+  unfolding routeOk
+  stamped-ok r e g =
+      let v = gets r in
+      let w = gets-within r (some-numbers r e g) in
+      let few = few-numbers r e g in
+      let neighbour : leb 1 (r .neighbour) ≡ true = both-left (leb 1 (r .neighbour)) _ (both-right (isRole (r .role)) _ e) in
+      let a : leb (placeA v) 64 ≡ true = le-leb (placeA v) 64 (omega (arith, w .a)) in
+      let b : leb (placeB v) 64 ≡ true = le-leb (placeB v) 64 (omega (arith, w .b)) in
+      let word : leb (verdictNumber v) 2 ≡ true = le-leb _ _ (word-within v) in
+      ap routeOk (gets-verdict hop r g) ∙ rw (has-role r e, neighbour, word, a, b, g) (path-fine r e g)
+
+  -- A route judged anew keeps its rules.
+  pub still-ok : (r : Route) → routeOk r ≡ true → routeOk (anew r) ≡ true
+  still-ok r e = go (eqb (r .ground) 0) refl
+    where
+      go : (b : Bool) → eqb (r .ground) 0 ≡ b → routeOk (anew r) ≡ true
+      go true t = stamped-ok r e (eqb-true _ _ t)
+      go false t = ap routeOk (left-alone hop r (eqb-false _ _ t)) ∙ e
+
+  -- Routes judged anew keep theirs.
+  every-ok : (rs : List Route) → every routeOk rs ≡ true → every routeOk (map anew rs) ≡ true
+  unfolding every
+  every-ok [] e = refl
+  every-ok (r ∷ rs) e =
+      both-intro (routeOk (anew r)) _ (still-ok r (both-left (routeOk r) _ e)) (every-ok rs (both-right (routeOk r) _ e))
+
+  -- They stand in the same order behind a number.
+  same-order-from : (k : ℕ) (rs : List Route) → ascendsFrom keyOf eqb ltb k (map anew rs) ≡ ascendsFrom keyOf eqb ltb k rs
+  unfolding ascendsFrom
+  same-order-from k [] = refl
+  same-order-from k (r ∷ rs) = rw (number-stays r, same-order-from (r .number) rs)
+
+  -- They stand in the same order.
+  same-order : (rs : List Route) → ascends keyOf eqb ltb (map anew rs) ≡ ascends keyOf eqb ltb rs
+  unfolding ascends
+  same-order [] = refl
+  same-order (r ∷ rs) = rw (number-stays r, same-order-from (r .number) rs)
+
+  -- Their paths are the same.
+  same-paths : (rs : List Route) → bodies (map entryOf (map anew rs)) ≡ bodies (map entryOf rs)
+  unfolding bodies
+  same-paths [] = refl
+  same-paths (r ∷ rs) = λ q. path-stays r q ++ same-paths rs q
+
+  -- Routes that keep the rules of a ledger keep them when they are judged anew.
+  pub rejudged-ok : (rs : List Route) → routesOk rs ≡ true → routesOk (map anew rs) ≡ true
+  unfolding routesOk roomFor pathWords
+  rejudged-ok rs e =
+      rw (length-map rs anew, same-paths rs, same-order rs, every-ok rs (each-ok rs e))
+      (both-intro (roomFor rs) _ (has-room rs e) (in-order rs e))

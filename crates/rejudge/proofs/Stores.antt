@@ -1,0 +1,101 @@
+-- A verdict stored in a route's row: the ledger of the routes with that one stamped. Assumes nothing.
+use Prim.Native.Nat.{ℕ, zero, suc, _+_, _*_, _≤_, _<_}
+use mathlib.Core.Path.{_≡_, refl, sym, _∙_, ap, subst}
+use mathlib.Core.Bool.{not, _&&_}
+use mathlib.Core.List.{List, [], _∷_, map}
+use native.Mathlib.Omega.{arith}
+use lib.Dec.{eqb}
+use lib.ListN.{length, getD, set, length-set}
+use lib.Seq.{getD-set-same, set-set}
+use Rattle.types.specs.declared.Verdict.{Verdict}
+use Rattle.types.specs.Numbers.{verdictNumber, placeA, placeB}
+use Rattle.table.specs.Table.{Entry, decode, Sound}
+use Rattle.table.proofs.Sounds.{nth, wide-at}
+use Rattle.table.proofs.Setting.{withHead, set-head-sound}
+use Rattle.routes.specs.Routes.{Route, routeOf, entryOf, routesOf, wordsOf, routeAt}
+use Rattle.routes.specs.Calls.{stamped, differs}
+use Rattle.routes.proofs.Entries.{typing, route-is, length-routes, words-are, row-within, verdict-is, a-is, b-is}
+use Rattle.rejudge.specs.Rejudging.{RouteIn}
+
+-- Words hold the routes of others, with route i another one.
+pub record Stored (ws : List ℕ) (i : ℕ) (r : Route) (out : List ℕ) : Type 0 where
+  pub sound : Sound 7 0 out
+  pub size : length out ≡ length ws
+  pub routes : routesOf out ≡ set (routesOf ws) i r
+
+-- A route with head word j another one.
+abbrev withWord : Route → ℕ → ℕ → Route
+withWord r j x = routeOf (withHead (entryOf r) (set (entryOf r .head) j x))
+
+-- A list with one changed, mapped before or after.
+pub map-set : {A B : Type 0} (f : A → B) (l : List A) (i : ℕ) (x : A) → map f (set l i x) ≡ set (map f l) i (f x)
+map-set f [] i x = refl
+map-set f (y ∷ l) zero x = refl
+map-set f (y ∷ l) (suc i) x = ap (λ k. f y ∷ k) (map-set f l i x)
+
+module _ (ws : List ℕ) (s : Sound 7 0 ws) (i : ℕ) (h : i < length (routesOf ws)) where
+  -- Entry i is that of route i.
+  entry-is : nth i (decode 7 0 ws) ≡ entryOf (routeAt (routesOf ws) i)
+  entry-is =
+      let w = wide-at 7 0 ws s i (omega (arith, length-routes ws s)) .0 in
+      sym (typing .forth (nth i (decode 7 0 ws)) (w .0) (w .1)) ∙ ap entryOf (sym (route-is ws s i))
+
+  -- A store into head word j of row i.
+  stores : (j : ℕ) → j < 7 → (x : ℕ) → Stored ws i (withWord (routeAt (routesOf ws) i) j x) (set ws (2 + i * 9 + j) x)
+  unfolding routesOf
+  stores j k x =
+      let p = set-head-sound 7 0 ws s i (omega (arith, length-routes ws s)) j k x in
+      record {
+        sound = p .0;
+        size = length-set ws (2 + i * 9 + j) x;
+        routes =
+            ap (map routeOf) (p .1)
+            ∙ map-set routeOf (decode 7 0 ws) i _
+            ∙ ap (λ (e : Entry). set (map routeOf (decode 7 0 ws)) i (routeOf (withHead e (set (e .head) j x)))) entry-is;
+      }
+
+-- A second change of route i.
+twice : {ws out end : List ℕ} {i : ℕ} {r q : Route} → Stored ws i r out → Stored out i q end → Stored ws i q end
+twice {ws} {i} {r} {q} p n =
+    record {
+      sound = n .sound;
+      size = n .size ∙ p .size;
+      routes = n .routes ∙ ap (λ l. set l i q) (p .routes) ∙ set-set (routesOf ws) i r q;
+    }
+
+-- Route i may be changed again.
+again : {ws out : List ℕ} {i : ℕ} {r : Route} → Stored ws i r out → i < length (routesOf ws) → i < length (routesOf out)
+again {ws} {i} {r} p h = rw (p .routes, length-set (routesOf ws) i r) h
+
+-- It is the one stored.
+stored-is : {ws out : List ℕ} {i : ℕ} {r : Route} → Stored ws i r out → i < length (routesOf ws) → routeAt (routesOf out) i ≡ r
+stored-is {ws} {i} {r} p h = ap (λ l. routeAt l i) (p .routes) ∙ getD-set-same (routesOf ws) i r _ h
+
+-- One more head word stored in it.
+more : {ws out : List ℕ} {i : ℕ} {r : Route} → Stored ws i r out → i < length (routesOf ws) → (j : ℕ) → j < 7 → (x : ℕ)
+    → Stored ws i (withWord r j x) (set out (2 + i * 9 + j) x)
+more {ws} {out} {i} {r} p h j k x =
+    subst (λ q. Stored ws i (withWord q j x) (set out (2 + i * 9 + j) x)) (stored-is p h) (twice p (stores out (p .sound) i (again p h) j k x))
+
+module _ {ws : List ℕ} {i : ℕ} (p : RouteIn ws i) where
+  -- Its row lies within the words.
+  pub row-in : 2 + i * 9 + 9 ≤ length ws
+  row-in = row-within ws (p .sound) i (p .within)
+
+  module _ (v : Verdict) {w a b : ℕ} (ew : w ≡ verdictNumber v) (ea : a ≡ placeA v) (eb : b ≡ placeB v) where
+    -- The verdict's word and places, stored one after another.
+    pub stamped-words :
+        set (set (set ws (2 + i * 9 + 4) w) (2 + i * 9 + 5) a) (2 + i * 9 + 6) b
+        ≡ wordsOf (set (routesOf ws) i (stamped v (routeAt (routesOf ws) i)))
+    stamped-words =
+        let s = stores ws (p .sound) i (p .within) 4 (omega arith) (verdictNumber v) in
+        let t = more s (p .within) 5 (omega arith) (placeA v) in
+        let u = more t (p .within) 6 (omega arith) (placeB v) in
+        rw (ew, ea, eb) (words-are _ (u .sound) (u .size ∙ p .size) ∙ ap wordsOf (u .routes))
+
+    -- Whether one of them changed.
+    pub stamped-differs :
+        not (eqb (getD ws (2 + i * 9 + 4) 0) w && (eqb (getD ws (2 + i * 9 + 5) 0) a && eqb (getD ws (2 + i * 9 + 6) 0) b))
+        ≡ differs (routeAt (routesOf ws) i) (stamped v (routeAt (routesOf ws) i))
+    stamped-differs =
+        rw (ew, ea, eb, verdict-is ws (p .sound) i (p .within), a-is ws (p .sound) i (p .within), b-is ws (p .sound) i (p .within))
