@@ -81,6 +81,6 @@ roomFor rs = leb (length rs) mostRecords && leb (listed rs) mostBodyWords
 unfoldable pub recordsOk : List Record → Bool
 recordsOk rs = roomFor rs && (every recordOk rs && ascends keyOf samePair beforePair rs)
 
--- Words of the right length that are a well-formed register (row 2).
+-- The word rules of a register (row 2); its length is row 1's.
 unfoldable pub registerOk : List ℕ → Bool
 registerOk ws = wellFormed 2 0 ws && recordsOk (recordsOf ws)

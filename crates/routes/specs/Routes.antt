@@ -118,6 +118,6 @@ roomFor rs = leb (length rs) mostRoutes && leb (pathWords rs) mostPathWords
 unfoldable pub routesOk : List Route → Bool
 routesOk rs = roomFor rs && (every routeOk rs && ascends keyOf eqb ltb rs)
 
--- Words of the right length that are a well-formed ledger (row 3).
+-- The word rules of a ledger (row 3); its length is row 1's.
 unfoldable pub ledgerOk : List ℕ → Bool
 ledgerOk ws = wellFormed 7 0 ws && routesOk (routesOf ws)

@@ -4,3 +4,4 @@ pub mod Gaps
 pub mod Orders
 pub mod Locality
 pub mod Drafting
+pub mod Judges

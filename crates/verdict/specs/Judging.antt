@@ -1,7 +1,7 @@
 -- The answer to one route over any hop function: rows 9 to 17 in order, the grounds, the verdict ("The calls", Judge).
 use Prim.Native.Nat.{ℕ}
 use mathlib.Core.Bool.{not, cond}
-use mathlib.Core.List.{List, [], _∷_}
+use mathlib.Core.List.{List, [], _∷_, _++_}
 use mathlib.Core.Option.{Option, none, some}
 use lib.Dec.{eqb, ltb}
 use lib.ListN.{length}
@@ -29,6 +29,16 @@ argumentRows role neighbour attribute =
     ∷ rowIf (eqb neighbour 0) NeighbourZero
     ∷ rowIf (ltb mostBytes (length attribute)) AttributeLength
     ∷ []
+
+-- Rows 12 to 16 by the attribute, 17 by its merged path: no hop is looked at.
+abbrev pub contentRow : Content → Option Refusal
+contentRow (faulty f p) = some (Attribute f p)
+contentRow (grounded g) = none
+contentRow (merged path) = rowIf (ltb mostNumbers (length path)) PathLength
+
+-- Rows 9 to 17: they go by the arguments alone.
+abbrev pub judgeRows : ℕ → ℕ → List ℕ → List (Option Refusal)
+judgeRows role neighbour attribute = argumentRows role neighbour attribute ++ (contentRow (contentOf role neighbour attribute) ∷ [])
 
 -- Rows 12 to 16, the grounds, row 17, the verdict.
 abbrev pub answerTo : HopFunction → ℕ → Content → Judged
