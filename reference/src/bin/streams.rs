@@ -1,0 +1,1492 @@
+//! Commands for the console: `streams SEED COUNT` writes COUNT random ones,
+//! the same for the same seed; `streams vectors` writes the fixed vectors.
+
+use reference::console;
+use reference::random::Random;
+use reference::{AsNumber, Model, Table, GREATEST_SOURCE, LONGEST_ATTRIBUTE, MOST_BODY_WORDS};
+use std::io::{self, BufWriter, Write};
+use std::process::ExitCode;
+
+fn main() -> ExitCode {
+    let arguments: Vec<String> = std::env::args().skip(1).collect();
+    let arguments: Vec<&str> = arguments.iter().map(String::as_str).collect();
+    let mut out = BufWriter::new(io::stdout().lock());
+    let written = match arguments[..] {
+        ["vectors"] => vectors().iter().try_for_each(|line| writeln!(out, "{line}")),
+        [seed, count] => match (seed.parse(), count.parse()) {
+            (Ok(seed), Ok(count)) => random_stream(seed, count, |line, _| writeln!(out, "{line}")),
+            _ => return usage(),
+        },
+        _ => return usage(),
+    };
+    match written.and_then(|()| out.flush()) {
+        Ok(()) => ExitCode::SUCCESS,
+        // A reader that wants no more isn't an error.
+        Err(e) if e.kind() == io::ErrorKind::BrokenPipe => ExitCode::SUCCESS,
+        Err(e) => {
+            eprintln!("streams: {e}");
+            ExitCode::FAILURE
+        }
+    }
+}
+
+fn usage() -> ExitCode {
+    eprintln!("usage: streams SEED COUNT | streams vectors");
+    ExitCode::from(2)
+}
+
+// Attributes
+
+fn hex(bytes: &[u8]) -> String {
+    if bytes.is_empty() {
+        return "-".to_string();
+    }
+    bytes.iter().map(|b| format!("{b:02x}")).collect()
+}
+
+fn segment(kind: u8, numbers: &[u32]) -> Vec<u8> {
+    let mut bytes = vec![kind, numbers.len() as u8];
+    for number in numbers {
+        bytes.extend(number.to_be_bytes());
+    }
+    bytes
+}
+
+fn sequence(numbers: &[u32]) -> Vec<u8> {
+    segment(2, numbers)
+}
+
+fn numbers(list: &[u32]) -> String {
+    list.iter().map(|n| format!(" {n}")).collect()
+}
+
+const REGISTER: &str = "register";
+const LEDGER: &str = "ledger";
+
+// Random streams
+
+/// Gives COUNT commands to `write`, each with the model's answer.
+fn random_stream(
+    seed: u64,
+    count: usize,
+    write: impl FnMut(&str, &str) -> io::Result<()>,
+) -> io::Result<()> {
+    let model = Model::new();
+    let mut stream = Stream { random: Random::new(seed), model, left: count, write, failed: None };
+    while stream.left > 0 {
+        stream.round();
+    }
+    stream.failed.map_or(Ok(()), Err)
+}
+
+/// The commands are also run, so that later ones can aim at records and
+/// routes that are there.
+struct Stream<W> {
+    random: Random,
+    model: Model,
+    left: usize,
+    write: W,
+    failed: Option<io::Error>,
+}
+
+impl<W: FnMut(&str, &str) -> io::Result<()>> Stream<W> {
+    fn say(&mut self, line: &str) {
+        if self.left == 0 {
+            return;
+        }
+        self.left -= 1;
+        let answer = console::answer(&mut self.model, line.as_bytes());
+        if let Err(e) = (self.write)(line, &answer) {
+            self.failed = Some(e);
+            self.left = 0;
+        }
+    }
+
+    /// All phases once, in some order, so that a few thousand commands reach
+    /// every row of every call.
+    fn round(&mut self) {
+        type Phase<S> = fn(&mut S);
+        let mut phases: Vec<Phase<Self>> = vec![
+            Self::many_records,
+            Self::long_lists,
+            Self::many_routes,
+            Self::long_paths,
+            Self::lines_that_are_no_commands,
+            Self::untrue_verdicts,
+            Self::single_words,
+            Self::single_words,
+        ];
+        phases.extend([Self::ordinary as Phase<Self>; 12]);
+        for damage in [
+            |s: &mut Self| s.damage(REGISTER, Self::resize),
+            |s: &mut Self| s.damage(LEDGER, Self::resize),
+        ] {
+            phases.extend([damage as Phase<Self>; 2]);
+        }
+        for damage in [
+            |s: &mut Self| s.damage(REGISTER, Self::poke),
+            |s: &mut Self| s.damage(LEDGER, Self::poke),
+        ] {
+            phases.extend([damage as Phase<Self>; 6]);
+        }
+        while !phases.is_empty() && self.left > 0 {
+            let phase = phases.swap_remove(self.random.below(phases.len()));
+            phase(self);
+        }
+    }
+
+    // What is there
+
+    fn record_count(&self) -> usize {
+        match &self.model.register {
+            Table::Held(records) => records.len(),
+            Table::Words(_) => 0,
+        }
+    }
+
+    fn route_count(&self) -> usize {
+        match &self.model.ledger {
+            Table::Held(routes) => routes.len(),
+            Table::Words(_) => 0,
+        }
+    }
+
+    /// Body words that the ledger still has room for.
+    fn path_room(&self) -> usize {
+        match &self.model.ledger {
+            Table::Held(routes) => {
+                MOST_BODY_WORDS - routes.values().map(|route| route.path.len()).sum::<usize>()
+            }
+            Table::Words(_) => 0,
+        }
+    }
+
+    fn providers(&self, customer: u32) -> Vec<u32> {
+        let Table::Held(records) = &self.model.register else { return Vec::new() };
+        let customer = AsNumber(customer);
+        let lists = records.range((customer, 0)..=(customer, GREATEST_SOURCE));
+        lists.flat_map(|(_, list)| list.iter().map(|n| n.0)).filter(|n| *n != 0).collect()
+    }
+
+    fn some_record(&mut self) -> Option<(u32, u32)> {
+        let Table::Held(records) = &self.model.register else { return None };
+        if records.is_empty() {
+            return None;
+        }
+        let nth = self.random.below(records.len());
+        records.keys().nth(nth).map(|(customer, source)| (customer.0, *source))
+    }
+
+    fn some_route(&mut self) -> Option<u32> {
+        let Table::Held(routes) = &self.model.ledger else { return None };
+        if routes.is_empty() {
+            return None;
+        }
+        let nth = self.random.below(routes.len());
+        routes.keys().nth(nth).map(|route| route.0)
+    }
+
+    // Arguments
+
+    /// Few numbers, so that they meet again; now and then any.
+    fn number(&mut self) -> u32 {
+        match self.random.below(100) {
+            0..=89 => self.random.between(1, 12) as u32,
+            90..=95 => self.random.between(1, 40) as u32,
+            96 | 97 => self.random.pick(&[u32::MAX, 23_456, 65_535, 65_536, 1 << 31, 256, 1 << 24]),
+            _ => (self.random.draw() as u32).max(1),
+        }
+    }
+
+    fn number_or_zero(&mut self) -> u32 {
+        if self.random.percent(4) {
+            0
+        } else {
+            self.number()
+        }
+    }
+
+    fn source(&mut self) -> u32 {
+        match self.random.below(100) {
+            0..=69 => self.random.below(3) as u32,
+            70..=94 => self.random.below(8) as u32,
+            95..=97 => 8,
+            _ => self.random.pick(&[9, 255, 256, u32::MAX]),
+        }
+    }
+
+    fn list(&mut self) -> Vec<u32> {
+        let ascending = |mut list: Vec<u32>| {
+            list.sort_unstable();
+            list.dedup();
+            list
+        };
+        match self.random.below(100) {
+            0..=69 => {
+                let length = self.random.between(1, 5);
+                ascending((0..length).map(|_| self.number_or_zero()).collect())
+            }
+            70..=77 => vec![0],
+            78..=81 => Vec::new(),
+            82..=85 => vec![self.number(), u32::MAX],
+            86..=91 => (0..self.random.between(2, 5)).map(|_| self.number()).collect(),
+            92 | 93 => {
+                let number = self.number();
+                vec![number, number]
+            }
+            94..=97 => {
+                let length = self.random.pick(&[255, 256, 257]);
+                let first = self.random.below(3) as u32;
+                (first..first + length).collect()
+            }
+            _ => (1..=self.random.between(6, 40) as u32).collect(),
+        }
+    }
+
+    fn role(&mut self) -> u32 {
+        match self.random.below(100) {
+            0..=29 => 3,
+            30..=44 => 6,
+            45..=94 => self.random.between(1, 6) as u32,
+            95 | 96 => 0,
+            97 | 98 => 7,
+            _ => u32::MAX,
+        }
+    }
+
+    /// Mostly from customer to provider by the records, else anywhere.
+    fn climb(&mut self, steps: usize) -> Vec<u32> {
+        let mut path = vec![match self.some_record() {
+            Some((customer, _)) if self.random.percent(70) => customer,
+            _ => self.number(),
+        }];
+        for _ in 0..steps {
+            let providers = self.providers(path[path.len() - 1]);
+            let next = if !providers.is_empty() && self.random.percent(85) {
+                self.random.pick(&providers)
+            } else {
+                self.number()
+            };
+            path.push(next);
+        }
+        path
+    }
+
+    /// Left end first: down-ramp, then up-ramp, each perhaps short.
+    fn path(&mut self) -> Vec<u32> {
+        let steps = self.random.pick(&[0, 0, 1, 1, 2, 2, 3, 4, 6]);
+        let mut up = self.climb(steps);
+        up.reverse();
+        if self.random.percent(30) {
+            return up;
+        }
+        let steps = self.random.pick(&[0, 1, 1, 2, 3, 5]);
+        let mut path = self.climb(steps);
+        path.extend(up);
+        path
+    }
+
+    /// A path without neighbouring equals, so that nothing in it merges.
+    fn distinct_neighbours(&mut self, length: usize) -> Vec<u32> {
+        let mut path: Vec<u32> = Vec::new();
+        while path.len() < length {
+            let number = self.random.between(1, 14) as u32;
+            if path.last() != Some(&number) {
+                path.push(number);
+            }
+        }
+        path
+    }
+
+    /// Cuts a path into segments, some of their numbers repeated.
+    fn segments(&mut self, path: &[u32]) -> Vec<(u8, Vec<u32>)> {
+        let mut segments = vec![(2, Vec::new())];
+        for (i, number) in path.iter().enumerate() {
+            if i > 0 && self.random.percent(12) {
+                segments.push((2, Vec::new()));
+                if self.random.percent(30) {
+                    // the number before the boundary again
+                    segments.last_mut().expect("one at least").1.push(path[i - 1]);
+                }
+            }
+            let times = self.random.pick(&[1, 1, 1, 1, 1, 1, 2, 3]);
+            for _ in 0..times {
+                segments.last_mut().expect("one at least").1.push(*number);
+            }
+        }
+        segments
+    }
+
+    /// An attribute and the number that stands first in it, or any.
+    fn attribute(&mut self) -> (u32, Vec<u8>) {
+        let path = match self.random.below(100) {
+            0..=89 => self.path(),
+            90..=93 => {
+                let length = self.random.pick(&[63, 64, 65]);
+                self.distinct_neighbours(length)
+            }
+            94 => vec![self.number(); 200],
+            _ => self.distinct_neighbours(20),
+        };
+        let first = path[0];
+        let mut segments = if path.len() < 60 { self.segments(&path) } else { vec![(2, path)] };
+        // Changes to the segments, then to the bytes: most of them faults
+        let at = self.random.below(segments.len() + 1);
+        let one = vec![self.number(), self.number()];
+        match self.random.below(100) {
+            0..=5 => segments.insert(at, (1, one)),
+            6..=8 => segments.insert(at, (self.random.pick(&[3, 4]), one)),
+            9..=11 => segments.insert(at, (self.random.pick(&[0, 5, 6, 255]), one)),
+            12..=14 => segments.insert(at, (self.random.pick(&[0, 1, 2, 2, 3]), Vec::new())),
+            15..=18 => {
+                let segment = at.min(segments.len() - 1);
+                let number = self.random.below(segments[segment].1.len());
+                segments[segment].1[number] = 0;
+            }
+            19 => segments.insert(at, (1, vec![one[0], 0])),
+            _ => {}
+        }
+        let mut bytes: Vec<u8> = segments.iter().flat_map(|(k, n)| segment(*k, n)).collect();
+        match self.random.below(100) {
+            0..=4 => bytes.truncate(self.random.below(bytes.len() + 1)),
+            5..=6 => bytes.push(self.random.pick(&[0, 1, 2, 3, 5])),
+            7..=8 => {
+                let at = self.random.below(bytes.len());
+                bytes[at] = self.random.pick(&[0, 1, 2, 3, 4, 5, 255]);
+            }
+            9 => {
+                bytes.remove(self.random.below(bytes.len()));
+            }
+            10 => bytes = vec![self.random.pick(&[0, 1, 2, 3, 4, 5])],
+            11 | 12 => bytes.clear(),
+            13 => bytes = (0..self.random.below(40)).map(|_| self.random.below(6) as u8).collect(),
+            14..=16 => {
+                // 2 + 4 * n + 2 + 4 * (255 - n): 1,024 bytes
+                let n = self.random.between(1, 254);
+                let second = self.random.pick(&[first, first, 1, 2]);
+                bytes = [sequence(&vec![first; n]), sequence(&vec![second; 255 - n])].concat();
+                match self.random.below(6) {
+                    0 | 1 => bytes.push(2),
+                    2 => bytes.extend(sequence(&[first])),
+                    _ => {}
+                }
+            }
+            17 if self.random.percent(20) => bytes = vec![2; LONGEST_ATTRIBUTE * 2],
+            _ => {}
+        }
+        (first, bytes)
+    }
+
+    /// Role, neighbour and attribute as words.
+    fn judged(&mut self) -> String {
+        let (first, mut bytes) = self.attribute();
+        let mut neighbour = if self.random.percent(85) { first } else { self.number_or_zero() };
+        let mut role = self.role();
+        // Several faults at once show the order of the rows.
+        if self.random.percent(4) {
+            role = self.random.pick(&[role, 0, 7]);
+            neighbour = self.random.pick(&[neighbour, 0]);
+            if self.random.percent(40) {
+                bytes.resize(LONGEST_ATTRIBUTE + 1, 0);
+            }
+        }
+        format!("{role} {neighbour} {}", hex(&bytes))
+    }
+
+    fn route(&mut self) -> u32 {
+        match self.random.below(100) {
+            0..=89 => self.random.below(60) as u32,
+            90..=95 => self.random.pick(&[0, u32::MAX, 1 << 31]),
+            _ => self.random.draw() as u32,
+        }
+    }
+
+    // Calls
+
+    fn file(&mut self) {
+        let (mut source, mut customer) = (self.source(), self.number_or_zero());
+        let mut list = self.list();
+        // Several faults at once show the order of the rows.
+        if self.random.percent(4) {
+            source = self.random.pick(&[source, 8]);
+            customer = self.random.pick(&[customer, 0]);
+            list = self.random.pick(&[list, Vec::new(), vec![2, 1]]);
+        }
+        self.say(&format!("file {source} {customer}{}", numbers(&list)));
+    }
+
+    fn withdraw(&mut self) {
+        let (customer, source) = match self.some_record() {
+            Some(record) if self.random.percent(60) => record,
+            _ => (self.number_or_zero(), self.source()),
+        };
+        self.say(&format!("withdraw {source} {customer}"));
+    }
+
+    fn clear(&mut self) {
+        let source = self.source();
+        self.say(&format!("clear {source}"));
+    }
+
+    fn judge(&mut self) {
+        let judged = self.judged();
+        self.say(&format!("judge {judged}"));
+    }
+
+    fn keep(&mut self) {
+        let (route, judged) = (self.route(), self.judged());
+        self.say(&format!("keep {route} {judged}"));
+    }
+
+    fn drop(&mut self) {
+        let route = match self.some_route() {
+            Some(route) if self.random.percent(60) => route,
+            _ => self.route(),
+        };
+        self.say(&format!("drop {route}"));
+    }
+
+    /// The used words, or in a damaged table, where the counts need not say
+    /// which those are, all words.
+    fn show(&mut self, table: &str) {
+        if self.well_formed(table) && self.random.percent(80) {
+            self.say(table);
+        } else {
+            self.say(&format!("words {table}"));
+        }
+    }
+
+    fn well_formed(&self, table: &str) -> bool {
+        match table {
+            REGISTER => self.model.register.well_formed(),
+            _ => self.model.ledger.well_formed(),
+        }
+    }
+
+    fn any_call(&mut self) {
+        match self.random.below(1_000) {
+            0..=219 => self.file(),
+            220..=299 => self.withdraw(),
+            300..=314 => self.clear(),
+            315..=634 => self.judge(),
+            635..=844 => self.keep(),
+            845..=929 => self.drop(),
+            930..=969 => self.say("rejudge"),
+            970..=981 => self.show(REGISTER),
+            982..=993 => self.show(LEDGER),
+            _ => self.bad_line(),
+        }
+    }
+
+    // Phases
+
+    fn ordinary(&mut self) {
+        if self.record_count() > 60 && self.random.percent(80) {
+            self.clear_all();
+        }
+        if self.route_count() > 100 && self.random.percent(60) {
+            self.say("empty");
+        }
+        for _ in 0..self.random.between(50, 250) {
+            self.any_call();
+        }
+        self.show(REGISTER);
+        self.say("rejudge");
+        self.show(LEDGER);
+    }
+
+    fn clear_all(&mut self) {
+        for source in 0..8 {
+            self.say(&format!("clear {source}"));
+        }
+    }
+
+    /// Up to 1,024 records, then at the limit.
+    fn many_records(&mut self) {
+        self.clear_all();
+        let mut pairs: Vec<(u32, u32)> =
+            (0..8).flat_map(|source| (1..=128).map(move |customer| (source, customer))).collect();
+        while !pairs.is_empty() && self.left > 0 {
+            let (source, customer) = pairs.swap_remove(self.random.below(pairs.len()));
+            let first = self.number_or_zero();
+            let list =
+                if self.random.percent(30) && first < 40 { vec![first, 40] } else { vec![first] };
+            self.say(&format!("file {source} {customer}{}", numbers(&list)));
+        }
+        self.say("file 3 200 7");
+        for _ in 0..30 {
+            let source = self.random.below(8);
+            let provider = self.number();
+            match self.random.below(10) {
+                0..=5 => {
+                    let customer = self.random.between(100, 160);
+                    self.say(&format!("file {source} {customer} {provider}"));
+                }
+                6 => self.withdraw(),
+                7 => self.keep(),
+                _ => self.judge(),
+            }
+        }
+        if self.random.percent(50) {
+            self.say("rejudge");
+        }
+        self.show(REGISTER);
+        self.clear();
+    }
+
+    /// Up to 8,192 numbers in lists, then at the limit.
+    fn long_lists(&mut self) {
+        self.clear_all();
+        let ascending = |first: usize, length: usize| {
+            numbers(&(first..first + length).map(|n| n as u32).collect::<Vec<u32>>())
+        };
+        for customer in 1..=32 {
+            let (source, first) = (self.random.below(8), self.random.below(4));
+            self.say(&format!("file {source} {customer}{}", ascending(first, 256)));
+        }
+        self.say("file 3 200 7");
+        for _ in 0..25 {
+            let length = self.random.pick(&[1, 1, 2, 3, 255, 256, 256, 257]);
+            let first = self.random.below(4);
+            let (customer, source) = match self.some_record() {
+                // the same pair, so that its own room counts
+                Some(record) if self.random.percent(50) => record,
+                _ => (self.random.between(1, 36) as u32, self.random.below(8) as u32),
+            };
+            self.say(&format!("file {source} {customer}{}", ascending(first, length)));
+            if self.random.percent(15) {
+                self.withdraw();
+            }
+            if self.random.percent(30) {
+                self.judge();
+            }
+        }
+        self.say("rejudge");
+        if self.random.percent(30) {
+            self.show(REGISTER);
+        }
+        self.clear_all();
+    }
+
+    /// Up to 512 routes, then at the limit.
+    fn many_routes(&mut self) {
+        let mut routes: Vec<u32> = (0..530).collect();
+        while routes.len() > 6 && self.left > 0 {
+            let route = routes.swap_remove(self.random.below(routes.len()));
+            let path = self.path();
+            let bytes = if self.random.percent(10) { Vec::new() } else { sequence(&path) };
+            let role = self.random.between(1, 6);
+            self.say(&format!("keep {route} {role} {} {}", path[0], hex(&bytes)));
+        }
+        for _ in 0..20 {
+            let route = self.random.between(0, 600);
+            let judged = self.judged();
+            self.say(&format!("keep {route} {judged}"));
+            if self.random.percent(30) {
+                self.drop();
+            }
+            if self.random.percent(20) {
+                self.file();
+            }
+        }
+        for _ in 0..self.random.below(3) {
+            self.file();
+            self.say("rejudge");
+        }
+        if self.random.percent(40) {
+            self.show(LEDGER);
+        }
+        self.fewer_routes();
+    }
+
+    /// Up to 8,192 numbers in paths, then at the limit.
+    fn long_paths(&mut self) {
+        self.fewer_routes();
+        for route in 1_000..1_130 {
+            let length = if self.random.percent(95) { 64 } else { 63 };
+            let path = self.distinct_neighbours(length);
+            let role = self.random.between(1, 6);
+            self.say(&format!("keep {route} {role} {} {}", path[0], hex(&sequence(&path))));
+        }
+        for _ in 0..30 {
+            let route = self.random.between(1_000, 1_200);
+            // also what just fits, and one more
+            let room = self.path_room().min(64);
+            let length = self.random.pick(&[0, 1, 2, 63, 64, 65, room, room + 1, room + 1]);
+            let path = self.distinct_neighbours(length);
+            let bytes = if path.is_empty() { Vec::new() } else { sequence(&path) };
+            let neighbour = path.first().copied().unwrap_or(9);
+            self.say(&format!("keep {route} 3 {neighbour} {}", hex(&bytes)));
+            if self.random.percent(20) {
+                self.drop();
+            }
+        }
+        self.file();
+        self.say("rejudge");
+        if self.random.percent(30) {
+            self.show(LEDGER);
+        }
+        self.fewer_routes();
+    }
+
+    fn fewer_routes(&mut self) {
+        if self.random.percent(50) {
+            self.say("empty");
+            return;
+        }
+        while self.left > 0 {
+            match self.some_route() {
+                Some(route) => self.say(&format!("drop {route}")),
+                None => break,
+            }
+        }
+    }
+
+    /// Words that break the rules (or a wrong length), calls, and the repair.
+    fn damage(&mut self, table: &str, alter: fn(&mut Self, &str) -> String) {
+        for _ in 0..5 {
+            self.file();
+            self.keep();
+        }
+        let mut undo = vec![alter(self, table)];
+        if self.random.percent(30) {
+            let other = self.random.pick(&[REGISTER, LEDGER]);
+            let second = if self.random.percent(25) { Self::resize } else { Self::poke };
+            undo.push(second(self, other));
+        }
+        // Every call once at least
+        type Call<S> = fn(&mut S);
+        let all: [Call<Self>; 7] =
+            [Self::file, Self::withdraw, Self::clear, Self::judge, Self::keep, Self::drop, |s| {
+                s.say("rejudge")
+            }];
+        let mut calls = all.to_vec();
+        for _ in 0..self.random.below(6) {
+            calls.push(self.random.pick(&all));
+        }
+        while !calls.is_empty() {
+            let call = calls.swap_remove(self.random.below(calls.len()));
+            call(self);
+        }
+        if self.random.percent(15) {
+            self.show(table);
+        }
+        if self.random.percent(60) {
+            // An altered table that was sound may have changed since: then
+            // undoing is one more alteration.
+            while let Some(command) = undo.pop() {
+                self.say(&command);
+            }
+            self.any_call();
+        }
+        if !self.well_formed(REGISTER) || !self.well_formed(LEDGER) {
+            if self.random.percent(30) {
+                self.say("resize register 12290");
+                self.say("resize ledger 12802");
+                self.any_call();
+            }
+            self.say("empty");
+        }
+    }
+
+    fn words(&self, table: &str) -> Vec<u32> {
+        match table {
+            REGISTER => self.model.register.words(),
+            _ => self.model.ledger.words(),
+        }
+    }
+
+    /// Gives the command that undoes it, but for words that shrinking took.
+    fn resize(&mut self, table: &str) -> String {
+        let full = self.words(table).len();
+        let length = match self.random.below(8) {
+            0 => 0,
+            1 => self.random.between(1, 20),
+            2 | 3 => full.saturating_sub(1),
+            4 => (full + 1).min(16_384),
+            5 => self.random.pick(&[12_289, 12_290, 12_291, 12_801, 12_802, 12_803]),
+            6 => self.random.pick(&[16_384, 16_385]),
+            _ => self.random.below(16_385),
+        };
+        self.say(&format!("resize {table} {length}"));
+        format!("resize {table} {full}")
+    }
+
+    /// Gives the command that undoes it.
+    fn poke(&mut self, table: &str) -> String {
+        let words = self.words(table);
+        let full = words.len();
+        if full < 2 {
+            return self.resize(table);
+        }
+        // In a table that is damaged already the counts may say anything.
+        let entry = if table == REGISTER { 4 } else { 9 };
+        let count = (words[0] as usize).min(full / entry);
+        let body = (2 + entry * count).min(full - 1);
+        let end = (body + words[1] as usize).min(full - 1);
+        let index = match self.random.below(12) {
+            0 | 1 => self.random.below(2),
+            2..=6 if count > 0 => 2 + self.random.below(entry * count),
+            7 | 8 if end > body => self.random.between(body, end - 1),
+            9 => end,
+            10 => full - 1,
+            11 => self.random.below(full + 2),
+            _ => self.random.below(end + 1),
+        };
+        let old = words.get(index).copied().unwrap_or(0);
+        let edges = [0, 1, 2, 3, 4, 5, 6, 7, 8, 64, 65, 256, 257, 512, 513, 1_024, 1_025, 8_192];
+        let value = match self.random.below(10) {
+            0..=2 => old.wrapping_add(1),
+            3 | 4 => old.wrapping_sub(1),
+            5..=7 => self.random.pick(&edges),
+            8 => self.random.pick(&[8_193, u32::MAX, u32::MAX - 1, 1 << 30, 1 << 31, 0xc000_0000]),
+            _ => self.random.draw() as u32,
+        };
+        self.say(&format!("poke {table} {index} {value}"));
+        format!("poke {table} {index} {old}")
+    }
+
+    /// One word at a time, near its own bounds, looked at and put back.
+    fn single_words(&mut self) {
+        for _ in 0..8 {
+            self.file();
+            self.keep();
+        }
+        for _ in 0..50 {
+            let table = self.random.pick(&[REGISTER, LEDGER]);
+            let undo =
+                if self.random.percent(40) { self.poke(table) } else { self.poke_entry(table) };
+            match table {
+                REGISTER => self.judge(),
+                _ => self.say("drop 4000000000"),
+            }
+            self.say(&undo);
+        }
+        if !self.well_formed(REGISTER) || !self.well_formed(LEDGER) {
+            self.say("empty");
+        }
+    }
+
+    /// A word of an entry, by what it means. Gives the command that undoes it.
+    fn poke_entry(&mut self, table: &str) -> String {
+        let words = self.words(table);
+        let entry = if table == REGISTER { 4 } else { 9 };
+        let count = words.first().map_or(0, |n| *n as usize);
+        if !self.well_formed(table) || count == 0 {
+            return self.poke(table);
+        }
+        let (body, length) = (2 + entry * count, words[1] as usize);
+        if self.random.percent(15) && length > 0 {
+            let index = body + self.random.below(length);
+            let after = words.get(index + 1).copied().unwrap_or(0);
+            let value = self.random.pick(&[0, 0, words[index - 1], after]);
+            self.say(&format!("poke {table} {index} {value}"));
+            return format!("poke {table} {index} {}", words[index]);
+        }
+        let nth = self.random.below(count);
+        let field = self.random.below(entry);
+        let index = 2 + entry * nth + field;
+        // The same word of the entries beside it, for the order
+        let before = words[if nth > 0 { index - entry } else { index }];
+        let after = words[if nth + 1 < count { index + entry } else { index }];
+        let bounds: &[u32] = match (table, field) {
+            (REGISTER, 1) => &[0, 7, 8],
+            (REGISTER, 3) => &[0, 1, 256, 257],
+            (LEDGER, 1) => &[0, 1, 3, 4, 6, 7],
+            (LEDGER, 3) => &[0, 1, 2, 3, 4],
+            (LEDGER, 4) => &[0, 1, 2, 3],
+            (LEDGER, 5 | 6) => &[0, 1, 64, 65],
+            (LEDGER, 8) => &[0, 1, 64, 65],
+            _ => &[0, 1],
+        };
+        let bound = self.random.pick(bounds);
+        let value = self.random.pick(&[bound, bound, before, after]);
+        self.say(&format!("poke {table} {index} {value}"));
+        format!("poke {table} {index} {}", words[index])
+    }
+
+    /// Verdicts and places that the word rules allow, for a re-judging to mend.
+    fn untrue_verdicts(&mut self) {
+        for _ in 0..20 {
+            self.keep();
+        }
+        let entries = self.route_count();
+        for _ in 0..self.random.below(8) {
+            if entries > 0 {
+                let first = 2 + 9 * self.random.below(entries);
+                let (word, most) = self.random.pick(&[(4, 2), (5, 64), (6, 64)]);
+                let value = self.random.between(0, most);
+                // An entry with a ground allows no other.
+                let words = self.model.ledger.words();
+                if words[first + 3] == 0 {
+                    self.say(&format!("poke ledger {} {value}", first + word));
+                }
+            }
+        }
+        self.say("rejudge");
+        self.show(LEDGER);
+        self.say("rejudge");
+    }
+
+    fn lines_that_are_no_commands(&mut self) {
+        for _ in 0..15 {
+            self.bad_line();
+        }
+        // at the longest line and one byte past it
+        let digits = self.random.pick(&[16_372, 16_374]);
+        let neighbour = self.random.pick(&["200", "20"]);
+        self.say(&format!("judge 1 {neighbour} {}", "0".repeat(digits)));
+        let list = " 1".repeat(self.random.pick(&[8_187, 8_188, 8_189]));
+        self.say(&format!("file 0 1{list}"));
+        self.any_call();
+    }
+
+    fn bad_line(&mut self) {
+        let line = self.random.pick(&BAD_LINES).to_string();
+        let line = match self.random.below(4) {
+            0 => {
+                let (first, bytes) = self.attribute();
+                let digits = hex(&bytes);
+                match self.random.below(4) {
+                    0 => format!("judge 1 {first} {digits}0"),
+                    1 => format!(
+                        "judge 1 {first} {}",
+                        digits.replace('-', "0a").to_uppercase() + "0A"
+                    ),
+                    2 => format!("judge 1 {first}  {digits}"),
+                    _ => format!("judge 1 {first} {digits} "),
+                }
+            }
+            1 => {
+                let (source, customer, list) = (self.source(), self.number(), self.list());
+                let list = numbers(&list);
+                match self.random.below(4) {
+                    0 => format!("file 0{source} {customer}{list}"),
+                    1 => format!("file {source} {customer}{list} "),
+                    2 => format!("file {source} {customer}{list} 4294967296"),
+                    _ => format!("file {source},{customer}{list}"),
+                }
+            }
+            _ => line,
+        };
+        self.say(&line);
+    }
+}
+
+const BAD_LINES: [&str; 48] = [
+    "", " ", "-", "0", "hello", "File 0 1 2", "file", "file 0", "file 0 ", "file x 1 2",
+    "file 0 1 +2", "file 0 1 2,3", "file 0 1 -", " file 0 1 2", "file 0  1 2", "file 0 1 2\t3",
+    "file 0 1 00", "file 0 4294967296 2", "file 0 1 18446744073709551617", "files 0 1 2",
+    "withdraw", "withdraw 0", "withdraw 0 1 2", "withdraw 0 01", "clear", "clear x", "clear 0 1",
+    "clear 00", "judge", "judge 1 5", "judge 1 5 0", "judge 1 5 0G", "judge 1 5 0A",
+    "judge 1 5 - -", "judge 1 5 é", "keep 1 1 5", "keep 1 1", "keep 01 1 5 -", "keep 1 1 5 020",
+    "drop", "drop x", "drop 1 1", "rejudge x", "poke register 0", "poke registers 0 0",
+    "resize ledger 99999", "words", "empty 0",
+];
+
+// Fixed vectors
+
+const REGISTER_D: [&str; 6] = [
+    "file 0 10 20 30", "file 0 20 40", "file 0 40 0", "file 0 50 40", "file 0 70 80",
+    "file 0 80 70",
+];
+
+/// Role, neighbour, path of the vectors A to L, all over register D.
+const A_TO_L: [(u32, u32, &[u32]); 12] = [
+    (1, 20, &[20, 10]),
+    (1, 40, &[40, 20, 10]),
+    (1, 50, &[50, 20, 10]),
+    (2, 30, &[30, 60, 10]),
+    (1, 30, &[30, 60]),
+    (3, 50, &[50, 40, 20, 10]),
+    (3, 20, &[20, 10, 30]),
+    (3, 20, &[20, 10, 40]),
+    (3, 50, &[50, 20]),
+    (6, 80, &[80, 70]),
+    (1, 30, &[20, 10]),
+    (4, 30, &[20, 10]),
+];
+
+fn vectors() -> Vec<String> {
+    let mut lines = Lines(Vec::new());
+    whole_register(&mut lines);
+    lines.say("empty");
+    judged_vectors(&mut lines);
+    lines.say("empty");
+    attributes(&mut lines);
+    lines.say("empty");
+    argument_refusals(&mut lines);
+    lines.say("empty");
+    rejudging(&mut lines);
+    lines.say("empty");
+    damaged_tables(&mut lines);
+    for (sound, pokes, call) in one_rule_broken() {
+        lines.say("empty");
+        lines.0.extend(sound);
+        lines.say(call);
+        lines.0.extend(pokes);
+        lines.say(call);
+    }
+    lines.say("empty");
+    room(&mut lines);
+    lines.say("empty");
+    errors(&mut lines);
+    lines.0
+}
+
+struct Lines(Vec<String>);
+
+impl Lines {
+    fn say(&mut self, line: &str) {
+        self.0.push(line.to_string());
+    }
+
+    fn all(&mut self, lines: &[&str]) {
+        lines.iter().for_each(|line| self.say(line));
+    }
+
+    fn judge(&mut self, role: u32, neighbour: u32, attribute: &[u8]) {
+        self.0.push(format!("judge {role} {neighbour} {}", hex(attribute)));
+    }
+
+    fn keep(&mut self, route: u32, role: u32, neighbour: u32, attribute: &[u8]) {
+        self.0.push(format!("keep {route} {role} {neighbour} {}", hex(attribute)));
+    }
+}
+
+fn whole_register(lines: &mut Lines) {
+    lines.all(&["register", "ledger", "words register", "words ledger"]);
+    lines.all(&["file 2 65010 65001 65002", "file 0 65010 65003", "register", "words register"]);
+}
+
+fn judged_vectors(lines: &mut Lines) {
+    lines.all(&REGISTER_D);
+    lines.say("register");
+    for (role, neighbour, path) in A_TO_L {
+        lines.judge(role, neighbour, &sequence(path));
+    }
+    for (route, (role, neighbour, path)) in (1..).zip(A_TO_L) {
+        lines.keep(route, role, neighbour, &sequence(path));
+    }
+    lines.all(&["ledger", "rejudge", "ledger"]);
+    let (b, c, g) = (A_TO_L[1], A_TO_L[2], A_TO_L[6]);
+    // M
+    lines.say("file 0 30 0");
+    lines.judge(g.0, g.1, &sequence(g.2));
+    lines.all(&["rejudge", "ledger", "withdraw 0 30", "rejudge", "ledger"]);
+    // N, and B beside it: no source's list replaces another's
+    lines.say("file 1 20 50");
+    lines.judge(c.0, c.1, &sequence(c.2));
+    lines.judge(b.0, b.1, &sequence(b.2));
+    lines.all(&["rejudge", "ledger", "register", "withdraw 1 20"]);
+    // the same with the sources the other way round
+    lines.all(&["withdraw 0 20", "file 1 20 40", "file 0 20 50"]);
+    lines.judge(c.0, c.1, &sequence(c.2));
+    lines.judge(b.0, b.1, &sequence(b.2));
+    lines.all(&["clear 1", "file 0 20 40", "rejudge"]);
+    // the first and the last source
+    lines.all(&["withdraw 0 20", "file 7 20 40", "file 0 20 50"]);
+    lines.judge(b.0, b.1, &sequence(b.2));
+    lines.judge(c.0, c.1, &sequence(c.2));
+    lines.all(&["clear 7", "file 0 20 40", "rejudge"]);
+    // O: a run doesn't cross a boundary
+    lines.judge(1, 20, &[sequence(&[20]), sequence(&[20, 10])].concat());
+    lines.keep(13, 1, 20, &[sequence(&[20]), sequence(&[20, 10])].concat());
+    // a number that lists itself
+    lines.say("file 5 20 20");
+    lines.judge(1, 20, &[sequence(&[20]), sequence(&[20, 10])].concat());
+    lines.all(&["rejudge", "ledger"]);
+    // every role on every path
+    for role in 1..=6 {
+        for (_, neighbour, path) in A_TO_L {
+            lines.judge(role, neighbour, &sequence(path));
+        }
+    }
+}
+
+fn attributes(lines: &mut Lines) {
+    lines.all(&REGISTER_D);
+    for role in 1..=6 {
+        lines.judge(role, 20, &[]);
+    }
+    for text in [
+        "02", "00", "01", "03", "04", "05", "ff", "0300", "0400", "0000", "0509", "ff00", "0200",
+        "0100", "020000000014", "0201", "0201000000", "02010000001", "020200000000000000",
+        "020100000000", "02020000001400000000", "02020000000000000000", "010100000000",
+        "02010000000002", "02010000001402", "02010000001400", "02010000001403", "0201000000140300",
+        "0201000000140500", "0201000000140200", "0201000000140202000000010000",
+        "02010000001402020000000100000000", "01010000001402", "01010000000103010000000a",
+        "030100000001", "040100000001", "02010000006302", "0201000000140101000000000200",
+    ] {
+        lines.say(&format!("judge 1 20 {text}"));
+        lines.say(&format!("judge 4 30 {text}"));
+        lines.say(&format!("keep 1 3 20 {text}"));
+    }
+    // grounds, several at once
+    let stranger_and_set = [sequence(&[99]), segment(1, &[20])].concat();
+    let set_first = [segment(1, &[20]), sequence(&[99])].concat();
+    let set_last = [sequence(&[20, 10]), segment(1, &[5, 6])].concat();
+    for role in 1..=6 {
+        lines.judge(role, 20, &stranger_and_set);
+        lines.judge(role, 20, &set_first);
+        lines.judge(role, 77, &set_first);
+        lines.judge(role, 20, &set_last);
+        lines.judge(role, 21, &set_last);
+    }
+    lines.keep(2, 1, 20, &stranger_and_set);
+    lines.keep(3, 4, 20, &stranger_and_set);
+    lines.keep(4, 1, 77, &set_first);
+    lines.keep(5, 6, 20, &set_last);
+    lines.say("ledger");
+    // runs; one number
+    lines.judge(1, 20, &sequence(&[20, 20, 20, 10, 10]));
+    lines.judge(3, 20, &sequence(&[20, 20, 10, 20]));
+    lines.judge(1, 20, &sequence(&[20]));
+    lines.judge(3, 20, &sequence(&[20, 20]));
+    lines.judge(6, 4_294_967_295, &sequence(&[4_294_967_295]));
+    // 64 merged numbers, 65, and 65 with a ground
+    let upto = |n: u32| (1..=n).collect::<Vec<u32>>();
+    let twice: Vec<u32> = upto(64).iter().flat_map(|n| [*n, *n]).collect();
+    for role in [1, 3, 4] {
+        lines.judge(role, 1, &sequence(&upto(64)));
+        lines.judge(role, 1, &sequence(&upto(65)));
+        lines.judge(role, 2, &sequence(&upto(65)));
+        lines.judge(role, 1, &sequence(&twice));
+        lines.judge(role, 1, &[sequence(&twice), sequence(&[64])].concat());
+        lines.judge(role, 1, &[sequence(&upto(65)), segment(1, &[1])].concat());
+    }
+    lines.keep(65, 1, 2, &sequence(&upto(65)));
+    lines.keep(66, 1, 1, &sequence(&upto(65)));
+    lines.say("ledger");
+    // 1,024 bytes, 1,025
+    let most = [sequence(&[7; 200]), sequence(&[7; 55])].concat();
+    lines.judge(3, 7, &most);
+    lines.judge(1, 7, &most);
+    lines.judge(1, 7, &[most, vec![2]].concat());
+    lines.judge(1, 7, &[0; 1_024]);
+    lines.judge(1, 7, &[0; 1_025]);
+    // the widest gaps, 63 and -63
+    lines.say("empty");
+    lines.judge(3, 1, &sequence(&upto(64)));
+    for number in 1..=64u32 {
+        let list: Vec<u32> =
+            [number - 1, number + 1].into_iter().filter(|n| (1..=64).contains(n)).collect();
+        lines.say(&format!("file 3 {number}{}", numbers(&list)));
+    }
+    lines.judge(6, 1, &sequence(&upto(64)));
+    lines.judge(2, 1, &sequence(&upto(64)));
+    lines.all(&["file 3 32 0", "file 3 33 0"]);
+    lines.judge(3, 1, &sequence(&upto(64)));
+    lines.judge(1, 1, &sequence(&upto(64)));
+    lines.say("file 3 31 0");
+    lines.judge(3, 1, &sequence(&upto(64)));
+    lines.say("withdraw 3 32");
+    lines.judge(3, 1, &sequence(&upto(64)));
+}
+
+/// Each row that arguments alone, or what is stored, can give; then orders.
+fn argument_refusals(lines: &mut Lines) {
+    let upto = |n: u32| (1..=n).collect::<Vec<u32>>();
+    lines.all(&["file 8 1 2", "file 4294967295 1 2", "file 8 0", "file 0 0 2", "file 7 0"]);
+    lines.all(&["file 0 1", "file 0 1 2 2", "file 0 1 3 2", "file 0 1 0 0", "file 0 1 0"]);
+    lines.say(&format!("file 0 1{}", numbers(&upto(257))));
+    lines.say(&format!("file 0 1{}", numbers(&upto(256))));
+    lines.all(&["file 7 1 0 4294967295", "file 0 4294967295 4294967295", "register"]);
+    lines.all(&["withdraw 8 1", "withdraw 8 0", "withdraw 0 0", "withdraw 0 2", "withdraw 1 1"]);
+    lines.all(&[
+        "withdraw 0 1", "withdraw 0 1", "clear 8", "clear 1", "clear 7", "clear 7", "register",
+    ]);
+    let long = vec![2; 1_025];
+    let faulty = [2, 1, 0, 0, 0, 0];
+    for route in ["judge", "keep 9"] {
+        for (role, neighbour, attribute) in [
+            (0u32, 0, &long[..]),
+            (7, 5, &faulty),
+            (4_294_967_295, 5, &[]),
+            (6, 0, &long),
+            (4, 0, &[]),
+            (1, 0, &faulty),
+            (1, 5, &long),
+            (1, 5, &faulty),
+        ] {
+            lines.say(&format!("{route} {role} {neighbour} {}", hex(attribute)));
+        }
+    }
+    lines.keep(9, 1, 5, &sequence(&[5]));
+    lines.keep(9, 0, 5, &sequence(&[5]));
+    lines.keep(9, 1, 0, &sequence(&[5]));
+    lines.keep(9, 1, 5, &long);
+    lines.keep(9, 1, 5, &faulty);
+    lines.keep(9, 1, 1, &sequence(&upto(65)));
+    lines.keep(9, 1, 5, &sequence(&[5]));
+    lines.keep(9, 1, 5, &[]);
+    lines.keep(0, 4, 6, &sequence(&[5]));
+    lines.keep(4_294_967_295, 4, 6, &[]);
+    lines.all(&[
+        "ledger", "drop 8", "drop 9", "drop 9", "drop 0", "ledger", "drop 4294967295", "ledger",
+    ]);
+}
+
+fn rejudging(lines: &mut Lines) {
+    lines.keep(1, 1, 20, &sequence(&[20, 10]));
+    lines.keep(2, 1, 30, &sequence(&[20, 10]));
+    lines.keep(3, 6, 80, &sequence(&[80, 70]));
+    lines.keep(4, 3, 20, &sequence(&[20, 10, 30]));
+    lines.say("ledger");
+    for change in REGISTER_D.iter().chain(&["file 0 30 0", "file 6 10 50", "clear 0", "clear 6"]) {
+        lines.all(&[change, "rejudge", "rejudge", "ledger"]);
+    }
+}
+
+fn damaged_tables(lines: &mut Lines) {
+    let calls = [
+        "file 9 0", "file 0 1 2", "withdraw 9 0", "withdraw 0 1", "clear 9", "clear 0",
+        "judge 9 0 02", "judge 1 5 -", "keep 1 9 0 02", "keep 1 1 5 -", "drop 77", "rejudge",
+    ];
+    // every call with each table too short, too long, damaged; then both
+    for (first, second) in [
+        ("resize register 12289", "rejudge"),
+        ("resize register 12291", "rejudge"),
+        ("resize register 0", "rejudge"),
+        ("resize ledger 12801", "rejudge"),
+        ("resize ledger 12803", "rejudge"),
+        ("resize ledger 1", "rejudge"),
+        ("poke register 12289 1", "rejudge"),
+        ("poke ledger 12801 1", "rejudge"),
+        ("poke register 0 4294967295", "resize ledger 12801"),
+        ("poke ledger 0 4294967295", "resize register 12291"),
+        ("poke register 1 4294967295", "poke ledger 1 4294967295"),
+        ("resize register 12802", "resize ledger 12290"),
+    ] {
+        lines.all(&["empty", first, second]);
+        lines.all(&calls);
+        lines.all(&["words register", "words ledger"]);
+    }
+    lines.all(&["empty", "resize register 16385", "poke register 12290 1", "poke ledger 12802 1"]);
+    lines.all(&[
+        "resize register 16384", "poke register 16383 7", "words register", "resize register 12290",
+    ]);
+    lines.all(&["words register", "clear 0"]);
+    // single words of sound tables, each put back
+    lines.say("empty");
+    lines.all(&REGISTER_D);
+    lines.say("file 1 10 7");
+    lines.keep(3, 1, 20, &sequence(&[20, 10]));
+    lines.keep(5, 4, 9, &[]);
+    lines.keep(6, 4, 30, &sequence(&[20, 10]));
+    let mut model = Model::new();
+    for line in &lines.0[lines.0.len() - 10..] {
+        console::answer(&mut model, line.as_bytes());
+    }
+    lines.all(&["register", "ledger"]);
+    for (table, words, used, call) in [
+        (REGISTER, model.register.words(), 39, "judge 1 5 -"),
+        (LEDGER, model.ledger.words(), 35, "drop 77"),
+    ] {
+        let end = words.len() - 1;
+        for index in (0..used).chain([end]) {
+            let old = words[index];
+            let mut values =
+                vec![old.wrapping_sub(1), old + 1, 0, 1, 2, 3, 4, 7, 8, 64, 65, u32::MAX];
+            values.dedup();
+            for value in values {
+                lines.say(&format!("poke {table} {index} {value}"));
+                lines.say(call);
+            }
+            lines.say(&format!("poke {table} {index} {old}"));
+        }
+        lines.all(&[table, call]);
+    }
+    // untrue but sound verdicts, mended by a re-judging
+    lines.all(&["poke ledger 6 2", "poke ledger 7 64", "poke ledger 8 64", "drop 77", "ledger"]);
+    lines.all(&["rejudge", "ledger", "rejudge"]);
+    // shrinking takes words, growing gives zeros
+    lines.all(&[
+        "resize ledger 33", "words ledger", "resize ledger 12802", "words ledger", "rejudge",
+    ]);
+    lines.all(&["poke ledger 32 9", "rejudge", "poke ledger 33 9", "rejudge", "words ledger"]);
+}
+
+/// Sound tables, pokes that then break one rule and keep all others, and a
+/// call that sees it.
+fn one_rule_broken() -> Vec<(Vec<String>, Vec<String>, &'static str)> {
+    let pokes = |table: &str, words: &[(usize, u32)]| {
+        words.iter().map(|(index, value)| format!("poke {table} {index} {value}")).collect()
+    };
+    let upto = |n: u32| (0..n).collect::<Vec<u32>>();
+    let file = |customer: u32, list: &[u32]| format!("file 0 {customer}{}", numbers(list));
+    // From a route server, so that the first number is free
+    let keep = |route: u32, length: u32| {
+        let path: Vec<u32> = (1..=length).collect();
+        let attribute = if length == 0 { Vec::new() } else { sequence(&path) };
+        format!("keep {route} 4 5 {}", hex(&attribute))
+    };
+    let (judge, drop) = ("judge 1 5 -", "drop 4000000000");
+    vec![
+        // a list of no number: both go to the second record
+        (vec![file(1, &[5]), file(2, &[6])], pokes(REGISTER, &[(5, 0), (8, 0), (9, 2)]), judge),
+        // a list of 257: one more, taken from the second record
+        (
+            vec![file(1, &upto(256)), file(2, &[1_000, 2_000])],
+            pokes(REGISTER, &[(5, 257), (8, 257), (9, 1)]),
+            judge,
+        ),
+        // 1,025 records: the first body words become an entry, zeros the new body words
+        (
+            (1..=1_024).map(|customer| file(customer, &[5])).collect(),
+            pokes(
+                REGISTER,
+                &[(0, 1_025), (1, 1_025), (4_098, 2_000), (4_099, 0), (4_100, 1_024), (4_101, 1)],
+            ),
+            judge,
+        ),
+        // 8,193 body words: list 32 takes the number of list 33, which gets a new one
+        (
+            (1..=31)
+                .map(|customer| file(customer, &upto(256)))
+                .chain([file(32, &upto(255)), file(33, &[1_000])])
+                .collect(),
+            pokes(
+                REGISTER,
+                &[
+                    (1, 8_193),
+                    (2 + 4 * 31 + 3, 256),
+                    (2 + 4 * 32 + 2, 8_192),
+                    (2 + 4 * 33 + 8_192, 7),
+                ],
+            ),
+            judge,
+        ),
+        // one pair twice
+        (vec![file(1, &[5]), file(2, &[6])], pokes(REGISTER, &[(6, 1)]), judge),
+        // a path of no number
+        (vec![keep(1, 1), keep(2, 1)], pokes(LEDGER, &[(10, 0), (18, 0), (19, 2)]), drop),
+        // a path under a ground
+        (vec![keep(1, 0), keep(2, 2)], pokes(LEDGER, &[(10, 1), (18, 1), (19, 1)]), drop),
+        // a path of 65
+        (vec![keep(1, 64), keep(2, 2)], pokes(LEDGER, &[(10, 65), (18, 65), (19, 1)]), drop),
+        // 513 routes
+        (
+            (0..512).map(|route| keep(route, 0)).collect(),
+            pokes(
+                LEDGER,
+                &[(0, 513), (4_610, 600), (4_611, 1), (4_612, 5), (4_613, 1), (4_614, 1)],
+            ),
+            drop,
+        ),
+        // 8,193 body words, as in the register
+        (
+            (0..127).map(|route| keep(route, 64)).chain([keep(127, 63), keep(128, 1)]).collect(),
+            pokes(
+                LEDGER,
+                &[
+                    (1, 8_193),
+                    (2 + 9 * 127 + 8, 64),
+                    (2 + 9 * 128 + 7, 8_192),
+                    (2 + 9 * 129 + 8_192, 7),
+                ],
+            ),
+            drop,
+        ),
+        // one route twice
+        (vec![keep(1, 1), keep(2, 1)], pokes(LEDGER, &[(11, 1)]), drop),
+        // ground 2 from a route server
+        (vec![keep(1, 0)], pokes(LEDGER, &[(5, 2)]), drop),
+    ]
+}
+
+fn room(lines: &mut Lines) {
+    for customer in 1..=1_024 {
+        lines.say(&format!("file {} {customer} 5", customer % 8));
+    }
+    lines.all(&["file 0 1025 5", "file 0 1 5", "file 1 1025", "file 1 1 5 6 7", "register"]);
+    lines.all(&["withdraw 1 1", "file 0 1025 5", "file 1 1 5", "clear 3", "clear 3", "file 3 3 5"]);
+    lines.say("empty");
+    let upto = |n: u32| numbers(&(0..n).collect::<Vec<u32>>());
+    for customer in 1..=32 {
+        lines.say(&format!("file 0 {customer}{}", upto(256)));
+    }
+    lines.say("file 0 33 5");
+    lines.say(&format!("file 0 32{}", upto(256)));
+    lines.say(&format!("file 0 32{}", upto(255)));
+    lines.all(&["file 0 33 5 6", "file 0 33 5"]);
+    lines.say(&format!("file 0 32{}", upto(256)));
+    lines.say("withdraw 0 33");
+    lines.say(&format!("file 0 32{}", upto(256)));
+    lines.all(&["clear 0", "register"]);
+    for route in 0..512 {
+        lines.keep(route, 1, 5, &[]);
+    }
+    lines.keep(512, 1, 5, &[]);
+    lines.keep(512, 1, 5, &sequence(&[5]));
+    lines.keep(511, 1, 5, &sequence(&[5]));
+    lines.say("drop 0");
+    lines.keep(512, 1, 5, &sequence(&[5]));
+    lines.keep(513, 1, 5, &[]);
+    lines.all(&["rejudge", "empty"]);
+    let path = sequence(&(1..=64).collect::<Vec<u32>>());
+    for route in 0..128 {
+        lines.keep(route, 3, 1, &path);
+    }
+    lines.keep(128, 1, 5, &sequence(&[5]));
+    lines.keep(129, 1, 5, &[]);
+    lines.say("drop 3");
+    lines.keep(128, 1, 5, &sequence(&[5]));
+    lines.keep(3, 1, 1, &path);
+    lines.say("drop 128");
+    lines.keep(3, 1, 1, &path);
+    lines.all(&["file 0 64 63", "rejudge", "rejudge"]);
+}
+
+fn errors(lines: &mut Lines) {
+    lines.all(&BAD_LINES);
+    // the longest line, and lines past it
+    lines.say(&format!("judge 1 200 {}", "0".repeat(16_372)));
+    lines.say(&format!("judge 1 20 {}", "0".repeat(16_374)));
+    lines.say(&format!("judge 1 200 {}", "0".repeat(70_000)));
+    lines.say(&format!("file 0 12{}", " 1".repeat(8_187)));
+    lines.say(&format!("file 0 1{}", " 1".repeat(8_188)));
+    lines.say(&format!("file 0 12{}", " 1".repeat(8_188)));
+    lines.all(&["register", "ledger"]);
+}
+
+#[cfg(test)]
+mod tests {
+    use super::*;
+    use std::collections::BTreeMap;
+
+    const ROWS: [(&str, &[u32]); 7] = [
+        ("file", &[1, 2, 4, 5, 6, 8]),
+        ("withdraw", &[1, 2, 4, 5, 7]),
+        ("clear", &[1, 2, 4]),
+        ("judge", &[1, 2, 9, 10, 11, 12, 13, 14, 15, 16, 17]),
+        ("keep", &[1, 2, 3, 9, 10, 11, 12, 13, 14, 15, 16, 17, 18, 20]),
+        ("drop", &[1, 3, 19]),
+        ("rejudge", &[1, 2, 3]),
+    ];
+
+    /// How often each call gave each kind of answer.
+    #[derive(Default)]
+    struct Seen(BTreeMap<(String, String), usize>);
+
+    impl Seen {
+        fn note(&mut self, line: &str, answer: &str) {
+            let call = line.split(' ').next().unwrap_or("");
+            let mut kind: String = answer.split(" at ").next().unwrap_or("").to_string();
+            if !kind.starts_with("refused") && !kind.starts_with("Invalid ground") {
+                kind = kind.split(' ').next().unwrap_or("").to_string();
+            }
+            *self.0.entry((call.to_string(), kind)).or_default() += 1;
+            if answer.contains("gap -") {
+                *self.0.entry((call.to_string(), "overlap".to_string())).or_default() += 1;
+            }
+        }
+
+        fn count(&self, call: &str, kind: &str) -> usize {
+            self.0.get(&(call.to_string(), kind.to_string())).copied().unwrap_or(0)
+        }
+
+        fn check(&self) {
+            for (call, rows) in ROWS {
+                for row in 1..=20 {
+                    let count = self.count(call, &format!("refused {row}"));
+                    assert_eq!(count > 0, rows.contains(&row), "{call}: row {row} {count} times");
+                }
+            }
+            for call in ["judge", "keep"] {
+                for kind in ["Valid", "Invalid", "Unknown", "overlap"] {
+                    assert!(self.count(call, kind) > 0, "{call}: {kind}");
+                }
+                for ground in 1..=3 {
+                    assert!(self.count(call, &format!("Invalid ground {ground}")) > 0);
+                }
+            }
+            for (call, kind) in [("file", "new"), ("file", "replaced"), ("withdraw", "done")] {
+                assert!(self.count(call, kind) > 0);
+            }
+        }
+    }
+
+    #[test]
+    fn every_row_is_reached() {
+        for seed in 1..=4 {
+            let mut seen = Seen::default();
+            random_stream(seed, 8_000, |line, answer| {
+                assert!(!line.contains('\n'));
+                seen.note(line, answer);
+                Ok(())
+            })
+            .unwrap();
+            seen.check();
+        }
+    }
+
+    #[test]
+    fn a_seed_decides_the_stream() {
+        let stream = |seed| {
+            let mut lines = Vec::new();
+            random_stream(seed, 500, |line, _| {
+                lines.push(line.to_string());
+                Ok(())
+            })
+            .unwrap();
+            lines
+        };
+        assert_eq!(stream(9).len(), 500);
+        assert_eq!(stream(9), stream(9));
+        assert_ne!(stream(9), stream(10));
+    }
+
+    #[test]
+    fn the_vectors_reach_every_row() {
+        let mut model = Model::new();
+        let mut seen = Seen::default();
+        for line in vectors() {
+            let answer = console::answer(&mut model, line.as_bytes());
+            seen.note(&line, &answer);
+        }
+        seen.check();
+    }
+
+    #[test]
+    fn each_broken_rule_is_refused() {
+        for (sound, pokes, call) in one_rule_broken() {
+            let mut model = Model::new();
+            let mut answer = |line: &str| console::answer(&mut model, line.as_bytes());
+            for line in &sound {
+                let given = answer(line);
+                assert!(!given.starts_with("refused") && given != "error", "{line}: {given}");
+            }
+            let (before, after) = match call.starts_with("drop") {
+                true => ("refused 19", "refused 3"),
+                false => ("Invalid ground 1", "refused 2"),
+            };
+            assert_eq!(answer(call), before, "{pokes:?}");
+            for line in &pokes {
+                assert_eq!(answer(line), "done");
+            }
+            assert_eq!(answer(call), after, "{pokes:?}");
+        }
+    }
+
+    /// The same answers when every call finds its tables as words.
+    #[test]
+    fn tables_as_words_answer_alike() {
+        let mut model = Model::new();
+        random_stream(21, 2_500, |line, answer| {
+            model.register = Table::Words(model.register.words());
+            model.ledger = Table::Words(model.ledger.words());
+            assert_eq!(console::answer(&mut model, line.as_bytes()), answer, "{line}");
+            Ok(())
+        })
+        .unwrap();
+    }
+
+    #[test]
+    fn bad_lines_are_errors() {
+        let mut model = Model::new();
+        for line in BAD_LINES {
+            assert_eq!(console::answer(&mut model, line.as_bytes()), "error", "{line}");
+        }
+    }
+}

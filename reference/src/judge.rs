@@ -1,0 +1,385 @@
+//! One route: reading its AS_PATH attribute, grounds, merging, verdicts.
+
+use crate::{AsNumber, Records, Refusal, GREATEST_SOURCE, LONGEST_ATTRIBUTE, LONGEST_PATH};
+
+#[derive(Clone, Copy, PartialEq, Eq, Debug)]
+pub enum Ground {
+    Empty = 1,
+    /// The first AS number isn't the neighbour's ("stranger").
+    NotNeighbour = 2,
+    AsSet = 3,
+}
+
+#[derive(Clone, Copy, PartialEq, Eq, Debug)]
+pub enum Cause {
+    Ground(Ground),
+    Hops { a: u32, b: u32 },
+}
+
+#[derive(Clone, Copy, PartialEq, Eq, Debug)]
+pub enum Verdict {
+    Valid,
+    Invalid(Cause),
+    Unknown { a: u32, b: u32 },
+}
+
+impl Verdict {
+    /// The ledger's three words: verdict, place a, place b.
+    pub fn words(self) -> (u32, u32, u32) {
+        match self {
+            Verdict::Valid => (0, 0, 0),
+            Verdict::Invalid(Cause::Ground(_)) => (1, 0, 0),
+            Verdict::Invalid(Cause::Hops { a, b }) => (1, a, b),
+            Verdict::Unknown { a, b } => (2, a, b),
+        }
+    }
+
+    /// The ledger's ground word, 0 for none.
+    pub fn ground(self) -> u32 {
+        match self {
+            Verdict::Invalid(Cause::Ground(ground)) => ground as u32,
+            _ => 0,
+        }
+    }
+}
+
+#[derive(Clone, Copy, PartialEq, Eq, Debug)]
+pub struct Judgement {
+    pub verdict: Verdict,
+    /// L - K, of a downstream judgement without a ground.
+    pub gap: Option<i32>,
+}
+
+#[derive(Clone, Copy, PartialEq, Eq, Debug)]
+pub enum SegmentType {
+    Set,
+    Sequence,
+}
+
+#[derive(Clone, PartialEq, Eq, Debug)]
+pub struct Segment {
+    pub kind: SegmentType,
+    pub numbers: Vec<AsNumber>,
+}
+
+const ROUTE_SERVER: u32 = 4;
+
+/// Roles 3 (provider) and 6 (mutual transit).
+pub fn is_downstream(role: u32) -> bool {
+    role == 3 || role == 6
+}
+
+/// Rows 9 to 17, then the judgement with the path that a ledger stores.
+pub fn judge(
+    records: &Records,
+    role: u32,
+    neighbour: AsNumber,
+    attribute: &[u8],
+) -> Result<(Judgement, Vec<AsNumber>), Refusal> {
+    if !(1..=6).contains(&role) {
+        return Err(Refusal::row(9));
+    }
+    if neighbour.0 == 0 {
+        return Err(Refusal::row(10));
+    }
+    if attribute.len() > LONGEST_ATTRIBUTE {
+        return Err(Refusal::row(11));
+    }
+    let segments = read(attribute)?;
+    if let Some(ground) = ground(role, neighbour, &segments) {
+        let verdict = Verdict::Invalid(Cause::Ground(ground));
+        return Ok((Judgement { verdict, gap: None }, Vec::new()));
+    }
+    // Only a path without a ground is merged, so a ground goes before row 17.
+    let path = merged(&segments);
+    if path.len() > LONGEST_PATH {
+        return Err(Refusal::row(17));
+    }
+    let (verdict, gap) = verdict(role, &path, |x, y| hop(records, x, y));
+    Ok((Judgement { verdict, gap }, path))
+}
+
+/// Rows 12 to 16, by place.
+pub fn read(attribute: &[u8]) -> Result<Vec<Segment>, Refusal> {
+    let mut segments = Vec::new();
+    let mut rest = attribute;
+    while !rest.is_empty() {
+        let start = attribute.len() - rest.len();
+        if rest.len() == 1 {
+            return Err(Refusal::at(12, start));
+        }
+        let kind = match rest[0] {
+            1 => SegmentType::Set,
+            2 => SegmentType::Sequence,
+            3 | 4 => return Err(Refusal::at(14, start)),
+            _ => return Err(Refusal::at(13, start)),
+        };
+        let count = usize::from(rest[1]);
+        if count == 0 {
+            return Err(Refusal::at(15, start));
+        }
+        let body = &rest[2..];
+        if body.len() < 4 * count {
+            return Err(Refusal::at(12, start));
+        }
+        let (body, after) = body.split_at(4 * count);
+        let mut numbers = Vec::new();
+        for (i, bytes) in body.chunks(4).enumerate() {
+            let number = bytes.iter().fold(0, |high, low| high * 256 + u32::from(*low));
+            if number == 0 {
+                return Err(Refusal::at(16, start + 2 + 4 * i));
+            }
+            numbers.push(AsNumber(number));
+        }
+        segments.push(Segment { kind, numbers });
+        rest = after;
+    }
+    Ok(segments)
+}
+
+pub fn ground(role: u32, neighbour: AsNumber, segments: &[Segment]) -> Option<Ground> {
+    let Some(first) = segments.first() else {
+        return Some(Ground::Empty);
+    };
+    if first.kind == SegmentType::Sequence && role != ROUTE_SERVER && first.numbers[0] != neighbour
+    {
+        return Some(Ground::NotNeighbour);
+    }
+    if segments.iter().any(|s| s.kind == SegmentType::Set) {
+        return Some(Ground::AsSet);
+    }
+    None
+}
+
+/// Runs of one number become one inside a segment; a run ends with its segment.
+pub fn merged(segments: &[Segment]) -> Vec<AsNumber> {
+    let mut path = Vec::new();
+    for segment in segments {
+        let mut numbers = segment.numbers.clone();
+        numbers.dedup();
+        path.append(&mut numbers);
+    }
+    path
+}
+
+#[derive(Clone, Copy, PartialEq, Eq, Debug)]
+pub enum Hop {
+    NoAttestation,
+    Provider,
+    NotProvider,
+}
+
+/// Over the united lists of all sources.
+pub fn hop(records: &Records, x: AsNumber, y: AsNumber) -> Hop {
+    let mut lists = records.range((x, 0)..=(x, GREATEST_SOURCE)).map(|(_, list)| list).peekable();
+    if lists.peek().is_none() {
+        return Hop::NoAttestation;
+    }
+    if lists.any(|list| list.contains(&y)) {
+        Hop::Provider
+    } else {
+        Hop::NotProvider
+    }
+}
+
+/// The verdict on a merged path, left end first and not empty, with the gap
+/// if the role is judged downstream.
+pub fn verdict(
+    role: u32,
+    path: &[AsNumber],
+    hop: impl Fn(AsNumber, AsNumber) -> Hop,
+) -> (Verdict, Option<i32>) {
+    if is_downstream(role) {
+        let (verdict, gap) = downstream(path, hop);
+        (verdict, Some(gap))
+    } else {
+        (upstream(path, hop), None)
+    }
+}
+
+fn upstream(path: &[AsNumber], hop: impl Fn(AsNumber, AsNumber) -> Hop) -> Verdict {
+    let n = path.len();
+    // AS(1) is the origin, at the right end.
+    let number = |i: usize| path[n - i];
+    let lowest = |kind: Hop| (2..=n).find(|&u| hop(number(u - 1), number(u)) == kind);
+    if let Some(u) = lowest(Hop::NotProvider) {
+        return Verdict::Invalid(Cause::Hops { a: u as u32, b: 0 });
+    }
+    if let Some(u) = lowest(Hop::NoAttestation) {
+        return Verdict::Unknown { a: u as u32, b: 0 };
+    }
+    Verdict::Valid
+}
+
+fn downstream(path: &[AsNumber], hop: impl Fn(AsNumber, AsNumber) -> Hop) -> (Verdict, i32) {
+    let n = path.len();
+    let number = |i: usize| path[n - i];
+    let up = |i: usize| hop(number(i - 1), number(i));
+    let down = |i: usize| hop(number(i + 1), number(i));
+    let u = (2..=n).find(|&u| up(u) == Hop::NotProvider).unwrap_or(n + 1);
+    let v = (1..n).rev().find(|&v| down(v) == Hop::NotProvider).unwrap_or(0);
+    let mut k = 1;
+    while k < n && up(k + 1) == Hop::Provider {
+        k += 1;
+    }
+    let mut l = n;
+    while l > 1 && down(l - 1) == Hop::Provider {
+        l -= 1;
+    }
+    // Negative where the ramps overlap.
+    let gap = l as i32 - k as i32;
+    let verdict = if u <= v {
+        Verdict::Invalid(Cause::Hops { a: u as u32, b: v as u32 })
+    } else if gap <= 1 {
+        Verdict::Valid
+    } else {
+        Verdict::Unknown { a: k as u32, b: l as u32 }
+    };
+    (verdict, gap)
+}
+
+/// The same judgements by trying every index, to compare with.
+pub mod slow {
+    use super::{is_downstream, AsNumber, Hop};
+
+    struct Path<'a, F> {
+        numbers: &'a [AsNumber],
+        hop: F,
+    }
+
+    impl<F: Fn(AsNumber, AsNumber) -> Hop> Path<'_, F> {
+        fn n(&self) -> usize {
+            self.numbers.len()
+        }
+
+        /// hop(AS(from), AS(to))
+        fn hop(&self, from: usize, to: usize) -> Hop {
+            let number = |i: usize| *self.numbers.iter().rev().nth(i - 1).expect("1 <= i <= N");
+            (self.hop)(number(from), number(to))
+        }
+
+        /// Is there a legitimate shape, if each unattested hop is taken as given?
+        /// Upstream: every hop climbs. Downstream: up to some AS(k) every hop
+        /// climbs, AS(k) to AS(k+1) is free, from there on every hop descends.
+        fn admitted(&self, downstream: bool, unattested: bool) -> bool {
+            let n = self.n();
+            let yes = |from, to| match self.hop(from, to) {
+                Hop::Provider => true,
+                Hop::NotProvider => false,
+                Hop::NoAttestation => unattested,
+            };
+            let climbs = |k: usize| (1..k).all(|i| yes(i, i + 1));
+            if downstream {
+                (1..=n).any(|k| climbs(k) && (k + 2..=n).all(|j| yes(j, j - 1)))
+            } else {
+                climbs(n)
+            }
+        }
+
+        /// The only candidate that passes.
+        fn one(
+            &self,
+            candidates: impl Iterator<Item = usize>,
+            test: impl Fn(usize) -> bool,
+        ) -> usize {
+            let found: Vec<usize> = candidates.filter(|i| test(*i)).collect();
+            assert_eq!(found.len(), 1, "one index");
+            found[0]
+        }
+
+        /// Lowest u of 2..N whose upward hop is of a kind, or N + 1.
+        fn lowest_up(&self, kind: Hop) -> usize {
+            let n = self.n();
+            let is = |u: usize| self.hop(u - 1, u) == kind;
+            self.one(2..=n + 1, |u| (u == n + 1 || is(u)) && (2..u).all(|w| !is(w)))
+        }
+
+        /// Highest v of 1..N-1 whose downward hop is Not Provider+, or 0.
+        fn highest_down(&self) -> usize {
+            let n = self.n();
+            let is = |v: usize| self.hop(v + 1, v) == Hop::NotProvider;
+            self.one(0..=n - 1, |v| (v == 0 || is(v)) && (v + 1..n).all(|w| !is(w)))
+        }
+
+        fn apex_up(&self) -> usize {
+            let reached = |k: usize| (2..=k).all(|i| self.hop(i - 1, i) == Hop::Provider);
+            (1..=self.n()).filter(|k| reached(*k)).max().expect("AS(1) is reached")
+        }
+
+        fn apex_down(&self) -> usize {
+            let n = self.n();
+            let reached = |l: usize| (l..n).all(|j| self.hop(j + 1, j) == Hop::Provider);
+            (1..=n).filter(|l| reached(*l)).min().expect("AS(N) is reached")
+        }
+    }
+
+    /// The verdict's word: Valid if admitted with unattested hops as no,
+    /// Invalid if not even with them as yes, Unknown otherwise.
+    pub fn word(role: u32, numbers: &[AsNumber], hop: impl Fn(AsNumber, AsNumber) -> Hop) -> u32 {
+        let path = Path { numbers, hop };
+        let downstream = is_downstream(role);
+        if path.admitted(downstream, false) {
+            0
+        } else if !path.admitted(downstream, true) {
+            1
+        } else {
+            2
+        }
+    }
+
+    /// The verdict's word by the draft's numbered steps, its short paths apart.
+    pub fn steps(role: u32, numbers: &[AsNumber], hop: impl Fn(AsNumber, AsNumber) -> Hop) -> u32 {
+        let path = Path { numbers, hop };
+        let n = path.n();
+        if is_downstream(role) {
+            if n <= 2 {
+                return 0;
+            }
+            if path.lowest_up(Hop::NotProvider) <= path.highest_down() {
+                return 1;
+            }
+            if path.apex_down() <= path.apex_up() + 1 {
+                0
+            } else {
+                2
+            }
+        } else {
+            if n == 1 {
+                return 0;
+            }
+            if (2..=n).any(|i| path.hop(i - 1, i) == Hop::NotProvider) {
+                return 1;
+            }
+            if (2..=n).any(|i| path.hop(i - 1, i) == Hop::NoAttestation) {
+                return 2;
+            }
+            0
+        }
+    }
+
+    /// Places and gap for a verdict's word.
+    pub fn places(
+        role: u32,
+        word: u32,
+        numbers: &[AsNumber],
+        hop: impl Fn(AsNumber, AsNumber) -> Hop,
+    ) -> (u32, u32, Option<i32>) {
+        let path = Path { numbers, hop };
+        let (a, b, gap) = if is_downstream(role) {
+            let (k, l) = (path.apex_up(), path.apex_down());
+            let gap = Some(l as i32 - k as i32);
+            match word {
+                0 => (0, 0, gap),
+                1 => (path.lowest_up(Hop::NotProvider), path.highest_down(), gap),
+                _ => (k, l, gap),
+            }
+        } else {
+            match word {
+                0 => (0, 0, None),
+                1 => (path.lowest_up(Hop::NotProvider), 0, None),
+                _ => (path.lowest_up(Hop::NoAttestation), 0, None),
+            }
+        };
+        (a as u32, b as u32, gap)
+    }
+}

@@ -1,0 +1,870 @@
+use crate::console::answer;
+use crate::judge::{self, slow, Hop};
+use crate::random::Random;
+use crate::words::{padded, Form};
+use crate::*;
+
+/// Runs each command and compares its answer.
+fn check(model: &mut Model, steps: &[(&str, &str)]) {
+    for (command, expected) in steps {
+        assert_eq!(answer(model, command.as_bytes()), *expected, "{command}");
+    }
+}
+
+fn run(steps: &[(&str, &str)]) {
+    check(&mut Model::new(), steps);
+}
+
+fn hex(bytes: &[u8]) -> String {
+    if bytes.is_empty() {
+        return "-".to_string();
+    }
+    bytes.iter().map(|b| format!("{b:02x}")).collect()
+}
+
+fn segment(kind: u8, numbers: &[u32]) -> Vec<u8> {
+    let mut bytes = vec![kind, numbers.len() as u8];
+    for number in numbers {
+        bytes.extend(number.to_be_bytes());
+    }
+    bytes
+}
+
+/// One sequence, as hex.
+fn sequence(numbers: &[u32]) -> String {
+    hex(&segment(2, numbers))
+}
+
+fn with_register_d() -> Model {
+    let mut model = Model::new();
+    for command in [
+        "file 0 10 20 30", "file 0 20 40", "file 0 40 0", "file 0 50 40", "file 0 70 80",
+        "file 0 80 70",
+    ] {
+        check(&mut model, &[(command, "new")]);
+    }
+    model
+}
+
+// The vectors, by hand
+
+const VECTORS: [(&str, u32, u32, &[u32], &str); 12] = [
+    ("A", 1, 20, &[20, 10], "Valid"),
+    ("B", 1, 40, &[40, 20, 10], "Valid"),
+    ("C", 1, 50, &[50, 20, 10], "Invalid 3 0"),
+    ("D", 2, 30, &[30, 60, 10], "Invalid 2 0"),
+    ("E", 1, 30, &[30, 60], "Unknown 2 0"),
+    ("F", 3, 50, &[50, 40, 20, 10], "Valid gap 0"),
+    ("G", 3, 20, &[20, 10, 30], "Unknown 1 3 gap 2"),
+    ("H", 3, 20, &[20, 10, 40], "Invalid 2 2 gap 2"),
+    ("I", 3, 50, &[50, 20], "Valid gap 1"),
+    ("J", 6, 80, &[80, 70], "Valid gap -1"),
+    ("K", 1, 30, &[20, 10], "Invalid ground 2"),
+    ("L", 4, 30, &[20, 10], "Valid"),
+];
+
+#[test]
+fn vectors_a_to_l() {
+    let mut model = with_register_d();
+    assert_eq!(sequence(&[20, 10]), "0202000000140000000a");
+    for (name, role, neighbour, path, expected) in VECTORS {
+        let command = format!("judge {role} {neighbour} {}", sequence(path));
+        assert_eq!(answer(&mut model, command.as_bytes()), expected, "vector {name}");
+    }
+    check(&mut model, &[("ledger", "0 0")]);
+    for (i, (name, role, neighbour, path, expected)) in VECTORS.iter().enumerate() {
+        let command = format!("keep {} {role} {neighbour} {}", i + 1, sequence(path));
+        assert_eq!(answer(&mut model, command.as_bytes()), *expected, "vector {name}");
+    }
+    let entries = [
+        "12 29", "1 1 20 0 0 0 0 0 2", "2 1 40 0 0 0 0 2 3", "3 1 50 0 1 3 0 5 3",
+        "4 2 30 0 1 2 0 8 3", "5 1 30 0 2 2 0 11 2", "6 3 50 0 0 0 0 13 4", "7 3 20 0 2 1 3 17 3",
+        "8 3 20 0 1 2 2 20 3", "9 3 50 0 0 0 0 23 2", "10 6 80 0 0 0 0 25 2",
+        "11 1 30 2 1 0 0 27 0", "12 4 30 0 0 0 0 27 2",
+    ];
+    // The eleventh has a ground and no path.
+    let paths =
+        "20 10 40 20 10 50 20 10 30 60 10 30 60 50 40 20 10 20 10 30 20 10 40 50 20 80 70 20 10";
+    let words = format!("{} {paths}", entries.join(" "));
+    check(&mut model, &[("ledger", &words), ("rejudge", "changed 0"), ("ledger", &words)]);
+}
+
+#[test]
+fn vectors_m_to_o() {
+    let mut model = with_register_d();
+    let g = format!("judge 3 20 {}", sequence(&[20, 10, 30]));
+    let b = format!("judge 1 40 {}", sequence(&[40, 20, 10]));
+    let c = format!("judge 1 50 {}", sequence(&[50, 20, 10]));
+    let o = format!("judge 1 20 {}{}", sequence(&[20]), sequence(&[20, 10]));
+    check(
+        &mut model,
+        &[
+            ("file 0 30 0", "new"),
+            (&g, "Invalid 2 2 gap 2"),
+            ("withdraw 0 30", "done"),
+            (&g, "Unknown 1 3 gap 2"),
+            ("file 1 20 50", "new"),
+            (&c, "Valid"),
+            (&b, "Valid"),
+            ("withdraw 1 20", "done"),
+            (&c, "Invalid 3 0"),
+            (&o, "Invalid 3 0"),
+        ],
+    );
+}
+
+#[test]
+fn whole_register() {
+    let mut model = Model::new();
+    check(
+        &mut model,
+        &[
+            ("file 2 65010 65001 65002", "new"),
+            ("file 0 65010 65003", "new"),
+            ("register", "2 3 65010 0 0 1 65010 2 1 2 65003 65001 65002"),
+            ("words register", "12290 2 3 65010 0 0 1 65010 2 1 2 65003 65001 65002"),
+        ],
+    );
+    let words = model.register.words();
+    assert_eq!(words.len(), 12_290);
+    assert_eq!(words[13..].len(), 12_277);
+    assert!(words[13..].iter().all(|w| *w == 0));
+    assert_eq!(Records::LENGTH, 12_290);
+    assert_eq!(Routes::LENGTH, 12_802);
+}
+
+// Reading
+
+#[test]
+fn faults_by_place() {
+    let cases: [(&str, &str); 30] = [
+        ("-", "Invalid ground 1"),
+        ("02", "refused 12 at 0"),
+        ("00", "refused 12 at 0"),
+        ("03", "refused 12 at 0"),
+        ("05", "refused 12 at 0"),
+        ("0300", "refused 14 at 0"),
+        ("0400", "refused 14 at 0"),
+        ("0000", "refused 13 at 0"),
+        ("0509", "refused 13 at 0"),
+        ("ff00", "refused 13 at 0"),
+        ("0200", "refused 15 at 0"),
+        ("0100", "refused 15 at 0"),
+        ("020000000014", "refused 15 at 0"),
+        ("0201", "refused 12 at 0"),
+        ("0201000000", "refused 12 at 0"),
+        ("020200000000000000", "refused 12 at 0"),
+        ("020100000000", "refused 16 at 2"),
+        ("02020000001400000000", "refused 16 at 6"),
+        ("02020000000000000000", "refused 16 at 2"),
+        ("010100000000", "refused 16 at 2"),
+        // a fault on the left goes first, whatever its row
+        ("02010000000002", "refused 16 at 2"),
+        ("02010000001402", "refused 12 at 6"),
+        ("0201000000140300", "refused 14 at 6"),
+        ("0201000000140500", "refused 13 at 6"),
+        ("0201000000140200", "refused 15 at 6"),
+        ("0201000000140202000000010000", "refused 12 at 6"),
+        ("02010000001402020000000100000000", "refused 16 at 12"),
+        // grounds come after the whole reading
+        ("01010000001402", "refused 12 at 6"),
+        ("01010000000103010000000a", "refused 14 at 6"),
+        ("02010000006303", "refused 12 at 6"),
+    ];
+    for (bytes, expected) in cases {
+        run(&[(&format!("judge 1 20 {bytes}"), expected)]);
+        run(&[(&format!("keep 7 1 20 {bytes}"), expected)]);
+    }
+}
+
+#[test]
+fn first_fault_of_joined_attributes() {
+    let mut random = Random::new(11);
+    let part = |random: &mut Random| {
+        let mut bytes = Vec::new();
+        for _ in 0..random.below(3) {
+            let kind = random.pick(&[1, 2, 2, 2, 2, 2, 0, 3, 4, 5]);
+            let numbers: Vec<u32> = (0..random.below(4)).map(|_| random.below(9) as u32).collect();
+            bytes.extend(segment(kind, &numbers));
+        }
+        let cut = if random.percent(30) { random.below(bytes.len() + 1) } else { bytes.len() };
+        bytes.truncate(cut);
+        bytes
+    };
+    for _ in 0..20_000 {
+        let (a, b) = (part(&mut random), part(&mut random));
+        let joined = [a.clone(), b.clone()].concat();
+        match (judge::read(&a), judge::read(&b), judge::read(&joined)) {
+            (Ok(left), Ok(right), whole) => assert_eq!(whole, Ok([left, right].concat())),
+            (Ok(_), Err(fault), whole) => {
+                let place = fault.place.unwrap() + a.len();
+                assert_eq!(whole, Err(Refusal::at(fault.row, place)));
+            }
+            // Only a segment cut short may be made whole by what follows.
+            (Err(fault), _, whole) => assert!(fault.row == 12 || whole == Err(fault)),
+        }
+    }
+}
+
+#[test]
+fn grounds_in_order() {
+    let mut model = with_register_d();
+    let of = |parts: &[(u8, &[u32])]| {
+        let bytes: Vec<u8> = parts.iter().flat_map(|(k, n)| segment(*k, n)).collect();
+        hex(&bytes)
+    };
+    let set_first = of(&[(1, &[20]), (2, &[99])]);
+    let stranger_and_set = of(&[(2, &[99]), (1, &[20])]);
+    let set_last = of(&[(2, &[20]), (1, &[10])]);
+    let long: Vec<u32> = (1..=65).collect();
+    let long_set = of(&[(2, &long), (1, &[3])]);
+    for (role, neighbour, bytes, expected) in [
+        (4, 20, "-", "Invalid ground 1"),
+        (3, 20, "-", "Invalid ground 1"),
+        (1, 20, &set_first[..], "Invalid ground 3"),
+        (1, 77, &set_first, "Invalid ground 3"),
+        (1, 20, &stranger_and_set, "Invalid ground 2"),
+        (4, 20, &stranger_and_set, "Invalid ground 3"),
+        (6, 20, &set_last, "Invalid ground 3"),
+        (3, 21, &set_last, "Invalid ground 2"),
+        // a ground goes before row 17
+        (1, 1, &long_set, "Invalid ground 3"),
+        (1, 2, &long_set, "Invalid ground 2"),
+        (1, 2, &sequence(&long), "Invalid ground 2"),
+        (4, 2, &sequence(&long), "refused 17"),
+        (1, 1, &sequence(&long), "refused 17"),
+    ] {
+        check(&mut model, &[(&format!("judge {role} {neighbour} {bytes}"), expected)]);
+    }
+}
+
+#[test]
+fn merging_and_bounds() {
+    let mut model = Model::new();
+    let mut judge = |role: u32, neighbour: u32, bytes: &[u8]| {
+        answer(&mut model, format!("judge {role} {neighbour} {}", hex(bytes)).as_bytes())
+    };
+    let upto = |n: u32| (1..=n).collect::<Vec<u32>>();
+    assert_eq!(judge(1, 1, &segment(2, &upto(64))), "Unknown 2 0");
+    assert_eq!(judge(3, 1, &segment(2, &upto(64))), "Unknown 1 64 gap 63");
+    assert_eq!(judge(3, 1, &segment(2, &upto(65))), "refused 17");
+    // 128 numbers, each twice: 64 merged; one more segment with the last number again: 65
+    let twice: Vec<u32> = upto(64).iter().flat_map(|n| [*n, *n]).collect();
+    assert_eq!(judge(1, 1, &segment(2, &twice)), "Unknown 2 0");
+    let again = [segment(2, &twice), segment(2, &[64])].concat();
+    assert_eq!(judge(1, 1, &again), "refused 17");
+    // 2 + 4 * 200 + 2 + 4 * 55 = 1,024 bytes
+    let most = [segment(2, &[7; 200]), segment(2, &[7; 55])].concat();
+    assert_eq!(most.len(), 1_024);
+    assert_eq!(judge(3, 7, &most), "Valid gap 1");
+    assert_eq!(judge(1, 7, &most), "Unknown 2 0");
+    let more = [most, vec![2]].concat();
+    assert_eq!(judge(1, 7, &more), "refused 11");
+    assert_eq!(judge(1, 7, &[0; 1_025]), "refused 11");
+    assert_eq!(judge(1, 7, &[0; 1_024]), "refused 13 at 0");
+    // one number
+    assert_eq!(judge(1, 7, &segment(2, &[7, 7, 7])), "Valid");
+    assert_eq!(judge(6, 7, &segment(2, &[7])), "Valid gap 0");
+}
+
+#[test]
+fn widest_overlap() {
+    let mut model = Model::new();
+    for i in 1..=64u32 {
+        let list: Vec<String> =
+            [i - 1, i + 1].iter().filter(|n| (1..=64).contains(*n)).map(u32::to_string).collect();
+        let command = format!("file 3 {i} {}", list.join(" "));
+        check(&mut model, &[(&command, "new")]);
+    }
+    let path: Vec<u32> = (1..=64).collect();
+    let command = format!("judge 6 1 {}", sequence(&path));
+    check(&mut model, &[(&command, "Valid gap -63")]);
+}
+
+// Refusals
+
+#[test]
+fn refusals_in_order() {
+    let list = |n: usize| (1..=n).map(|i| format!(" {i}")).collect::<String>();
+    let long = "02".repeat(1_025);
+    let five = sequence(&[5]);
+    let many = sequence(&(1..=65).collect::<Vec<u32>>());
+    run(&[
+        ("file 8 0", "refused 4"),
+        ("file 7 0", "refused 5"),
+        ("file 7 1", "refused 6"),
+        ("file 7 1 2 2", "refused 6"),
+        ("file 7 1 3 2", "refused 6"),
+        (&format!("file 7 1{}", list(257)), "refused 6"),
+        (&format!("file 7 1{}", list(256)), "new"),
+        ("file 7 1 0", "replaced"),
+        ("file 6 1 0 4294967295", "new"),
+        ("withdraw 8 0", "refused 4"),
+        ("withdraw 4294967295 1", "refused 4"),
+        ("withdraw 7 0", "refused 5"),
+        ("withdraw 7 2", "refused 7"),
+        ("withdraw 5 1", "refused 7"),
+        ("withdraw 7 1", "done"),
+        ("withdraw 7 1", "refused 7"),
+        ("clear 8", "refused 4"),
+        ("clear 7", "cleared 0"),
+        ("clear 6", "cleared 1"),
+        (&format!("judge 0 0 {long}"), "refused 9"),
+        (&format!("judge 7 1 {five}"), "refused 9"),
+        (&format!("judge 6 0 {long}"), "refused 10"),
+        ("judge 4 0 -", "refused 10"),
+        (&format!("judge 6 1 {long}"), "refused 11"),
+        (&format!("keep 9 0 0 {long}"), "refused 9"),
+        (&format!("keep 9 1 0 {long}"), "refused 10"),
+        (&format!("keep 9 1 1 {long}"), "refused 11"),
+        (&format!("keep 9 1 5 {five}"), "Valid"),
+        (&format!("keep 9 1 1 {long}"), "refused 11"),
+        ("keep 9 1 5 02", "refused 12 at 0"),
+        (&format!("keep 9 1 1 {many}"), "refused 17"),
+        (&format!("keep 9 1 5 {five}"), "refused 18"),
+        ("keep 9 1 5 -", "refused 18"),
+        ("drop 8", "refused 19"),
+        ("drop 9", "done"),
+        ("drop 9", "refused 19"),
+        ("register", "0 0"),
+        ("ledger", "0 0"),
+    ]);
+}
+
+#[test]
+fn table_refusals_in_order() {
+    run(&[
+        // both lengths go before row 2
+        ("poke register 0 4294967295", "done"),
+        ("resize ledger 12801", "done"),
+        ("keep 1 9 0 -", "refused 1"),
+        ("rejudge", "refused 1"),
+        ("drop 1", "refused 1"),
+        ("judge 9 0 02", "refused 2"),
+        ("file 9 0", "refused 2"),
+        ("withdraw 9 0", "refused 2"),
+        ("clear 9", "refused 2"),
+        // both damaged: 2
+        ("resize ledger 12802", "done"),
+        ("poke ledger 12801 1", "done"),
+        ("keep 1 9 0 -", "refused 2"),
+        ("rejudge", "refused 2"),
+        ("drop 1", "refused 3"),
+        // the ledger alone
+        ("poke register 0 0", "done"),
+        ("keep 1 9 0 -", "refused 3"),
+        ("rejudge", "refused 3"),
+        ("judge 1 5 -", "Invalid ground 1"),
+        ("file 0 1 2", "new"),
+        ("clear 0", "cleared 1"),
+        // the register's length does not touch a drop
+        ("empty", "done"),
+        ("keep 1 1 5 -", "Invalid ground 1"),
+        ("resize register 0", "done"),
+        ("words register", "0"),
+        ("judge 1 5 -", "refused 1"),
+        ("file 0 1 2", "refused 1"),
+        ("withdraw 0 1", "refused 1"),
+        ("clear 0", "refused 1"),
+        ("keep 2 1 5 -", "refused 1"),
+        ("rejudge", "refused 1"),
+        ("drop 1", "done"),
+        ("resize register 16384", "done"),
+        ("judge 1 5 -", "refused 1"),
+        ("words register", "16384"),
+        ("resize register 16385", "error"),
+        ("poke register 16384 0", "error"),
+        ("resize register 12290", "done"),
+        ("judge 1 5 -", "Invalid ground 1"),
+    ]);
+}
+
+#[test]
+fn a_poked_table_is_read_again() {
+    let mut model = with_register_d();
+    let g = format!("keep 4294967295 3 20 {}", sequence(&[20, 10, 30]));
+    let words = "1 3 4294967295 3 20 0 2 1 3 0 3 20 10 30";
+    check(
+        &mut model,
+        &[
+            (&g, "Unknown 1 3 gap 2"),
+            ("ledger", words),
+            // an untrue verdict is no damage
+            ("poke ledger 6 0", "done"),
+            ("poke ledger 7 64", "done"),
+            ("poke ledger 8 64", "done"),
+            ("drop 0", "refused 19"),
+            ("ledger", "1 3 4294967295 3 20 0 0 64 64 0 3 20 10 30"),
+            ("rejudge", "changed 1"),
+            ("rejudge", "changed 0"),
+            ("ledger", words),
+            ("poke ledger 7 65", "done"),
+            ("rejudge", "refused 3"),
+            ("words ledger", "12802 1 3 4294967295 3 20 0 2 65 3 0 3 20 10 30"),
+            ("poke ledger 7 1", "done"),
+            // the provider 30 of 10 becomes 31, and the number 30 of the path 31 too
+            ("poke register 27 31", "done"),
+            ("poke ledger 13 31", "done"),
+            ("rejudge", "changed 0"),
+            (
+                "register",
+                "6 7 10 0 0 2 20 0 2 1 40 0 3 1 50 0 4 1 70 0 5 1 80 0 6 1 20 31 40 0 40 80 70",
+            ),
+            // shrinking takes words, growing gives zeros
+            ("resize ledger 13", "done"),
+            ("words ledger", "13 1 3 4294967295 3 20 0 2 1 3 0 3 20 10"),
+            ("resize ledger 12802", "done"),
+            ("words ledger", "12802 1 3 4294967295 3 20 0 2 1 3 0 3 20 10"),
+            ("rejudge", "refused 3"),
+            ("poke ledger 13 5", "done"),
+            ("rejudge", "changed 0"),
+        ],
+    );
+}
+
+/// Each poke alone, on sound tables, is refused by the row, or is no damage.
+#[test]
+fn word_rules() {
+    let mut sound = with_register_d();
+    check(
+        &mut sound,
+        &[
+            ("file 1 10 7", "new"),
+            ("register", "7 8 10 0 0 2 10 1 2 1 20 0 3 1 40 0 4 1 50 0 5 1 70 0 6 1 80 0 7 1 20 30 7 40 0 40 80 70"),
+            (&format!("keep 3 1 20 {}", sequence(&[20, 10])), "Valid"),
+            ("keep 5 4 9 -", "Invalid ground 1"),
+            (&format!("keep 6 4 30 {}", sequence(&[20, 10])), "Valid"),
+            ("ledger", "3 4 3 1 20 0 0 0 0 0 2 5 4 9 1 1 0 0 2 0 6 4 30 0 0 0 0 2 2 20 10 20 10"),
+        ],
+    );
+    let damaged = [
+        // counts
+        "register 0 8", "register 0 6", "register 0 1025", "register 0 4294967295", "register 1 7",
+        "register 1 9", "register 1 8193", "register 1 4294967295",
+        // customer, source, start, count
+        "register 2 0", "register 2 11", "register 3 1", "register 3 2", "register 7 0",
+        "register 7 8", "register 4 1", "register 8 1", "register 5 1", "register 5 0",
+        "register 5 257", "register 5 4294967295", "register 9 0",
+        // lists, zeros to the end
+        "register 31 20", "register 31 19", "register 30 30", "register 38 1", "register 12289 1",
+        // ledger
+        "ledger 0 2", "ledger 0 4", "ledger 0 513", "ledger 0 4294967295", "ledger 1 3",
+        "ledger 1 8193", "ledger 2 5", "ledger 2 6", "ledger 11 3", "ledger 3 0", "ledger 3 7",
+        "ledger 4 0", "ledger 4 21", "ledger 13 0", "ledger 22 0", "ledger 5 1", "ledger 5 4",
+        "ledger 14 0", "ledger 14 2", "ledger 14 4", "ledger 6 3", "ledger 15 0", "ledger 15 2",
+        "ledger 16 1", "ledger 17 1", "ledger 7 65", "ledger 8 65", "ledger 9 1", "ledger 18 0",
+        "ledger 18 1", "ledger 10 1", "ledger 10 0", "ledger 10 65", "ledger 19 1", "ledger 29 21",
+        "ledger 29 0", "ledger 30 0", "ledger 32 0", "ledger 33 1", "ledger 12801 1",
+        "ledger 21 1",
+    ];
+    let harmless = [
+        "register 2 1", "register 3 0", "register 26 4294967295", "register 32 0",
+        "register 31 4294967295", "register 30 0", "register 34 3", "register 7 7", "ledger 2 0",
+        "ledger 2 4", "ledger 20 4294967295", "ledger 6 2", "ledger 7 64", "ledger 8 64",
+        "ledger 13 1", "ledger 14 3", "ledger 12 1", "ledger 22 1", "ledger 31 1", "ledger 32 9",
+        "ledger 30 20", "ledger 3 6", "ledger 3 4",
+    ];
+    for poke in damaged {
+        let mut model = sound.clone();
+        let row = if poke.starts_with("register") { "refused 2" } else { "refused 3" };
+        check(&mut model, &[(&format!("poke {poke}"), "done"), ("rejudge", row)]);
+        let words = model.clone();
+        check(&mut model, &[("keep 1 1 1 -", row)]);
+        assert_eq!(model.register.words(), words.register.words());
+        assert_eq!(model.ledger.words(), words.ledger.words());
+    }
+    for poke in harmless {
+        let mut model = sound.clone();
+        check(&mut model, &[(&format!("poke {poke}"), "done")]);
+        assert!(model.rejudge().is_ok(), "{poke}");
+    }
+}
+
+// Room
+
+#[test]
+fn room_in_the_register() {
+    let mut model = Model::new();
+    for customer in 1..=1_024 {
+        let command = format!("file {} {customer} 5", customer % 8);
+        check(&mut model, &[(&command, "new")]);
+    }
+    check(
+        &mut model,
+        &[
+            ("file 0 1025 5", "refused 8"),
+            ("file 0 1 5", "refused 8"),
+            ("file 1 1 5 6 7", "replaced"),
+            ("file 1 1025", "refused 6"),
+            ("withdraw 1 1", "done"),
+            ("file 0 1025 5", "new"),
+            ("file 1 1 5", "refused 8"),
+            ("clear 3", "cleared 128"),
+            ("clear 3", "cleared 0"),
+            ("file 3 3 5", "new"),
+        ],
+    );
+    let mut model = Model::new();
+    let list = |n: usize| (0..n).map(|i| format!(" {i}")).collect::<String>();
+    for customer in 1..=32 {
+        check(&mut model, &[(&format!("file 0 {customer}{}", list(256)), "new")]);
+    }
+    check(
+        &mut model,
+        &[
+            ("file 0 33 5", "refused 8"),
+            (&format!("file 0 32{}", list(256)), "replaced"),
+            (&format!("file 0 32{}", list(255)), "replaced"),
+            ("file 0 33 5 6", "refused 8"),
+            ("file 0 33 5", "new"),
+            (&format!("file 0 32{}", list(256)), "refused 8"),
+            ("withdraw 0 33", "done"),
+            (&format!("file 0 32{}", list(256)), "replaced"),
+        ],
+    );
+}
+
+#[test]
+fn room_in_the_ledger() {
+    let mut model = Model::new();
+    for route in 0..512 {
+        check(&mut model, &[(&format!("keep {route} 1 5 -"), "Invalid ground 1")]);
+    }
+    let five = sequence(&[5]);
+    check(
+        &mut model,
+        &[
+            ("keep 512 1 5 -", "refused 20"),
+            (&format!("keep 512 1 5 {five}"), "refused 20"),
+            (&format!("keep 511 1 5 {five}"), "refused 18"),
+            ("drop 0", "done"),
+            (&format!("keep 512 1 5 {five}"), "Valid"),
+            ("keep 513 1 5 -", "refused 20"),
+            ("empty", "done"),
+        ],
+    );
+    let path = sequence(&(1..=64).collect::<Vec<u32>>());
+    for route in 0..128 {
+        check(&mut model, &[(&format!("keep {route} 1 1 {path}"), "Unknown 2 0")]);
+    }
+    check(
+        &mut model,
+        &[
+            (&format!("keep 128 1 5 {five}"), "refused 20"),
+            // a ground needs no body word
+            ("keep 129 1 5 -", "Invalid ground 1"),
+            ("drop 3", "done"),
+            (&format!("keep 128 1 5 {five}"), "Valid"),
+            (&format!("keep 3 1 1 {path}"), "refused 20"),
+            ("drop 128", "done"),
+            (&format!("keep 3 1 1 {path}"), "Unknown 2 0"),
+        ],
+    );
+}
+
+// Re-judging
+
+#[test]
+fn rejudging_counts_changed_entries() {
+    let two = sequence(&[20, 10]);
+    let j = sequence(&[80, 70]);
+    run(&[
+        (&format!("keep 1 1 20 {two}"), "Unknown 2 0"),
+        (&format!("keep 2 1 30 {two}"), "Invalid ground 2"),
+        (&format!("keep 3 6 80 {j}"), "Valid gap 1"),
+        ("file 0 10 20", "new"),
+        ("rejudge", "changed 1"),
+        ("rejudge", "changed 0"),
+        ("file 0 70 80", "new"),
+        // a changed gap alone is no change
+        (&format!("judge 6 80 {j}"), "Valid gap 0"),
+        ("rejudge", "changed 0"),
+        ("file 0 10 30", "replaced"),
+        ("rejudge", "changed 1"),
+        ("ledger", "3 4 1 1 20 0 1 2 0 0 2 2 1 30 2 1 0 0 2 0 3 6 80 0 0 0 0 2 2 20 10 80 70"),
+        // another source's list joins, it does not replace
+        ("file 4 10 20", "new"),
+        ("rejudge", "changed 1"),
+        ("ledger", "3 4 1 1 20 0 0 0 0 0 2 2 1 30 2 1 0 0 2 0 3 6 80 0 0 0 0 2 2 20 10 80 70"),
+    ]);
+}
+
+// The console's errors
+
+#[test]
+fn no_commands() {
+    let mut model = with_register_d();
+    let before = model.register.words();
+    for line in [
+        "", " ", "hello", "FILE 0 1 2", "file", "file 0", "file  0 1 2", " file 0 1 2",
+        "file 0 1 2 ", "file 00 1 2", "file 0 01 2", "file 0 1 02", "file +0 1 2", "file -1 1 2",
+        "file 0 1 x", "file 0 1 4294967296", "file 0 1 99999999999999999999999", "file 0 1 2.0",
+        "file 0\t1 2", "file 8 0 x", "withdraw 0", "withdraw 0 10 20", "withdraw 0 a", "clear",
+        "clear 0 0", "clear -", "judge 1 20", "judge 1 20 0", "judge 1 20 020", "judge 1 20 0A",
+        "judge 1 20 0g", "judge 1 20 --", "judge 1 20 - -", "judge 1 20 ", "judge 9 0 0",
+        "judge 1 4294967296 -", "judge 1 20 é", "keep 1 1 20", "keep x 1 20 -", "keep 1 1 20 0x",
+        "drop", "drop 1 2", "drop x", "rejudge x", "register register", "ledger 0",
+        "poke register 12290 0", "poke ledger 12802 0", "poke table 0 0", "poke register 0",
+        "poke register 0 0 0", "poke register 4294967295 1", "resize register",
+        "resize register 16385", "resize x 1", "resize register -1", "words", "words x",
+        "words register x", "empty x", "empty ", "file 0 1 2\r",
+    ] {
+        check(&mut model, &[(line, "error")]);
+    }
+    assert_eq!(model.register.words(), before);
+    check(&mut model, &[("ledger", "0 0")]);
+}
+
+// The verdicts against the slow ones
+
+fn compare_verdicts(path: &[AsNumber], hop: impl Fn(AsNumber, AsNumber) -> Hop) {
+    for role in 1..=6 {
+        let (verdict, gap) = judge::verdict(role, path, &hop);
+        let (word, a, b) = verdict.words();
+        assert_eq!(word, slow::word(role, path, &hop), "role {role} {path:?}");
+        assert_eq!(word, slow::steps(role, path, &hop), "role {role} {path:?}");
+        assert_eq!((a, b, gap), slow::places(role, word, path, &hop), "role {role} {path:?}");
+        if let Some(gap) = gap {
+            assert!((-63..=63).contains(&gap));
+        }
+    }
+}
+
+const HOPS: [Hop; 3] = [Hop::NoAttestation, Hop::Provider, Hop::NotProvider];
+
+/// Every hop function on up to five different numbers.
+#[test]
+fn every_short_path() {
+    for n in 1..=5usize {
+        let path: Vec<AsNumber> = (0..n as u32).map(AsNumber).collect();
+        for choice in 0..3usize.pow(2 * (n as u32 - 1)) {
+            // One digit of the choice for each neighbouring pair and direction
+            let hop = |x: AsNumber, y: AsNumber| {
+                let digit = 2 * x.0.min(y.0) + u32::from(x > y);
+                HOPS[choice / 3usize.pow(digit) % 3]
+            };
+            compare_verdicts(&path, hop);
+        }
+    }
+}
+
+#[test]
+fn random_paths_and_hops() {
+    let mut random = Random::new(5);
+    for _ in 0..6_000 {
+        let numbers = random.between(1, 12);
+        let providers = random.pick(&[20, 60, 90, 100]);
+        let table: Vec<Hop> = (0..numbers * numbers)
+            .map(|_| match random.percent(providers) {
+                true => Hop::Provider,
+                false => random.pick(&HOPS),
+            })
+            .collect();
+        let length = random.pick(&[1, 2, 3, 4, 6, 9, 20, 64]);
+        let path: Vec<AsNumber> =
+            (0..length).map(|_| AsNumber(random.below(numbers) as u32)).collect();
+        let hop = |x: AsNumber, y: AsNumber| table[x.0 as usize * numbers + y.0 as usize];
+        compare_verdicts(&path, hop);
+    }
+}
+
+#[test]
+fn random_records() {
+    let mut random = Random::new(6);
+    for _ in 0..1_500 {
+        let records = random_records_of(&mut random, 30, 6, 4);
+        let length = random.between(1, 10);
+        let path: Vec<AsNumber> =
+            (0..length).map(|_| AsNumber(random.between(1, 7) as u32)).collect();
+        // The hop from one united list, against the one over separate lists
+        let united = |x: AsNumber, y: AsNumber| {
+            let lists = records.iter().filter(|((c, _), _)| *c == x);
+            let list: Vec<AsNumber> = lists.flat_map(|(_, l)| l.clone()).collect();
+            // No list is empty, so an empty union means no record.
+            if list.is_empty() {
+                Hop::NoAttestation
+            } else if list.contains(&y) {
+                Hop::Provider
+            } else {
+                Hop::NotProvider
+            }
+        };
+        for pair in path.windows(2) {
+            assert_eq!(judge::hop(&records, pair[0], pair[1]), united(pair[0], pair[1]));
+        }
+        compare_verdicts(&path, |x, y| judge::hop(&records, x, y));
+    }
+}
+
+// Tables
+
+fn random_records_of(
+    random: &mut Random,
+    most: usize,
+    customers: usize,
+    longest: usize,
+) -> Records {
+    let mut records = Records::new();
+    for _ in 0..random.between(0, most) {
+        let mut list: Vec<AsNumber> =
+            (0..random.between(1, longest)).map(|_| AsNumber(random.below(9) as u32)).collect();
+        list.sort();
+        list.dedup();
+        records
+            .insert((AsNumber(random.between(1, customers) as u32), random.below(8) as u32), list);
+    }
+    records
+}
+
+fn random_routes(random: &mut Random) -> Routes {
+    let mut routes = Routes::new();
+    for _ in 0..random.below(20) {
+        let role = random.between(1, 6) as u32;
+        let ground = random.pick(&[0, 0, 0, 1, 2, 3]);
+        let ground = if ground == 2 && role == 4 { 3 } else { ground };
+        let count = if ground == 0 { random.pick(&[1, 2, 3, 64]) } else { 0 };
+        let path: Vec<AsNumber> =
+            (0..count).map(|_| AsNumber(random.between(1, 5) as u32)).collect();
+        let neighbour = path.first().copied().unwrap_or(AsNumber(3));
+        let mut place = || if ground == 0 { random.pick(&[0, 1, 64]) } else { 0 };
+        let (place_a, place_b) = (place(), place());
+        let verdict = if ground == 0 { random.below(3) as u32 } else { 1 };
+        let route = Route { role, neighbour, ground, verdict, place_a, place_b, path };
+        routes.insert(RouteNumber(random.below(40) as u32), route);
+    }
+    routes
+}
+
+#[test]
+fn written_tables_are_read_back() {
+    let mut random = Random::new(7);
+    for _ in 0..300 {
+        let records = random_records_of(&mut random, 200, 60, 9);
+        let words = padded(records.write(), Records::LENGTH);
+        assert!(Records::well_formed(&words));
+        assert_eq!(Records::read(&words), records);
+        let routes = random_routes(&mut random);
+        let words = padded(routes.write(), Routes::LENGTH);
+        assert!(Routes::well_formed(&words));
+        assert_eq!(Routes::read(&words), routes);
+    }
+}
+
+/// The rules again, by another way: read what the counts claim, test each
+/// entry alone, and write it out; order, starts, sums and zeros are right
+/// exactly if that gives the same words.
+fn register_by_rewriting(words: &[u32]) -> bool {
+    let (n, b) = (words[0] as usize, words[1] as usize);
+    if n > 1_024 || b > 8_192 {
+        return false;
+    }
+    let mut records = Records::new();
+    let mut at = 2 + 4 * n;
+    for i in 0..n {
+        let entry = &words[2 + 4 * i..6 + 4 * i];
+        let count = entry[3] as usize;
+        let Some(list) = at.checked_add(count).and_then(|end| words.get(at..end)) else {
+            return false;
+        };
+        let mut sorted = list.to_vec();
+        sorted.sort();
+        sorted.dedup();
+        if entry[0] == 0 || entry[1] > 7 || count == 0 || count > 256 || sorted != list {
+            return false;
+        }
+        let list = list.iter().map(|w| AsNumber(*w)).collect();
+        records.insert((AsNumber(entry[0]), entry[1]), list);
+        at += count;
+    }
+    padded(records.write(), words.len().max(20_000))[..words.len()] == *words
+}
+
+fn ledger_by_rewriting(words: &[u32]) -> bool {
+    let (n, b) = (words[0] as usize, words[1] as usize);
+    if n > 512 || b > 8_192 {
+        return false;
+    }
+    let mut routes = Routes::new();
+    let mut at = 2 + 9 * n;
+    for i in 0..n {
+        let e = &words[2 + 9 * i..11 + 9 * i];
+        let count = e[8] as usize;
+        let Some(path) = at.checked_add(count).and_then(|end| words.get(at..end)) else {
+            return false;
+        };
+        if e[1] == 0 || e[1] > 6 || e[2] == 0 || e[4] > 2 || e[5] > 64 || e[6] > 64 {
+            return false;
+        }
+        let fits = match e[3] {
+            0 => count > 0 && count < 65 && !path.contains(&0) && (e[1] == 4 || e[2] == path[0]),
+            1 | 3 => count == 0 && e[4..7] == [1, 0, 0],
+            2 => e[1] != 4 && count == 0 && e[4..7] == [1, 0, 0],
+            _ => false,
+        };
+        if !fits {
+            return false;
+        }
+        let route = Route {
+            role: e[1],
+            neighbour: AsNumber(e[2]),
+            ground: e[3],
+            verdict: e[4],
+            place_a: e[5],
+            place_b: e[6],
+            path: path.iter().map(|w| AsNumber(*w)).collect(),
+        };
+        routes.insert(RouteNumber(e[0]), route);
+        at += count;
+    }
+    padded(routes.write(), words.len().max(20_000))[..words.len()] == *words
+}
+
+fn pokes(random: &mut Random, words: &mut [u32], used: usize) {
+    for _ in 0..random.between(1, 2) {
+        let index = match random.below(10) {
+            0 => random.below(2),
+            1 => random.below(words.len()),
+            2 => words.len() - 1,
+            _ => random.below(used + 2),
+        };
+        let old = words[index];
+        words[index] = random.pick(&[
+            old.wrapping_add(1),
+            old.wrapping_sub(1),
+            0,
+            1,
+            2,
+            3,
+            4,
+            7,
+            8,
+            64,
+            65,
+            256,
+            257,
+            u32::MAX,
+        ]);
+    }
+}
+
+#[test]
+fn word_rules_by_another_way() {
+    let mut random = Random::new(8);
+    let (mut sound, mut damaged) = (0, 0);
+    for _ in 0..6_000 {
+        let written = random_records_of(&mut random, 12, 6, 4).write();
+        let mut words = padded(written.clone(), Records::LENGTH);
+        pokes(&mut random, &mut words, written.len());
+        let expected = register_by_rewriting(&words);
+        assert_eq!(Records::well_formed(&words), expected, "{:?}", &words[..written.len() + 4]);
+        let written = random_routes(&mut random).write();
+        let mut words = padded(written.clone(), Routes::LENGTH);
+        pokes(&mut random, &mut words, written.len());
+        let too = ledger_by_rewriting(&words);
+        assert_eq!(Routes::well_formed(&words), too, "{:?}", &words[..written.len() + 4]);
+        for well in [expected, too] {
+            *(if well { &mut sound } else { &mut damaged }) += 1;
+        }
+    }
+    assert!(sound > 1_000 && damaged > 1_000, "{sound} {damaged}");
+}
