@@ -1,0 +1,184 @@
+-- What accepted calls answer and leave. Assumes nothing.
+use Prim.Native.Nat.{ℕ, zero, suc, _<_}
+use mathlib.Core.Path.{_≡_, refl, sym, _∙_, ap}
+use mathlib.Core.Bool.{true, cond}
+use mathlib.Core.List.{List, [], _∷_, map}
+use mathlib.Core.Option.{Option, none, some}
+use native.Mathlib.Omega.{arith}
+use lib.Dec.{eqb}
+use lib.ListN.{length, getD}
+use Rattle.types.specs.declared.Answer.{Answer}
+use Rattle.types.specs.declared.Refusal.{Refusal}
+use Rattle.types.specs.declared.Judged.the-variants.{Answered}
+use Rattle.types.specs.declared.Rejudged.{Rejudged}
+use Rattle.types.specs.declared.Rejudged.the-variants as rejudged
+use Rattle.types.specs.Numbers.{verdictNumber, verdictGround, placeA, placeB}
+use Rattle.types.specs.Rows.{firstGiven, Step, unlessRefused}
+use Rattle.types.proofs.Refusing.{accepted-none}
+use Rattle.as_path.specs.Reading.{contentOf}
+use Rattle.verdict.specs.Judging.{judgedRoute}
+use Rattle.routes.specs.Routes.{Route, routesOf, wordsOf, routeAt, routesOk}
+use Rattle.routes.specs.Calls.{putRoute, differs, countDiffering}
+use Rattle.routes.proofs.Entries.{routes-of-words}
+use Rattle.routes.proofs.Holding.{has-room, room-routes, room-paths, routes-ok}
+use Rattle.routes.proofs.Keeping.{findRoute, stored-finds}
+use Rattle.routes.proofs.Refusals.{Ledger}
+use Rattle.register.proofs.Refusals.{Register}
+use Rattle.rejudge.specs.Rejudging.{verdictOf, rejudgedRoute}
+use Rattle.rejudge.proofs.Rejudgements.{rejudged-ok, ground-stays, all-once}
+use Rattle.rejudge.proofs.Differences.{countBelow, changed-is, second-none}
+use Rattle.filter.specs.Calls.{hopIn, refusalIn, pathIn, judgeAnswer, keptRoute, keepRows, keepStep, rejudgeRows, rejudgeStep}
+use Rattle.filter.proofs.Judgings.{judge-answers}
+use Rattle.filter.proofs.Refusals.{keep-reads}
+use Rattle.filter.proofs.Tables.{Accepted, accepted, kept-routes-ok, passed-tables, rejudge-accepts, rejudge-keeps}
+
+-- Routes that keep the rules are read back from their words.
+pub read-back : (rs : List Route) → routesOk rs ≡ true → routesOf (wordsOf rs) ≡ rs
+read-back rs e = let room = has-room rs e in routes-of-words rs (room-routes rs room) (room-paths rs room)
+
+-- ---- Keep
+
+-- What a route that is kept with an answer holds.
+pub record KeptWith (answer : Answer) (number role neighbour : ℕ) (attribute : List ℕ) (r : Route) : Type 0 where
+  pub number-is : r .number ≡ number
+  pub role-is : r .role ≡ role
+  pub neighbour-is : r .neighbour ≡ neighbour
+  pub ground-is : r .ground ≡ verdictGround (verdictOf answer)
+  pub verdict-is : r .verdict ≡ verdictNumber (verdictOf answer)
+  pub a-is : r .a ≡ placeA (verdictOf answer)
+  pub b-is : r .b ≡ placeB (verdictOf answer)
+  pub path-is : r .path ≡ pathIn (contentOf role neighbour attribute)
+
+module _ (reg led : List ℕ) (number role neighbour : ℕ) (attribute : List ℕ)
+    {answer : Answer} (h : keepStep reg led number role neighbour attribute .answer ≡ Answered answer) where
+  -- An accepted Keep is given no row.
+  pub keep-given : firstGiven (keepRows reg led number role neighbour attribute) ≡ none
+  keep-given = sym (keep-reads reg led number role neighbour attribute) ∙ ap refusalIn h
+
+  -- It had well-formed tables and room.
+  pub keep-accepted : Accepted reg led number role neighbour attribute
+  keep-accepted = accepted reg led number role neighbour attribute keep-given
+
+  -- It answers what its judging answers.
+  keep-judged : judgedRoute (hopIn reg) role neighbour attribute ≡ Answered answer
+  unfolding keepStep
+  keep-judged = rw keep-given at h
+
+  -- An accepted Keep answers what Judge answers.
+  pub keep-answers : judgeAnswer reg role neighbour attribute ≡ Answered answer
+  keep-answers =
+      let w = keep-accepted .register in
+      judge-answers reg role neighbour attribute (w .long) (w .ok) ∙ keep-judged
+
+  -- It leaves the routes with the kept one.
+  pub keep-leaves-routes :
+      routesOf (keepStep reg led number role neighbour attribute .words)
+      ≡ putRoute (keptRoute reg number role neighbour attribute) (routesOf led)
+  unfolding keepStep
+  keep-leaves-routes =
+      rw keep-given
+      (read-back (putRoute (keptRoute reg number role neighbour attribute) (routesOf led))
+      (kept-routes-ok reg led number role neighbour attribute keep-accepted))
+
+  -- Under its own number the kept route is found, and under every other what was found before.
+  pub keep-stores : (k : ℕ)
+      → findRoute k (routesOf (keepStep reg led number role neighbour attribute .words))
+      ≡ cond (eqb k number) (some (keptRoute reg number role neighbour attribute)) (findRoute k (routesOf led))
+  keep-stores k =
+      ap (findRoute k) keep-leaves-routes ∙ stored-finds k (keptRoute reg number role neighbour attribute) (routesOf led)
+
+  -- The kept route has the answer's ground, verdict and places, its role and neighbour, and the merged path.
+  pub keep-holds : KeptWith answer number role neighbour attribute (keptRoute reg number role neighbour attribute)
+  keep-holds =
+      rw keep-judged
+      (record {
+        number-is = refl;
+        role-is = refl;
+        neighbour-is = refl;
+        ground-is = refl;
+        verdict-is = refl;
+        a-is = refl;
+        b-is = refl;
+        path-is = refl;
+      })
+
+-- ---- Re-judge
+
+module _ (reg led : List ℕ) (w : Register reg) (l : Ledger led) where
+  abbrev before : List Route
+  before = routesOf led
+
+  abbrev after : List Route
+  after = map (rejudgedRoute (hopIn reg)) (routesOf led)
+
+  -- It leaves the routes judged anew.
+  pub rejudge-leaves-routes : routesOf (rejudgeStep reg led .words) ≡ after
+  rejudge-leaves-routes =
+      ap (λ s. routesOf (s .words)) (rejudge-accepts reg led w l) ∙ read-back after (rejudged-ok (hopIn reg) before (routes-ok led (l .ok)))
+
+  -- A second Re-judge changes nothing, and answers so.
+  pub rejudge-twice :
+      rejudgeStep reg (rejudgeStep reg led .words) ≡ record { answer = rejudged.Changed 0; words = rejudgeStep reg led .words }
+  rejudge-twice =
+      rejudge-accepts reg (rejudgeStep reg led .words) w (rejudge-keeps reg led l)
+      ∙ ap step rejudge-leaves-routes
+      ∙ (λ i. record { answer = rejudged.Changed (second-none (hopIn reg) before i); words = words i })
+    where
+      step : List Route → Step Rejudged
+      step rs =
+          record {
+            answer = rejudged.Changed (countDiffering rs (map (rejudgedRoute (hopIn reg)) rs));
+            words = wordsOf (map (rejudgedRoute (hopIn reg)) rs);
+          }
+
+      words : wordsOf (map (rejudgedRoute (hopIn reg)) after) ≡ rejudgeStep reg led .words
+      words = ap wordsOf (all-once (hopIn reg) before) ∙ sym (ap (λ s. s .words) (rejudge-accepts reg led w l))
+
+-- A Re-judge that is accepted had well-formed tables.
+pub rejudge-accepted : (reg led : List ℕ) {n : ℕ} → rejudgeStep reg led .answer ≡ rejudged.Changed n → Register reg × Ledger led
+unfolding rejudgeStep
+rejudge-accepted reg led {n} = go (firstGiven (rejudgeRows reg led)) refl
+  where
+    go : (o : Option Refusal) → firstGiven (rejudgeRows reg led) ≡ o
+        → unlessRefused o rejudged.Refused led
+        (record {
+          answer = rejudged.Changed (countDiffering (routesOf led) (map (rejudgedRoute (hopIn reg)) (routesOf led)));
+          words = wordsOf (map (rejudgedRoute (hopIn reg)) (routesOf led));
+        }) .answer ≡ rejudged.Changed n → Register reg × Ledger led
+    go (some r) e h = let z : _≡_ {A = ℕ} 0 1 = cc in absurd (omega arith)
+    go none e h =
+        let given = accepted-none (rejudgeRows reg led) e in
+        passed-tables reg led (given 0) (given 1) (given 2)
+
+-- An element of a mapped list.
+at-map : {A : Type 0} (f : A → A) (xs : List A) (i : ℕ) (d : A) → i < length xs → getD (map f xs) i d ≡ f (getD xs i d)
+at-map f [] i d h = absurd (omega arith)
+at-map f (x ∷ xs) zero d h = refl
+at-map f (x ∷ xs) (suc i) d h = at-map f xs i d (omega arith)
+
+module _ (reg led : List ℕ) {n : ℕ} (h : rejudgeStep reg led .answer ≡ rejudged.Changed n) where
+  abbrev left : List Route
+  left = routesOf (rejudgeStep reg led .words)
+
+  -- The routes after an accepted Re-judge are those before it, judged anew.
+  pub rejudge-routes : left ≡ map (rejudgedRoute (hopIn reg)) (routesOf led)
+  rejudge-routes = let t = rejudge-accepted reg led h in rejudge-leaves-routes reg led (t .0) (t .1)
+
+  -- An accepted Re-judge answers the number of places at which the routes before and after differ in the verdict or a place.
+  pub rejudge-count : n ≡ countBelow (λ i. differs (routeAt (routesOf led) i) (routeAt left i)) (length (routesOf led))
+  rejudge-count =
+      let t = rejudge-accepted reg led h in
+      let e : rejudged.Changed n ≡ rejudged.Changed (countDiffering (routesOf led) (map (rejudgedRoute (hopIn reg)) (routesOf led))) =
+      sym h ∙ ap (λ s. s .answer) (rejudge-accepts reg led (t .0) (t .1)) in
+      let m : n ≡ countDiffering (routesOf led) (map (rejudgedRoute (hopIn reg)) (routesOf led)) = cc in
+      m ∙ changed-is (hopIn reg) (routesOf led)
+      ∙ ap (λ rs. countBelow (λ i. differs (routeAt (routesOf led) i) (routeAt rs i)) (length (routesOf led))) (sym rejudge-routes)
+
+  module _ (i : ℕ) (within : i < length (routesOf led)) where
+    -- Route i after an accepted Re-judge is the one before it, judged anew.
+    pub rejudge-rewrites : routeAt left i ≡ rejudgedRoute (hopIn reg) (routeAt (routesOf led) i)
+    rejudge-rewrites = ap (λ rs. routeAt rs i) rejudge-routes ∙ at-map (rejudgedRoute (hopIn reg)) (routesOf led) i _ within
+
+    -- Its ground is left.
+    pub rejudge-ground : routeAt left i .ground ≡ routeAt (routesOf led) i .ground
+    rejudge-ground = ap (λ r. r .ground) rejudge-rewrites ∙ ground-stays (hopIn reg) (routeAt (routesOf led) i)

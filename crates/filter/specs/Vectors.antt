@@ -1,0 +1,121 @@
+-- The test vectors A to L of the rules again, now of Judge over the words that the six filings of register D leave. By computation.
+use Prim.Native.Nat.{ℕ}
+use mathlib.Core.Path.{_≡_, refl, _∙_, ap}
+use mathlib.Core.List.{List, [], _∷_, _++_, map}
+use mathlib.Core.Option.{none}
+use lib.ListN.{replicate}
+use Rattle.types.specs.declared.Judged.{Judged}
+use Rattle.types.specs.Rows.{firstGiven}
+use Rattle.verdict.specs.Records.{hopOf}
+use Rattle.verdict.specs.Judging.{unlessGiven, judgedRoute}
+use Rattle.verdict.specs.Vectors as verdict
+use Rattle.verdict.specs.Vectors.{registerD, sequence, Vector, vectors, wanted}
+use Rattle.table.specs.Table.{rows, bodies, pad, encode, decodeRows, decode, rowsOk, allZero, wellFormed}
+use Rattle.keyed.specs.Keyed.{ascendsFrom, ascends, holds, put, every}
+use Rattle.register.specs.Register.{registerWords, recordsOf, wordsOf, listed, risesFrom, rises, listOk, recordOk, roomFor, recordsOk, registerOk}
+use Rattle.register.specs.Calls.{tableRow, registerRow, fileStep}
+use Rattle.filter.specs.Calls.{judgeAnswer}
+
+-- The words that a filing of source 0 leaves.
+abbrev filed : ℕ → List ℕ → List ℕ → List ℕ
+filed customer providers ws = fileStep ws 0 customer providers .words
+
+-- The six filings of register D, from all zeros.
+abbrev pub wordsD : List ℕ
+wordsD =
+    filed 80 (70 ∷ [])
+    (filed 70 (80 ∷ [])
+    (filed 50 (40 ∷ [])
+    (filed 40 (0 ∷ [])
+    (filed 20 (40 ∷ [])
+    (filed 10 (20 ∷ 30 ∷ []) (replicate registerWords 0))))))
+
+-- The words after each: the two counts, a row for each customer, the lists, and zeros.
+abbrev after₁ : List ℕ
+after₁ = (1 ∷ 2 ∷ 10 ∷ 0 ∷ 0 ∷ 2 ∷ 20 ∷ 30 ∷ []) ++ replicate 12282 0
+
+abbrev after₂ : List ℕ
+after₂ = (2 ∷ 3 ∷ 10 ∷ 0 ∷ 0 ∷ 2 ∷ 20 ∷ 0 ∷ 2 ∷ 1 ∷ 20 ∷ 30 ∷ 40 ∷ []) ++ replicate 12277 0
+
+abbrev after₃ : List ℕ
+after₃ = (3 ∷ 4 ∷ 10 ∷ 0 ∷ 0 ∷ 2 ∷ 20 ∷ 0 ∷ 2 ∷ 1 ∷ 40 ∷ 0 ∷ 3 ∷ 1 ∷ 20 ∷ 30 ∷ 40 ∷ 0 ∷ []) ++ replicate 12272 0
+
+abbrev after₄ : List ℕ
+after₄ =
+    (4 ∷ 5 ∷ 10 ∷ 0 ∷ 0 ∷ 2 ∷ 20 ∷ 0 ∷ 2 ∷ 1 ∷ 40 ∷ 0 ∷ 3 ∷ 1 ∷ 50 ∷ 0 ∷ 4 ∷ 1 ∷ 20 ∷ 30 ∷ 40 ∷ 0 ∷ 40 ∷ [])
+    ++ replicate 12267 0
+
+abbrev after₅ : List ℕ
+after₅ =
+    (5 ∷ 6 ∷ 10 ∷ 0 ∷ 0 ∷ 2 ∷ 20 ∷ 0 ∷ 2 ∷ 1 ∷ 40 ∷ 0 ∷ 3 ∷ 1 ∷ 50 ∷ 0 ∷ 4 ∷ 1 ∷ 70 ∷ 0 ∷ 5 ∷ 1 ∷ 20 ∷ 30 ∷ 40 ∷ 0 ∷ 40 ∷ 80 ∷ [])
+    ++ replicate 12262 0
+
+-- Register D, packed.
+abbrev pub packedD : List ℕ
+packedD =
+    (6 ∷ 7 ∷ 10 ∷ 0 ∷ 0 ∷ 2 ∷ 20 ∷ 0 ∷ 2 ∷ 1 ∷ 40 ∷ 0 ∷ 3 ∷ 1 ∷ 50 ∷ 0 ∷ 4 ∷ 1 ∷ 70 ∷ 0 ∷ 5 ∷ 1 ∷ 80 ∷ 0 ∷ 6 ∷ 1
+    ∷ 20 ∷ 30 ∷ 40 ∷ 0 ∷ 40 ∷ 80 ∷ 70 ∷ [])
+    ++ replicate 12257 0
+
+step₁ : filed 10 (20 ∷ 30 ∷ []) (replicate registerWords 0) ≡ after₁
+unfolding fileStep firstGiven rows bodies pad encode decodeRows decode rowsOk allZero wellFormed ascendsFrom ascends holds put every recordsOf wordsOf listed risesFrom rises listOk recordOk roomFor recordsOk registerOk
+step₁ = refl
+
+step₂ : filed 20 (40 ∷ []) after₁ ≡ after₂
+unfolding fileStep firstGiven rows bodies pad encode decodeRows decode rowsOk allZero wellFormed ascendsFrom ascends holds put every recordsOf wordsOf listed risesFrom rises listOk recordOk roomFor recordsOk registerOk
+step₂ = refl
+
+step₃ : filed 40 (0 ∷ []) after₂ ≡ after₃
+unfolding fileStep firstGiven rows bodies pad encode decodeRows decode rowsOk allZero wellFormed ascendsFrom ascends holds put every recordsOf wordsOf listed risesFrom rises listOk recordOk roomFor recordsOk registerOk
+step₃ = refl
+
+step₄ : filed 50 (40 ∷ []) after₃ ≡ after₄
+unfolding fileStep firstGiven rows bodies pad encode decodeRows decode rowsOk allZero wellFormed ascendsFrom ascends holds put every recordsOf wordsOf listed risesFrom rises listOk recordOk roomFor recordsOk registerOk
+step₄ = refl
+
+step₅ : filed 70 (80 ∷ []) after₄ ≡ after₅
+unfolding fileStep firstGiven rows bodies pad encode decodeRows decode rowsOk allZero wellFormed ascendsFrom ascends holds put every recordsOf wordsOf listed risesFrom rises listOk recordOk roomFor recordsOk registerOk
+step₅ = refl
+
+step₆ : filed 80 (70 ∷ []) after₅ ≡ packedD
+unfolding fileStep firstGiven rows bodies pad encode decodeRows decode rowsOk allZero wellFormed ascendsFrom ascends holds put every recordsOf wordsOf listed risesFrom rises listOk recordOk roomFor recordsOk registerOk
+step₆ = refl
+
+-- The six filings leave register D, word by word.
+pub whole-register : wordsD ≡ packedD
+whole-register =
+    ap (λ ws. filed 80 (70 ∷ []) (filed 70 (80 ∷ []) (filed 50 (40 ∷ []) (filed 40 (0 ∷ []) (filed 20 (40 ∷ []) ws))))) step₁
+    ∙ ap (λ ws. filed 80 (70 ∷ []) (filed 70 (80 ∷ []) (filed 50 (40 ∷ []) (filed 40 (0 ∷ []) ws)))) step₂
+    ∙ ap (λ ws. filed 80 (70 ∷ []) (filed 70 (80 ∷ []) (filed 50 (40 ∷ []) ws))) step₃
+    ∙ ap (λ ws. filed 80 (70 ∷ []) (filed 70 (80 ∷ []) ws)) step₄
+    ∙ ap (filed 80 (70 ∷ [])) step₅
+    ∙ step₆
+
+-- Neither row 1 nor row 2 is given to them.
+passed : firstGiven (tableRow packedD ∷ registerRow packedD ∷ []) ≡ none
+unfolding firstGiven decodeRows decode rowsOk allZero wellFormed ascendsFrom ascends every recordsOf listed risesFrom rises listOk recordOk roomFor recordsOk registerOk
+passed = refl
+
+-- They hold register D's records.
+records-d : recordsOf packedD ≡ registerD
+unfolding recordsOf decodeRows decode
+records-d = refl
+
+-- What Judge answers to a vector.
+abbrev pub given : Vector → Judged
+given v = judgeAnswer wordsD (v .role) (v .neighbour) (sequence (v .path))
+
+-- Over them Judge answers as the definitions do over register D.
+over-d : (v : Vector) → given v ≡ verdict.given v
+unfolding judgeAnswer
+over-d v =
+    ap (λ ws. judgeAnswer ws (v .role) (v .neighbour) (sequence (v .path))) whole-register
+    ∙ (λ i. unlessGiven (passed i) (judgedRoute (hopOf (records-d i)) (v .role) (v .neighbour) (sequence (v .path))))
+
+all-over-d : (vs : List Vector) → map given vs ≡ map verdict.given vs
+all-over-d [] = refl
+all-over-d (v ∷ vs) = λ i. over-d v i ∷ all-over-d vs i
+
+-- Judge answers every vector over them as the rules want.
+pub starred : map given vectors ≡ map wanted vectors
+starred = all-over-d vectors ∙ verdict.starred
