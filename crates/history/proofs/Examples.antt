@@ -1,0 +1,131 @@
+-- The examples, and the laws that a reader may hold the definitions to. Assumes nothing.
+use Prim.Native.Nat.{ℕ, _+_}
+use mathlib.Core.Path.{_≡_, refl, sym, ap, _∙_}
+use mathlib.Core.Bool.{Bool, true, false, not}
+use mathlib.Core.List.{List, [], _∷_, _++_}
+use mathlib.Core.Option.{Option, none, some}
+use native.Mathlib.Omega.{arith}
+use lib.ListN.{length, replicate}
+use Rattle.types.specs.declared.Refusal.the-variants.{RegisterFull}
+use Rattle.types.specs.Rows.{firstGiven}
+use Rattle.table.specs.Table.{rows, bodies, pad, encode}
+use Rattle.keyed.specs.Keyed.{find, holds, put, without}
+use Rattle.verdict.specs.Draft.{each}
+use Rattle.verdict.proofs.Drafting.{each-no}
+use Rattle.register.specs.Register.{wordsOf, listed, rises, risesFrom, listOk, roomFor, recordsOf}
+use Rattle.history.specs.Calls.{Call, file, withdraw, said, last}
+use Rattle.history.specs.Replies.{refused, shown, forRoom}
+use Rattle.history.specs.Model.{refusal, after, replyAt, final, written}
+use Rattle.history.specs.Reorderings.{Tied, same-pair, clear-first, clear-second, same-route}
+use Rattle.history.specs.Demands.{findRecord, providersOf, Roomy}
+use Rattle.history.specs.Sanity.{two-first, one-first, numbers, filings, room-made, room-missing, Sanity}
+use Rattle.history.proofs.Simulating.{history-replies, history-written}
+use Rattle.history.proofs.FiledLists.{filed-list}
+use Rattle.history.proofs.Theorems.{demand2}
+use Rattle.history.proofs.Reordered.{itself, chain, back, swap, rejudge-anywhere, clearing-stays, dropping-stays}
+use Rattle.history.proofs.Scans.{filed-is-last, kept-is-last}
+
+-- ---- two sources
+
+-- Either order comes to one model.
+two-lists : final two-first ≡ final one-first
+unfolding after refusal firstGiven find holds put listed rises risesFrom listOk roomFor
+two-lists = refl
+
+-- It holds both lists.
+both : (providersOf (findRecord (65010, 2) (final one-first .lists)) ≡ some (65001 ∷ 65002 ∷ []))
+    × (providersOf (findRecord (65010, 0) (final one-first .lists)) ≡ some (65003 ∷ []))
+unfolding after refusal firstGiven find holds put listed rises risesFrom listOk roomFor
+both = (refl, refl)
+
+-- It is written as these words.
+register-words : written (final one-first) .register ≡ (2 ∷ 3 ∷ 65010 ∷ 0 ∷ 0 ∷ 1 ∷ 65010 ∷ 2 ∷ 1 ∷ 2 ∷ 65003 ∷ 65001 ∷ 65002 ∷ []) ++ replicate 12277 0
+unfolding written wordsOf encode pad rows bodies after refusal firstGiven find holds put listed rises risesFrom listOk roomFor
+register-words = refl
+
+-- ---- room
+
+-- The filing that comes before the withdrawal is refused by 8.
+missing : replyAt room-missing 32 ≡ refused RegisterFull
+unfolding numbers filings after refusal firstGiven find holds put without listed rises risesFrom listOk roomFor
+missing = refl
+
+-- The other list has room for all.
+all-roomy : each (λ i. not (forRoom (replyAt room-made i))) 0 34 ≡ true
+unfolding numbers filings after refusal firstGiven find holds put without listed rises risesFrom listOk roomFor each
+all-roomy = refl
+
+-- So no call of that list is refused for room.
+made : Roomy room-made
+unfolding filings
+made i h = go (forRoom (replyAt room-made i)) refl
+  where
+    go : (b : Bool) → forRoom (replyAt room-made i) ≡ b → forRoom (shown (said room-made i)) ≡ false
+    go false e = ap forRoom (history-replies room-made i) ∙ e
+    go true e =
+        let z = each-no (λ i. not (forRoom (replyAt room-made i))) 0 34 i (omega arith) (omega arith) (ap not e) in
+        let y : _≡_ {A = ℕ} 0 1 = cc (z, all-roomy) in
+        absurd (omega arith)
+
+-- So one register holds the last list, and the other does not.
+list-made : providersOf (findRecord (33, 0) (final room-made .lists)) ≡ some (7 ∷ [])
+unfolding numbers filings after refusal firstGiven find holds put without listed rises risesFrom listOk roomFor
+list-made = refl
+
+list-missing : providersOf (findRecord (33, 0) (final room-missing .lists)) ≡ none
+unfolding numbers filings after refusal firstGiven find holds put without listed rises risesFrom listOk roomFor
+list-missing = refl
+
+-- The list of a pair in the last register is the model's.
+last-list : (l : List Call) (source customer : ℕ)
+    → providersOf (findRecord (customer, source) (recordsOf (last l .register))) ≡ providersOf (findRecord (customer, source) (final l .lists))
+last-list l source customer = demand2 .lists-held l (length l) source customer ∙ sym (filed-list source customer l (length l))
+
+-- So the registers differ.
+differs : last room-made .register ≡ last room-missing .register → ⊥
+differs e =
+    let a = last-list room-made 0 33 ∙ list-made in
+    let b = last-list room-missing 0 33 ∙ list-missing in
+    let z : _≡_ {A = Option (List ℕ)} (some (7 ∷ [])) none = sym a ∙ ap (λ ws. providersOf (findRecord (33, 0) (recordsOf ws))) e ∙ b in
+    let y : _≡_ {A = ℕ} 0 1 = cc in
+    omega arith
+
+-- The swapped calls are not tied.
+untied-pairs : (s c s′ c′ : ℕ) (list list′ : List ℕ) → ((s ≡ s′) × (c ≡ c′) → ⊥) → Tied (file s c list) (file s′ c′ list′) → ⊥
+untied-pairs s c s′ c′ list list′ n (same-pair x y p q) = n (p .0 ∙ sym (q .0), p .1 ∙ sym (q .1))
+untied-pairs s c s′ c′ list list′ n (clear-first x p q) = p
+untied-pairs s c s′ c′ list list′ n (clear-second x p q) = q
+untied-pairs s c s′ c′ list list′ n (same-route x p q) = p
+
+-- Nor are a withdrawal and a filing of another pair.
+untied-withdrawal : (s c s′ c′ : ℕ) (list : List ℕ) → ((s ≡ s′) × (c ≡ c′) → ⊥) → Tied (withdraw s c) (file s′ c′ list) → ⊥
+untied-withdrawal s c s′ c′ list n (same-pair x y p q) = n (p .0 ∙ sym (q .0), p .1 ∙ sym (q .1))
+untied-withdrawal s c s′ c′ list n (clear-first x p q) = p
+untied-withdrawal s c s′ c′ list n (clear-second x p q) = q
+untied-withdrawal s c s′ c′ list n (same-route x p q) = p
+
+-- The definitions of demands 2 and 3 come to what they should.
+pub sanity : Sanity
+sanity = record {
+  filed-is-last = λ l i source customer list. filed-is-last source customer l i list;
+  kept-is-last = λ l i number r. kept-is-last number l i r;
+  itself = itself;
+  back = back;
+  chain = chain;
+  swap = swap;
+  rejudge-anywhere = rejudge-anywhere;
+  clearing-stays = clearing-stays;
+  dropping-stays = dropping-stays;
+  both-there = (
+    sym (filed-list 2 65010 two-first 2) ∙ ap (λ m. providersOf (findRecord (65010, 2) (m .lists))) two-lists ∙ both .0,
+    sym (filed-list 0 65010 two-first 2) ∙ ap (λ m. providersOf (findRecord (65010, 0) (m .lists))) two-lists ∙ both .1,
+  );
+  both-there-too = (sym (filed-list 2 65010 one-first 2) ∙ both .0, sym (filed-list 0 65010 one-first 2) ∙ both .1);
+  either-order = swap [] _ _ [] (untied-pairs 2 65010 0 65010 _ _ (λ p. let e : 2 ≡ 0 = p .0 in omega arith));
+  same-either-way = history-written two-first ∙ ap written two-lists ∙ sym (history-written one-first);
+  whole-register = ap (λ t. t .register) (history-written two-first ∙ ap written two-lists) ∙ register-words;
+  room-reordered = swap (filings 32) _ _ [] (untied-withdrawal 0 1 0 33 _ (λ p. let e : 1 ≡ 33 = p .1 in omega arith));
+  room-is-made = made;
+  room-is-missing = history-replies room-missing 32 ∙ missing;
+  room-differs = differs;
+}

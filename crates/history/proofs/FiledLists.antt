@@ -1,0 +1,109 @@
+-- The model holds the lists that are filed and the routes that are kept. Assumes nothing.
+use Prim.Native.Nat.{ℕ, zero, suc}
+use mathlib.Core.Path.{_≡_, refl, sym, ap, _∙_}
+use mathlib.Core.Bool.{Bool, true, false, cond}
+use mathlib.Core.List.{List}
+use mathlib.Core.Option.{Option, none, some}
+use lib.Dec.{eqb, ltb}
+use Rattle.types.specs.declared.Refusal.{Refusal}
+use Rattle.keyed.specs.Keyed.{samePair, beforePair, find}
+use Rattle.keyed.proofs.Orders.{ordered-pairs, ordered-ℕ, same-flip}
+use Rattle.keyed.proofs.Finds.{find-put, find-without}
+use Rattle.verdict.specs.Records.{Record}
+use Rattle.register.specs.Register.{keyOf}
+use Rattle.register.specs.Calls.{recordFor, holdsRecord, ofSource}
+use Rattle.history.specs.Calls.{Call, file, withdraw, clear, keep, drop, rejudge, callAt, said, KeptRoute, routeRead}
+use Rattle.history.specs.Replies.{new, replaced, shown, accepted}
+use Rattle.history.specs.Model.{Model, numberOf, refusal, answer, change, replyUnless, changeUnless, after}
+use Rattle.history.specs.Filings.{filedBy, filedList, keptBy, keptRouteAt}
+use Rattle.history.specs.Demands.{findRecord, providersOf}
+use Rattle.history.proofs.Keys.{findKept}
+use Rattle.history.proofs.Simulating.{history-replies}
+
+-- A call that is not refused is accepted.
+answer-accepted : (m : Model) (c : Call) → accepted (answer m c) ≡ true
+answer-accepted m (file s c list) = go (holdsRecord c s (m .lists))
+  where
+    go : (b : Bool) → accepted (cond b replaced new) ≡ true
+    go true = refl
+    go false = refl
+answer-accepted m (withdraw s c) = refl
+answer-accepted m (clear s) = refl
+answer-accepted m (keep n role neighbour attribute) = refl
+answer-accepted m (drop n) = refl
+answer-accepted m rejudge = refl
+
+-- What is found after a test goes through the lists.
+through : (b : Bool) (x y : Option Record) → providersOf (cond b x y) ≡ cond b (providersOf x) (providersOf y)
+through true x y = refl
+through false x y = refl
+
+module _ (source customer : ℕ) where
+  -- An accepted call changes the list of a pair as demand 2 says.
+  changed-list : (m : Model) (c : Call)
+      → providersOf (findRecord (customer, source) (change m c .lists)) ≡ filedBy source customer c (providersOf (findRecord (customer, source) (m .lists)))
+  changed-list m (file s c list) =
+      ap providersOf (find-put keyOf samePair beforePair ordered-pairs (customer, source) (recordFor s c list) (m .lists))
+      ∙ through (samePair (customer, source) (c, s)) (some (recordFor s c list)) (findRecord (customer, source) (m .lists))
+      ∙ ap (λ b. cond b (some list) (providersOf (findRecord (customer, source) (m .lists))))
+      (same-flip samePair beforePair ordered-pairs (customer, source) (c, s))
+  changed-list m (withdraw s c) =
+      ap providersOf (find-without keyOf samePair beforePair ordered-pairs (customer, source) (samePair (c, s)) (m .lists))
+      ∙ through (samePair (c, s) (customer, source)) none (findRecord (customer, source) (m .lists))
+  changed-list m (clear s) =
+      ap providersOf (find-without keyOf samePair beforePair ordered-pairs (customer, source) (ofSource s) (m .lists))
+      ∙ through (eqb source s) none (findRecord (customer, source) (m .lists))
+      ∙ ap (λ b. cond b none (providersOf (findRecord (customer, source) (m .lists)))) (same-flip eqb ltb ordered-ℕ source s)
+  changed-list m (keep n role neighbour attribute) = refl
+  changed-list m (drop n) = refl
+  changed-list m rejudge = refl
+
+  -- The model's list of a pair is the one that is filed.
+  pub filed-list : (l : List Call) (i : ℕ) → providersOf (findRecord (customer, source) (after l i .lists)) ≡ filedList l i source customer
+  unfolding after filedList find
+  filed-list l zero = refl
+  filed-list l (suc i) =
+      go (refusal (after l i) (callAt l i))
+      ∙ ap (λ r. cond (accepted r) (filedBy source customer (callAt l i) (held i)) (held i)) (sym (history-replies l i))
+      ∙ ap (λ v. cond (accepted (shown (said l i))) (filedBy source customer (callAt l i) v) v) (filed-list l i)
+    where
+      held : ℕ → Option (List ℕ)
+      held j = providersOf (findRecord (customer, source) (after l j .lists))
+
+      go : (o : Option Refusal)
+          → providersOf (findRecord (customer, source) (changeUnless o (after l i) (change (after l i) (callAt l i)) .lists))
+          ≡ cond (accepted (replyUnless o (answer (after l i) (callAt l i)))) (filedBy source customer (callAt l i) (held i)) (held i)
+      go (some r) = refl
+      go none = changed-list (after l i) (callAt l i)
+          ∙ ap (λ b. cond b (filedBy source customer (callAt l i) (held i)) (held i)) (sym (answer-accepted (after l i) (callAt l i)))
+
+module _ (number : ℕ) where
+  -- An accepted call changes the route under a number as demand 2 says.
+  changed-route : (m : Model) (c : Call) → findKept number (change m c .routes) ≡ keptBy number c (findKept number (m .routes))
+  changed-route m (file s c list) = refl
+  changed-route m (withdraw s c) = refl
+  changed-route m (clear s) = refl
+  changed-route m (keep n role neighbour attribute) =
+      find-put numberOf eqb ltb ordered-ℕ number (routeRead n role neighbour attribute) (m .routes)
+      ∙ ap (λ b. cond b (some (routeRead n role neighbour attribute)) (findKept number (m .routes))) (same-flip eqb ltb ordered-ℕ number n)
+  changed-route m (drop n) = find-without numberOf eqb ltb ordered-ℕ number (eqb n) (m .routes)
+  changed-route m rejudge = refl
+
+  -- The model's route under a number is the one that is kept.
+  pub kept-route : (l : List Call) (i : ℕ) → findKept number (after l i .routes) ≡ keptRouteAt l i number
+  unfolding after keptRouteAt find
+  kept-route l zero = refl
+  kept-route l (suc i) =
+      go (refusal (after l i) (callAt l i))
+      ∙ ap (λ r. cond (accepted r) (keptBy number (callAt l i) (held i)) (held i)) (sym (history-replies l i))
+      ∙ ap (λ v. cond (accepted (shown (said l i))) (keptBy number (callAt l i) v) v) (kept-route l i)
+    where
+      held : ℕ → Option KeptRoute
+      held j = findKept number (after l j .routes)
+
+      go : (o : Option Refusal)
+          → findKept number (changeUnless o (after l i) (change (after l i) (callAt l i)) .routes)
+          ≡ cond (accepted (replyUnless o (answer (after l i) (callAt l i)))) (keptBy number (callAt l i) (held i)) (held i)
+      go (some r) = refl
+      go none = changed-route (after l i) (callAt l i)
+          ∙ ap (λ b. cond b (keptBy number (callAt l i) (held i)) (held i)) (sym (answer-accepted (after l i) (callAt l i)))

@@ -1,0 +1,315 @@
+-- What the model holds under one key, and what a call makes of it: where room is not asked for, it depends on nothing else in the model. Assumes nothing.
+use Prim.Native.Nat.{ℕ, zero, suc}
+use mathlib.Core.Path.{_≡_, refl, sym, ap, _∙_}
+use mathlib.Core.Bool.{Bool, true, false, not, cond}
+use mathlib.Core.List.{List, [], _∷_}
+use mathlib.Core.Option.{Option, none, some}
+use native.Mathlib.Omega.{arith}
+use lib.Dec.{eqb, ltb}
+use lib.ListN.{length}
+use Rattle.types.specs.declared.Refusal.{Refusal}
+use Rattle.types.specs.declared.Refusal.the-variants.{NoRecord, RouteTaken, NoRoute}
+use Rattle.types.specs.Rows.{rowIf, orElse, firstGiven}
+use Rattle.keyed.specs.Keyed.{Ordered, samePair, beforePair, ascends, find, without, countOf}
+use Rattle.keyed.proofs.Orders.{ordered-pairs, ordered-ℕ, same-flip}
+use Rattle.keyed.proofs.Puts.{ascends-put, ascends-without}
+use Rattle.keyed.proofs.Finds.{isSome, find-holds, find-none, find-put, find-without, same-finds}
+use Rattle.verdict.specs.Records.{Record}
+use Rattle.register.specs.Register.{keyOf}
+use Rattle.register.specs.Calls.{recordFor, holdsRecord, ofSource, countRecords}
+use Rattle.history.specs.Calls.{Call, file, withdraw, clear, keep, drop, rejudge, callAt, KeptRoute, routeRead}
+use Rattle.history.specs.Replies.{ModelReply, new, replaced, gone}
+use Rattle.history.specs.Model.{Model, empty, numberOf, holdsKept, argumentRows, heldRows, answer, change, replyUnless, changeUnless}
+use Rattle.history.specs.Demands.{findRecord}
+
+-- The kept route under a number.
+abbrev pub findKept : ℕ → List KeptRoute → Option KeptRoute
+findKept number rs = find numberOf eqb ltb number rs
+
+-- A key of the lists (customer and source) or of the routes.
+pub data Key : Type 0 where
+  pair : ℕ × ℕ → Key
+  route : ℕ → Key
+
+-- What can be found under a key.
+abbrev pub Found : Key → Type 0
+Found (pair k) = Option Record
+Found (route n) = Option KeptRoute
+
+-- What a model holds under a key.
+abbrev pub look : (k : Key) → Model → Found k
+look (pair k) m = findRecord k (m .lists)
+look (route n) m = findKept n (m .routes)
+
+-- Whether a call can change what is found under the key.
+abbrev pub hits : Key → Call → Bool
+hits (pair k) (file s c list) = samePair k (c, s)
+hits (pair k) (withdraw s c) = samePair k (c, s)
+hits (pair k) (clear s) = eqb (k .1) s
+hits (pair k) (keep n role neighbour attribute) = false
+hits (pair k) (drop n) = false
+hits (pair k) rejudge = false
+hits (route k) (file s c list) = false
+hits (route k) (withdraw s c) = false
+hits (route k) (clear s) = false
+hits (route k) (keep n role neighbour attribute) = eqb k n
+hits (route k) (drop n) = eqb k n
+hits (route k) rejudge = false
+
+-- ---- the model with room without end
+
+-- The rows but those for room.
+unfoldable pub freeRefusal : Model → Call → Option Refusal
+freeRefusal m c = orElse (firstGiven (argumentRows c)) (firstGiven (heldRows m c))
+
+-- The reply, the model after a call, and the model after i calls.
+abbrev pub freeReply : Model → Call → ModelReply
+freeReply m c = replyUnless (freeRefusal m c) (answer m c)
+
+abbrev pub freeNext : Model → Call → Model
+freeNext m c = changeUnless (freeRefusal m c) m (change m c)
+
+unfoldable pub freeAfter : List Call → ℕ → Model
+freeAfter l zero = empty
+freeAfter l (suc i) = freeNext (freeAfter l i) (callAt l i)
+
+-- ---- one call
+
+-- Of two ways that come to one.
+pub either-way {ℓ} : {X : Type ℓ} (b : Bool) (x : X) → cond b x x ≡ x
+either-way true x = refl
+either-way false x = refl
+
+-- Where two keys are the same, one may stand for the other.
+at-key : {K X : Type 0} (same before : K → K → Bool) → Ordered same before → (a b : K) (x y z : X) → (a ≡ b → x ≡ y)
+    → cond (same a b) x z ≡ cond (same a b) y z
+at-key same before o a b x y z f = go (same a b) refl
+  where
+    go : (t : Bool) → same a b ≡ t → cond t x z ≡ cond t y z
+    go true e = f (o .same-is a b e)
+    go false e = refl
+
+-- What is there stays.
+abbrev unlessThere : {X : Type 0} → Option X → Option X → Option X
+unlessThere (some v) other = some v
+unlessThere none other = other
+
+-- What a call that hits the key, and that its arguments do not bar, makes of what is found there.
+abbrev value : (k : Key) → Call → Found k → Found k
+value (pair k) (file s c list) v = some (recordFor s c list)
+value (pair k) (withdraw s c) v = none
+value (pair k) (clear s) v = none
+value (pair k) (keep n role neighbour attribute) v = v
+value (pair k) (drop n) v = v
+value (pair k) rejudge v = v
+value (route k) (file s c list) v = v
+value (route k) (withdraw s c) v = v
+value (route k) (clear s) v = v
+value (route k) (keep n role neighbour attribute) v = unlessThere v (some (routeRead n role neighbour attribute))
+value (route k) (drop n) v = none
+value (route k) rejudge v = v
+
+-- A call that its arguments bar changes nothing.
+abbrev blocked {ℓ} : {X : Type ℓ} → Option Refusal → X → X → X
+blocked (some r) x y = x
+blocked none x y = y
+
+-- What a call makes of what is found under the key.
+abbrev becomes : (k : Key) → Call → Found k → Found k
+becomes k c v = cond (hits k c) (blocked (firstGiven (argumentRows c)) v (value k c v)) v
+
+-- A call that leaves what is found under a key leaves it whether refused or not.
+left-alone : (k : Key) (o : Option Refusal) (m n : Model) → look k n ≡ look k m → look k (changeUnless o m n) ≡ look k m
+left-alone k (some r) m n h = refl
+left-alone k none m n h = h
+
+-- A key that is held has something under it.
+there : {E : Type 0} (o : Option E) → isSome o ≡ true → (n : Option E) → unlessThere o n ≡ o
+there (some v) h n = refl
+there none h n = let z : _≡_ {A = ℕ} 0 1 = cc in absurd (omega arith)
+
+-- A call that its arguments do not bar.
+found-own : (k : Key) (m : Model) (c : Call)
+    → look k (changeUnless (firstGiven (heldRows m c)) m (change m c)) ≡ cond (hits k c) (value k c (look k m)) (look k m)
+unfolding firstGiven
+found-own (pair k) m (file s c list) = find-put keyOf samePair beforePair ordered-pairs k (recordFor s c list) (m .lists)
+found-own (pair k) m (withdraw s c) = go (holdsRecord c s (m .lists)) refl
+  where
+    go : (b : Bool) → holdsRecord c s (m .lists) ≡ b
+        → look (pair k) (changeUnless (orElse (rowIf (not b) NoRecord) none) m (change m (withdraw s c)))
+        ≡ cond (samePair k (c, s)) none (findRecord k (m .lists))
+    go true e =
+        find-without keyOf samePair beforePair ordered-pairs k (samePair (c, s)) (m .lists)
+        ∙ ap (λ b. cond b none (findRecord k (m .lists))) (same-flip samePair beforePair ordered-pairs (c, s) k)
+    go false e =
+        sym (either-way (samePair k (c, s)) _)
+        ∙ at-key samePair beforePair ordered-pairs k (c, s) _ _ _ (λ q. rw q (find-none keyOf samePair beforePair (c, s) (m .lists) e))
+found-own (pair k) m (clear s) = find-without keyOf samePair beforePair ordered-pairs k (ofSource s) (m .lists)
+found-own (pair k) m (keep n role neighbour attribute) = left-alone (pair k) (firstGiven (heldRows m (keep n role neighbour attribute))) m _ refl
+found-own (pair k) m (drop n) = left-alone (pair k) (firstGiven (heldRows m (drop n))) m _ refl
+found-own (pair k) m rejudge = refl
+found-own (route k) m (file s c list) = refl
+found-own (route k) m (withdraw s c) = left-alone (route k) (firstGiven (heldRows m (withdraw s c))) m _ refl
+found-own (route k) m (clear s) = refl
+found-own (route k) m (keep n role neighbour attribute) = go (holdsKept n (m .routes)) refl
+  where
+    r : KeptRoute
+    r = routeRead n role neighbour attribute
+
+    go : (b : Bool) → holdsKept n (m .routes) ≡ b
+        → look (route k) (changeUnless (orElse (rowIf b RouteTaken) none) m (change m (keep n role neighbour attribute)))
+        ≡ cond (eqb k n) (unlessThere (findKept k (m .routes)) (some r)) (findKept k (m .routes))
+    go true e =
+        sym (either-way (eqb k n) _)
+        ∙ at-key eqb ltb ordered-ℕ k n _ _ _ (λ q. sym (there (findKept k (m .routes))
+        (rw q (sym (find-holds numberOf eqb ltb n (m .routes)) ∙ e)) (some r)))
+    go false e =
+        find-put numberOf eqb ltb ordered-ℕ k r (m .routes)
+        ∙ at-key eqb ltb ordered-ℕ k n _ _ _ (λ q. rw (q, find-none numberOf eqb ltb n (m .routes) e))
+found-own (route k) m (drop n) = go (holdsKept n (m .routes)) refl
+  where
+    go : (b : Bool) → holdsKept n (m .routes) ≡ b
+        → look (route k) (changeUnless (orElse (rowIf (not b) NoRoute) none) m (change m (drop n)))
+        ≡ cond (eqb k n) none (findKept k (m .routes))
+    go true e =
+        find-without numberOf eqb ltb ordered-ℕ k (eqb n) (m .routes)
+        ∙ ap (λ b. cond b none (findKept k (m .routes))) (same-flip eqb ltb ordered-ℕ n k)
+    go false e =
+        sym (either-way (eqb k n) _)
+        ∙ at-key eqb ltb ordered-ℕ k n _ _ _ (λ q. rw q (find-none numberOf eqb ltb n (m .routes) e))
+found-own (route k) m rejudge = refl
+
+-- What a call makes of what is found under a key depends on nothing else in the model.
+found-next : (k : Key) (m : Model) (c : Call) → look k (freeNext m c) ≡ becomes k c (look k m)
+unfolding freeRefusal
+found-next k m c = go (firstGiven (argumentRows c))
+  where
+    go : (o : Option Refusal)
+        → look k (changeUnless (orElse o (firstGiven (heldRows m c))) m (change m c)) ≡ cond (hits k c) (blocked o (look k m) (value k c (look k m))) (look k m)
+    go none = found-own k m c
+    go (some r) = sym (either-way (hits k c) (look k m))
+
+-- So a call that misses the key changes nothing there.
+pub miss : (k : Key) (m : Model) (c : Call) → hits k c ≡ false → look k (freeNext m c) ≡ look k m
+miss k m c h = found-next k m c ∙ rw h
+
+-- And one that hits it does the same to two models that agree there.
+pub alike : (k : Key) (m n : Model) (c : Call) → look k m ≡ look k n → look k (freeNext m c) ≡ look k (freeNext n c)
+alike k m n c h = found-next k m c ∙ ap (becomes k c) h ∙ sym (found-next k n c)
+
+-- ---- models in order
+
+-- Lists and routes ascend by their keys.
+pub record InOrder (m : Model) : Type 0 where
+  pub lists : ascends keyOf samePair beforePair (m .lists) ≡ true
+  pub routes : ascends numberOf eqb ltb (m .routes) ≡ true
+
+-- Every change keeps the order.
+pub change-in-order : (m : Model) (c : Call) → InOrder m → InOrder (change m c)
+change-in-order m (file s c list) h = record { lists = ascends-put keyOf samePair beforePair ordered-pairs _ (m .lists) (h .lists); routes = h .routes }
+change-in-order m (withdraw s c) h = record { lists = ascends-without keyOf samePair beforePair ordered-pairs _ (m .lists) (h .lists); routes = h .routes }
+change-in-order m (clear s) h = record { lists = ascends-without keyOf samePair beforePair ordered-pairs _ (m .lists) (h .lists); routes = h .routes }
+change-in-order m (keep n role neighbour attribute) h =
+    record { lists = h .lists; routes = ascends-put numberOf eqb ltb ordered-ℕ _ (m .routes) (h .routes) }
+change-in-order m (drop n) h = record { lists = h .lists; routes = ascends-without numberOf eqb ltb ordered-ℕ _ (m .routes) (h .routes) }
+change-in-order m rejudge h = h
+
+-- So a call leaves a model in order, refused or not.
+pub next-in-order : (o : Option Refusal) (m : Model) (c : Call) → InOrder m → InOrder (changeUnless o m (change m c))
+next-in-order (some r) m c h = h
+next-in-order none m c h = change-in-order m c h
+
+-- The empty model is in order.
+pub empty-in-order : InOrder empty
+unfolding ascends
+empty-in-order = record { lists = refl; routes = refl }
+
+-- And the model after any calls.
+pub free-in-order : (l : List Call) (i : ℕ) → InOrder (freeAfter l i)
+unfolding freeAfter
+free-in-order l zero = empty-in-order
+free-in-order l (suc i) = next-in-order (freeRefusal (freeAfter l i) (callAt l i)) (freeAfter l i) (callAt l i) (free-in-order l i)
+
+-- Models in order that agree under every key are equal.
+pub same-model : (m n : Model) → InOrder m → InOrder n → ((k : Key) → look k m ≡ look k n) → m ≡ n
+same-model m n h g e =
+    let p : m .lists ≡ n .lists = same-finds keyOf samePair beforePair ordered-pairs (m .lists) (n .lists) (h .lists) (g .lists) (λ k. e (pair k)) in
+    let q : m .routes ≡ n .routes = same-finds numberOf eqb ltb ordered-ℕ (m .routes) (n .routes) (h .routes) (g .routes) (λ k. e (route k)) in
+    λ i. record { lists = p i; routes = q i }
+
+-- ---- replies
+
+-- What is counted is what is left without the others.
+count-left : {E K : Type 0} (key : E → K) (same before : K → K → Bool) (test : K → Bool) (es : List E)
+    → countOf key same before test es ≡ length (without key same before (λ k. not (test k)) es)
+unfolding countOf without
+count-left key same before test [] = refl
+count-left key same before test (e ∷ es) = go (test (key e)) (count-left key same before test es)
+  where
+    go : (b : Bool) → countOf key same before test es ≡ length (without key same before (λ k. not (test k)) es)
+        → cond b (suc (countOf key same before test es)) (countOf key same before test es)
+        ≡ length (cond (not b) (without key same before (λ k. not (test k)) es) (e ∷ without key same before (λ k. not (test k)) es))
+    go true ih = ap suc ih
+    go false ih = ih
+
+-- A source's lists are counted alike where the same is found under its keys.
+count-alike : (m n : Model) (s : ℕ) → InOrder m → InOrder n → ((k : ℕ × ℕ) → eqb (k .1) s ≡ true → findRecord k (m .lists) ≡ findRecord k (n .lists))
+    → countRecords s (m .lists) ≡ countRecords s (n .lists)
+count-alike m n s h g e =
+    count-left keyOf samePair beforePair (ofSource s) (m .lists)
+    ∙ ap length (same-finds keyOf samePair beforePair ordered-pairs (others (m .lists)) (others (n .lists))
+    (ascends-without keyOf samePair beforePair ordered-pairs rest (m .lists) (h .lists))
+    (ascends-without keyOf samePair beforePair ordered-pairs rest (n .lists) (g .lists))
+    (λ k. find-without keyOf samePair beforePair ordered-pairs k rest (m .lists) ∙ go k (eqb (k .1) s) refl
+    ∙ sym (find-without keyOf samePair beforePair ordered-pairs k rest (n .lists))))
+    ∙ sym (count-left keyOf samePair beforePair (ofSource s) (n .lists))
+  where
+    rest : ℕ × ℕ → Bool
+    rest k = not (ofSource s k)
+
+    others : List Record → List Record
+    others rs = without keyOf samePair beforePair rest rs
+
+    go : (k : ℕ × ℕ) (t : Bool) → eqb (k .1) s ≡ t → cond (not t) none (findRecord k (m .lists)) ≡ cond (not t) none (findRecord k (n .lists))
+    go k true q = e k q
+    go k false q = refl
+
+-- Rows and answer of a call depend on what is found under the keys that it hits.
+pub record SameReply (m n : Model) (c : Call) : Type 0 where
+  pub rows : heldRows m c ≡ heldRows n c
+  pub reply : answer m c ≡ answer n c
+
+-- Whether a list is held.
+held-alike : (m n : Model) (s c : ℕ) → ((k : Key) → hits k (withdraw s c) ≡ true → look k m ≡ look k n) → holdsRecord c s (m .lists) ≡ holdsRecord c s (n .lists)
+held-alike m n s c e =
+    find-holds keyOf samePair beforePair (c, s) (m .lists) ∙ ap isSome (e (pair (c, s)) (ordered-pairs .same-self (c, s)))
+    ∙ sym (find-holds keyOf samePair beforePair (c, s) (n .lists))
+
+-- Whether a route is held.
+kept-alike : (m n : Model) (k : ℕ) → ((j : Key) → hits j (drop k) ≡ true → look j m ≡ look j n) → holdsKept k (m .routes) ≡ holdsKept k (n .routes)
+kept-alike m n k e =
+    find-holds numberOf eqb ltb k (m .routes) ∙ ap isSome (e (route k) (ordered-ℕ .same-self k)) ∙ sym (find-holds numberOf eqb ltb k (n .routes))
+
+-- What a call is asked for beside its arguments.
+own-alike : (m n : Model) (c : Call) → InOrder m → InOrder n → ((k : Key) → hits k c ≡ true → look k m ≡ look k n) → SameReply m n c
+own-alike m n (file s c list) h g e = record { rows = refl; reply = ap (λ b. cond b replaced new) (held-alike m n s c (other e)) }
+  where
+    other : ((k : Key) → hits k (file s c list) ≡ true → look k m ≡ look k n) → (k : Key) → hits k (withdraw s c) ≡ true → look k m ≡ look k n
+    other e (pair k) = e (pair k)
+    other e (route k) = e (route k)
+own-alike m n (withdraw s c) h g e = record { rows = ap (λ b. rowIf (not b) NoRecord ∷ []) (held-alike m n s c e); reply = refl }
+own-alike m n (clear s) h g e = record { rows = refl; reply = ap gone (count-alike m n s h g (λ k. e (pair k))) }
+own-alike m n (keep k role neighbour attribute) h g e = record { rows = ap (λ b. rowIf b RouteTaken ∷ []) (kept-alike m n k (other e)); reply = refl }
+  where
+    other : ((j : Key) → hits j (keep k role neighbour attribute) ≡ true → look j m ≡ look j n) → (j : Key) → hits j (drop k) ≡ true → look j m ≡ look j n
+    other e (pair j) = e (pair j)
+    other e (route j) = e (route j)
+own-alike m n (drop k) h g e = record { rows = ap (λ b. rowIf (not b) NoRoute ∷ []) (kept-alike m n k e); reply = refl }
+own-alike m n rejudge h g e = record { rows = refl; reply = refl }
+
+-- So the reply to a call depends on what is found under the keys that it hits.
+pub reply-alike : (m n : Model) (c : Call) → InOrder m → InOrder n → ((k : Key) → hits k c ≡ true → look k m ≡ look k n) → freeReply m c ≡ freeReply n c
+unfolding freeRefusal
+reply-alike m n c h g e =
+    let s : SameReply m n c = own-alike m n c h g e in
+    λ i. replyUnless (orElse (firstGiven (argumentRows c)) (firstGiven (s .rows i))) (s .reply i)

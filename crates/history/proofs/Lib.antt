@@ -1,0 +1,12 @@
+pub mod Keys
+pub mod Matching
+pub mod Mapping
+pub mod Ledgers
+pub mod KeptRoutes
+pub mod Simulating
+pub mod FiledLists
+pub mod FiledHops
+pub mod Theorems
+pub mod Reordered
+pub mod Scans
+pub mod Examples

@@ -1,0 +1,506 @@
+-- The tables hold the model: every call answers as the model and leaves tables that hold the model after it. Assumes nothing.
+use Prim.Native.Nat.{ℕ, zero, suc, _+_, _-_, _≤_}
+use mathlib.Core.Path.{_≡_, refl, sym, ap, _∙_}
+use mathlib.Core.Bool.{Bool, true, false, not, cond}
+use mathlib.Core.List.{List, [], _∷_, _++_, map}
+use mathlib.Core.Option.{Option, none, some, Option·map}
+use native.Mathlib.Omega.{arith}
+use borrow.Author.Tests.{not-false}
+use lib.Dec.{eqb, ltb, lit≤}
+use lib.ListN.{length, replicate, replicate-append-replicate}
+use Rattle.types.specs.declared.Filed.the-variants as filing
+use Rattle.types.specs.declared.Removal.the-variants as removal
+use Rattle.types.specs.declared.Cleared.the-variants as clearing
+use Rattle.types.specs.declared.Judged.the-variants as judging
+use Rattle.types.specs.declared.Rejudged.the-variants as rejudging
+use Rattle.types.specs.declared.Refusal.{Refusal}
+use Rattle.types.specs.declared.Refusal.the-variants.{TableLength, RouteTaken, RoutesFull}
+use Rattle.types.specs.Rows.{rowIf, orElse, firstGiven, Step, unlessRefused}
+use Rattle.types.proofs.Refusing.{row-passed, accepted-none}
+use Rattle.table.specs.Table.{rows, bodies, pad, encode}
+use Rattle.keyed.specs.Keyed.{samePair, every, ascends}
+use Rattle.keyed.proofs.Orders.{ordered-ℕ, same-flip, both-intro, both-left, both-right}
+use Rattle.keyed.proofs.Finds.{find-put, find-without}
+use Rattle.verdict.specs.Records.{Record, hopOf}
+use Rattle.verdict.specs.Hops.{HopFunction}
+use Rattle.verdict.specs.Judging.{judgeRows, judgedRoute}
+use Rattle.verdict.proofs.Judges.{first-append, judged-reads, not-none, Judgement, on-ground, on-path, judgement}
+use Rattle.register.specs.Register.{registerWords, recordsOf, recordsOk, roomFor}
+use Rattle.register.specs.Register as register
+use Rattle.register.specs.Calls.{tableRow, registerRow, recordFor, holdsRecord, putRecord, eraseRecord, clearRecords, countRecords, ofSource, filedAs, fileStep, withdrawStep, clearStep}
+use Rattle.register.proofs.Entries.{records-of-words}
+use Rattle.register.proofs.Holding.{room-records, room-lists}
+use Rattle.register.proofs.Holding as holding
+use Rattle.register.proofs.Keeping.{record-ok}
+use Rattle.register.proofs.Keeping as keeping
+use Rattle.register.proofs.Refusals.{Register, records-register}
+use Rattle.routes.specs.Routes.{ledgerWords, Route, routesOf, routeOk, routesOk, keyOf}
+use Rattle.routes.specs.Routes as routes
+use Rattle.routes.specs.Calls.{ledgerRow, holdsRoute, putRoute, eraseRoute, dropStep, countDiffering}
+use Rattle.rejudge.specs.Rejudging.{rejudgedRoute}
+use Rattle.filter.specs.Calls.{hopIn, tablesRow, refusalIn, keptRoute, keepRows, keepStep, rejudgeStep}
+use Rattle.history.specs.Calls.{Call, file, withdraw, clear, keep, drop, rejudge, rejudged, Tables, routeRead, says, leaves, blank, callAt, tables, said, last}
+use Rattle.history.specs.Replies.{ModelReply, refused, done, replaced, new, shownFiled, shownRemoval, shownCleared, shownJudged, shownRejudged, shown, accepted}
+use Rattle.history.specs.Model.{Model, empty, numberOf, holdsKept, putKept, heldRows, roomRows, roomForRoutes, refusal, answer, change, replyUnless, changeUnless, replyTo, next, after, replyAt, final, judgedKept, written}
+use Rattle.history.specs.Filings.{storedBy}
+use Rattle.history.specs.Demands.{known, findRoute}
+use Rattle.history.proofs.Keys.{either-way}
+use Rattle.history.proofs.Mapping.{find-map, holds-map, put-map, without-map, ascends-map}
+use Rattle.history.proofs.Ledgers.{room-known, routes-of-words, length-words, has-room, each-ok, in-order, words-ok, put-ok, erase-ok}
+use Rattle.history.proofs.KeptRoutes.{kept-ok, kept-known, rejudged-ok, rejudged-written, rejudged-known}
+
+-- ---- the tables and the model of some lists and some stored routes
+
+-- The tables of words.
+abbrev pub tablesOf : List Record → List Route → Tables
+tablesOf lists stored = record { register = register.wordsOf lists; ledger = routes.wordsOf stored }
+
+-- The model.
+abbrev pub modelOf : List Record → List Route → Model
+modelOf lists stored = record { lists = lists; routes = map known stored }
+
+-- Tables hold a model: they are the words of its lists and of its routes, with some verdicts, and keep the word rules.
+pub record Holds (t : Tables) (m : Model) : Type 0 where
+  pub lists : List Record
+  pub stored : List Route
+  pub lists-ok : recordsOk lists ≡ true
+  pub routes-ok : routesOk stored ≡ true
+  pub tables-are : t ≡ tablesOf lists stored
+  pub model-is : m ≡ modelOf lists stored
+
+-- What is stored under a number after a call.
+abbrev pub storedNext : Tables → Model → Call → ℕ → Option Route
+storedNext t m c number =
+    cond (accepted (replyTo m c)) (storedBy (hopIn (t .register)) number c (findRoute number (routesOf (t .ledger)))) (findRoute number (routesOf (t .ledger)))
+
+-- A call answers as the model, and leaves tables that hold the model after it.
+pub record Simulated (t : Tables) (m : Model) (c : Call) : Type 0 where
+  pub replies : shown (says t c) ≡ replyTo m c
+  pub holds : Holds (leaves t c) (next m c)
+  pub stores : (number : ℕ) → findRoute number (routesOf (leaves t c .ledger)) ≡ storedNext t m c number
+
+-- ---- what the tables show
+
+module _ (lists : List Record) (ok : recordsOk lists ≡ true) where
+  -- The register holds the lists.
+  pub records-are : recordsOf (register.wordsOf lists) ≡ lists
+  records-are = let room = holding.has-room lists ok in records-of-words lists (room-records lists room) (room-lists lists room)
+
+  -- It keeps the word rules.
+  pub is-register : Register (register.wordsOf lists)
+  is-register = records-register lists ok
+
+  -- Rows 1 and 2 are not given.
+  pub register-passes : (rows : List (Option Refusal))
+      → firstGiven (tableRow (register.wordsOf lists) ∷ registerRow (register.wordsOf lists) ∷ rows) ≡ firstGiven rows
+  unfolding firstGiven
+  register-passes rows = rw (is-register .long, is-register .ok)
+
+module _ (stored : List Route) (ok : routesOk stored ≡ true) where
+  -- The ledger holds the stored routes.
+  pub routes-are : routesOf (routes.wordsOf stored) ≡ stored
+  routes-are = routes-of-words stored (has-room stored ok)
+
+  -- Rows 1 and 3 are not given.
+  ledger-passes : (rows : List (Option Refusal))
+      → firstGiven (rowIf (not (eqb (length (routes.wordsOf stored)) ledgerWords)) TableLength ∷ ledgerRow (routes.wordsOf stored) ∷ rows) ≡ firstGiven rows
+  unfolding firstGiven
+  ledger-passes rows = rw (length-words stored (has-room stored ok), words-ok stored ok)
+
+-- Rows 1, 2 and 3 are not given.
+tables-pass : (lists : List Record) (stored : List Route) → recordsOk lists ≡ true → routesOk stored ≡ true → (rows : List (Option Refusal))
+    → firstGiven (tablesRow (register.wordsOf lists) (routes.wordsOf stored) ∷ registerRow (register.wordsOf lists) ∷ ledgerRow (routes.wordsOf stored) ∷ rows)
+    ≡ firstGiven rows
+unfolding firstGiven
+tables-pass lists stored ok fine rows =
+    rw (is-register lists ok .long, is-register lists ok .ok, length-words stored (has-room stored fine), words-ok stored fine)
+
+-- What is shown of a refused call is the refusal.
+shown-unless : {A : Type 0} (show : A → ModelReply) (refuse : Refusal → A) → ((r : Refusal) → show (refuse r) ≡ refused r)
+    → (o : Option Refusal) (ws : List ℕ) (accepted : Step A) → show (unlessRefused o refuse ws accepted .answer) ≡ replyUnless o (show (accepted .answer))
+shown-unless show refuse e (some r) ws accepted = e r
+shown-unless show refuse e none ws accepted = refl
+
+-- Routes that are judged anew keep the rules.
+rejudged-every : (hop : HopFunction) (rs : List Route) → every routeOk rs ≡ true → every routeOk (map (rejudgedRoute hop) rs) ≡ true
+unfolding every
+rejudged-every hop [] e = refl
+rejudged-every hop (r ∷ rs) e = both-intro _ _ (rejudged-ok hop r (both-left _ _ e)) (rejudged-every hop rs (both-right (routeOk r) _ e))
+
+-- But for their verdicts they are the routes that they were.
+known-rejudged : (hop : HopFunction) (rs : List Route) → map known (map (rejudgedRoute hop) rs) ≡ map known rs
+known-rejudged hop [] = refl
+known-rejudged hop (r ∷ rs) = λ i. rejudged-known hop r i ∷ known-rejudged hop rs i
+
+-- They are written as a well-formed ledger.
+pub rejudged-all-ok : (hop : HopFunction) (rs : List Route) → routesOk rs ≡ true → routesOk (map (rejudgedRoute hop) rs) ≡ true
+unfolding routesOk
+rejudged-all-ok hop rs e =
+    both-intro _ _ (room-known (map (rejudgedRoute hop) rs) ∙ ap roomForRoutes (known-rejudged hop rs) ∙ sym (room-known rs) ∙ has-room rs e)
+    (both-intro _ _ (rejudged-every hop rs (each-ok rs e))
+    (ascends-map keyOf keyOf eqb ltb (rejudgedRoute hop) (λ r. ap (λ k. k .number) (rejudged-known hop r)) rs ∙ in-order rs e))
+
+-- They are the model's routes, with the verdicts that the model writes.
+written-rejudged : (hop : HopFunction) (rs : List Route) → every routeOk rs ≡ true → map (rejudgedRoute hop) rs ≡ map (judgedKept hop) (map known rs)
+unfolding every
+written-rejudged hop [] e = refl
+written-rejudged hop (r ∷ rs) e = λ i. rejudged-written hop r (both-left (routeOk r) _ e) i ∷ written-rejudged hop rs (both-right (routeOk r) _ e) i
+
+-- ---- each call
+
+module _ (lists : List Record) (stored : List Route) (ok : recordsOk lists ≡ true) (fine : routesOk stored ≡ true) where
+  -- A refused call leaves all as it is.
+  held : Holds (tablesOf lists stored) (modelOf lists stored)
+  held = record { lists = lists; stored = stored; lists-ok = ok; routes-ok = fine; tables-are = refl; model-is = refl }
+
+  -- A call on the register, where `words` are left for `after`.
+  register-held : (o : Option Refusal) {A : Type 0} (refuse : Refusal → A) (reply : A) (after : List Record)
+      → (o ≡ none → recordsOk after ≡ true)
+      → Holds
+      (record {
+        register = unlessRefused o refuse (register.wordsOf lists) (record { answer = reply; words = register.wordsOf after }) .words;
+        ledger = routes.wordsOf stored;
+      })
+      (changeUnless o (modelOf lists stored) (modelOf after stored))
+  register-held (some r) refuse reply after h = held
+  register-held none refuse reply after h =
+      record { lists = after; stored = stored; lists-ok = h refl; routes-ok = fine; tables-are = refl; model-is = refl }
+
+  -- A call on the ledger.
+  ledger-held : (o : Option Refusal) {A : Type 0} (refuse : Refusal → A) (reply : A) (after : List Route) (n : Model)
+      → (o ≡ none → routesOk after ≡ true) → (o ≡ none → n ≡ modelOf lists after)
+      → Holds
+      (record {
+        register = register.wordsOf lists;
+        ledger = unlessRefused o refuse (routes.wordsOf stored) (record { answer = reply; words = routes.wordsOf after }) .words;
+      })
+      (changeUnless o (modelOf lists stored) n)
+  ledger-held (some r) refuse reply after n h g = held
+  ledger-held none refuse reply after n h g =
+      record { lists = lists; stored = after; lists-ok = ok; routes-ok = h refl; tables-are = refl; model-is = g refl }
+
+  -- What is stored under a number after a call on the ledger.
+  ledger-stores : (o : Option Refusal) {A : Type 0} (refuse : Refusal → A) (reply : A) (after : List Route) (number : ℕ) (v : Option Route)
+      → (o ≡ none → routesOk after ≡ true) → findRoute number after ≡ v
+      → findRoute number (routesOf (unlessRefused o refuse (routes.wordsOf stored) (record { answer = reply; words = routes.wordsOf after }) .words))
+      ≡ cond (accepted (replyUnless o done)) v (findRoute number (routesOf (routes.wordsOf stored)))
+  ledger-stores (some r) refuse reply after number v h e = refl
+  ledger-stores none refuse reply after number v h e = ap (findRoute number) (routes-are after (h refl)) ∙ e
+
+  -- What was stored under a number before it.
+  stored-before : (number : ℕ) → findRoute number (routesOf (routes.wordsOf stored)) ≡ findRoute number stored
+  stored-before number = ap (findRoute number) (routes-are stored fine)
+
+  module _ (s c : ℕ) (list : List ℕ) where
+    -- File, as the model refuses it.
+    file-step :
+        fileStep (register.wordsOf lists) s c list
+        ≡ unlessRefused (refusal (modelOf lists stored) (file s c list)) filing.Refused (register.wordsOf lists)
+        (record { answer = filedAs (recordFor s c list) lists; words = register.wordsOf (putRecord (recordFor s c list) lists) })
+    unfolding fileStep refusal
+    file-step = rw (register-passes lists ok, records-are lists ok)
+
+    -- Its answer is the one that the model gives.
+    filed-shown : (b : Bool) → shownFiled (cond b filing.Replaced filing.New) ≡ cond b replaced new
+    filed-shown true = refl
+    filed-shown false = refl
+
+    -- An accepted list keeps the rules.
+    filed-ok : refusal (modelOf lists stored) (file s c list) ≡ none → recordsOk (putRecord (recordFor s c list) lists) ≡ true
+    unfolding refusal
+    filed-ok e =
+        let given = accepted-none _ e in
+        keeping.put-ok lists ok (recordFor s c list)
+        (record-ok (recordFor s c list) (row-passed _ _ (given 0)) (row-passed _ _ (given 1)) (not-false _ (row-passed _ _ (given 2))))
+        (not-false _ (row-passed _ _ (given 3)))
+
+    -- Filing.
+    file-simulated : Simulated (tablesOf lists stored) (modelOf lists stored) (file s c list)
+    file-simulated = record {
+      replies =
+          ap (λ x. shownFiled (x .answer)) file-step
+          ∙ shown-unless shownFiled filing.Refused (λ r. refl) (refusal (modelOf lists stored) (file s c list)) _ _
+          ∙ ap (replyUnless (refusal (modelOf lists stored) (file s c list))) (filed-shown (holdsRecord c s lists));
+      holds = rw file-step (register-held (refusal (modelOf lists stored) (file s c list)) filing.Refused _ _ filed-ok);
+      stores = λ number. sym (either-way (accepted (replyTo (modelOf lists stored) (file s c list))) _);
+    }
+
+  module _ (s c : ℕ) where
+    -- Withdraw, as the model refuses it.
+    withdraw-step :
+        withdrawStep (register.wordsOf lists) s c
+        ≡ unlessRefused (refusal (modelOf lists stored) (withdraw s c)) removal.Refused (register.wordsOf lists)
+        (record { answer = removal.Done; words = register.wordsOf (eraseRecord c s lists) })
+    unfolding withdrawStep refusal
+    withdraw-step = rw (register-passes lists ok, records-are lists ok)
+
+    -- Withdrawing.
+    withdraw-simulated : Simulated (tablesOf lists stored) (modelOf lists stored) (withdraw s c)
+    withdraw-simulated = record {
+      replies =
+          ap (λ x. shownRemoval (x .answer)) withdraw-step
+          ∙ shown-unless shownRemoval removal.Refused (λ r. refl) (refusal (modelOf lists stored) (withdraw s c)) _ _;
+      holds = rw withdraw-step
+          (register-held (refusal (modelOf lists stored) (withdraw s c)) removal.Refused _ _ (λ e. keeping.without-ok lists ok (samePair (c, s))));
+      stores = λ number. sym (either-way (accepted (replyTo (modelOf lists stored) (withdraw s c))) _);
+    }
+
+  module _ (s : ℕ) where
+    -- Clear, as the model refuses it.
+    clear-step :
+        clearStep (register.wordsOf lists) s
+        ≡ unlessRefused (refusal (modelOf lists stored) (clear s)) clearing.Refused (register.wordsOf lists)
+        (record { answer = clearing.Gone (countRecords s lists); words = register.wordsOf (clearRecords s lists) })
+    unfolding clearStep refusal
+    clear-step = rw (register-passes lists ok, records-are lists ok)
+
+    -- Clearing.
+    clear-simulated : Simulated (tablesOf lists stored) (modelOf lists stored) (clear s)
+    clear-simulated = record {
+      replies =
+          ap (λ x. shownCleared (x .answer)) clear-step
+          ∙ shown-unless shownCleared clearing.Refused (λ r. refl) (refusal (modelOf lists stored) (clear s)) _ _;
+      holds = rw clear-step
+          (register-held (refusal (modelOf lists stored) (clear s)) clearing.Refused _ _ (λ e. keeping.without-ok lists ok (ofSource s)));
+      stores = λ number. sym (either-way (accepted (replyTo (modelOf lists stored) (clear s))) _);
+    }
+
+  module _ (n : ℕ) where
+    -- Drop, as the model refuses it.
+    drop-step :
+        dropStep (routes.wordsOf stored) n
+        ≡ unlessRefused (refusal (modelOf lists stored) (drop n)) removal.Refused (routes.wordsOf stored)
+        (record { answer = removal.Done; words = routes.wordsOf (eraseRoute n stored) })
+    unfolding dropStep refusal
+    drop-step = rw (ledger-passes stored fine, routes-are stored fine, holds-map keyOf numberOf eqb ltb known (λ r. refl) n stored)
+
+    -- Dropping.
+    drop-simulated : Simulated (tablesOf lists stored) (modelOf lists stored) (drop n)
+    drop-simulated = record {
+      replies =
+          ap (λ x. shownRemoval (x .answer)) drop-step
+          ∙ shown-unless shownRemoval removal.Refused (λ r. refl) (refusal (modelOf lists stored) (drop n)) _ _;
+      holds = rw drop-step
+          (ledger-held (refusal (modelOf lists stored) (drop n)) removal.Refused _ _ _ (λ e. erase-ok stored fine n)
+          (λ e. ap (λ rs. record { lists = lists; routes = rs }) (without-map keyOf numberOf eqb ltb known (λ r. refl) (eqb n) stored)));
+      stores = λ number.
+          ap (λ x. findRoute number (routesOf (x .words))) drop-step
+          ∙ ledger-stores (refusal (modelOf lists stored) (drop n)) removal.Refused _ (eraseRoute n stored) number _ (λ e. erase-ok stored fine n)
+          (find-without keyOf eqb ltb ordered-ℕ number (eqb n) stored ∙ ap (cond (eqb n number) none) (sym (stored-before number)));
+    }
+
+  module _ (n role neighbour : ℕ) (attribute : List ℕ) where
+    -- A keeping whose arguments bar it not asks of the model and of the ledger for the same room.
+    same-room : firstGiven (judgeRows role neighbour attribute) ≡ none
+        → routes.roomFor (putRoute (keptRoute (register.wordsOf lists) n role neighbour attribute) stored)
+        ≡ roomForRoutes (putKept (routeRead n role neighbour attribute) (map known stored))
+    same-room e =
+        room-known (putRoute (keptRoute (register.wordsOf lists) n role neighbour attribute) stored)
+        ∙ ap roomForRoutes (sym (put-map keyOf numberOf eqb ltb known (λ r. refl) (keptRoute (register.wordsOf lists) n role neighbour attribute) stored))
+        ∙ ap (λ r. roomForRoutes (putKept r (map known stored))) (kept-known (register.wordsOf lists) n role neighbour attribute e)
+
+    -- Keep is refused as by the model.
+    keep-refusal : firstGiven (keepRows (register.wordsOf lists) (routes.wordsOf stored) n role neighbour attribute)
+        ≡ refusal (modelOf lists stored) (keep n role neighbour attribute)
+    unfolding refusal firstGiven
+    keep-refusal =
+        tables-pass lists stored ok fine later
+        ∙ rw (
+          routes-are stored fine,
+          judged-reads (hopIn (register.wordsOf lists)) role neighbour attribute refusalIn (λ r. refl) (λ a. refl),
+          ← holds-map keyOf numberOf eqb ltb known (λ r. refl) n stored,
+          first-append (judgeRows role neighbour attribute) (heldRows (modelOf lists stored) (keep n role neighbour attribute)
+              ++ roomRows (modelOf lists stored) (keep n role neighbour attribute)),
+        ) (go (firstGiven (judgeRows role neighbour attribute)) refl)
+      where
+        later : List (Option Refusal)
+        later =
+            refusalIn (judgedRoute (hopIn (register.wordsOf lists)) role neighbour attribute)
+            ∷ rowIf (holdsRoute n (routesOf (routes.wordsOf stored))) RouteTaken
+            ∷ rowIf (not (routes.roomFor (putRoute (keptRoute (register.wordsOf lists) n role neighbour attribute) (routesOf (routes.wordsOf stored))))) RoutesFull
+            ∷ []
+
+        go : (o : Option Refusal) → firstGiven (judgeRows role neighbour attribute) ≡ o
+            → orElse o (orElse (rowIf (holdsKept n (map known stored)) RouteTaken)
+            (orElse (rowIf (not (routes.roomFor (putRoute (keptRoute (register.wordsOf lists) n role neighbour attribute) stored))) RoutesFull) none))
+            ≡ orElse o (orElse (rowIf (holdsKept n (map known stored)) RouteTaken)
+            (orElse (rowIf (not (roomForRoutes (putKept (routeRead n role neighbour attribute) (map known stored)))) RoutesFull) none))
+        go (some r) e = refl
+        go none e = rw (same-room e)
+
+    -- A keeping that is not refused passed rows 9 to 17 and has room.
+    passed : refusal (modelOf lists stored) (keep n role neighbour attribute) ≡ none
+        → (firstGiven (judgeRows role neighbour attribute) ≡ none)
+        × (roomForRoutes (putKept (routeRead n role neighbour attribute) (map known stored)) ≡ true)
+    unfolding refusal firstGiven
+    passed e =
+        go (firstGiven (judgeRows role neighbour attribute)) (holdsKept n (map known stored))
+        (roomForRoutes (putKept (routeRead n role neighbour attribute) (map known stored)))
+        (sym (first-append (judgeRows role neighbour attribute) (heldRows (modelOf lists stored) (keep n role neighbour attribute)
+        ++ roomRows (modelOf lists stored) (keep n role neighbour attribute))) ∙ e)
+      where
+        go : (o : Option Refusal) (b c : Bool) → orElse o (orElse (rowIf b RouteTaken) (orElse (rowIf (not c) RoutesFull) none)) ≡ none
+            → (o ≡ none) × (c ≡ true)
+        go (some r) b c h = not-none h
+        go none true c h = not-none h
+        go none false true h = (refl, refl)
+        go none false false h = not-none h
+
+    -- Keep, as the model refuses it.
+    pub keep-step :
+        keepStep (register.wordsOf lists) (routes.wordsOf stored) n role neighbour attribute
+        ≡ unlessRefused (refusal (modelOf lists stored) (keep n role neighbour attribute)) judging.Refused (routes.wordsOf stored)
+        (record {
+          answer = judgedRoute (hopOf lists) role neighbour attribute;
+          words = routes.wordsOf (putRoute (keptRoute (register.wordsOf lists) n role neighbour attribute) stored);
+        })
+    unfolding keepStep
+    keep-step = rw (keep-refusal, routes-are stored fine, records-are lists ok)
+
+    -- A judging that rows 9 to 17 do not refuse is answered.
+    judged-done : firstGiven (judgeRows role neighbour attribute) ≡ none → shownJudged (judgedRoute (hopOf lists) role neighbour attribute) ≡ done
+    judged-done e = go (judgement (hopOf lists) role neighbour attribute e)
+      where
+        go : Judgement (hopOf lists) role neighbour attribute → shownJudged (judgedRoute (hopOf lists) role neighbour attribute) ≡ done
+        go (on-ground g c j) = rw j
+        go (on-path path c short j) = rw j
+
+    -- Keeping.
+    keep-simulated : Simulated (tablesOf lists stored) (modelOf lists stored) (keep n role neighbour attribute)
+    keep-simulated = record {
+      replies =
+          ap (λ x. shownJudged (x .answer)) keep-step
+          ∙ shown-unless shownJudged judging.Refused (λ r. refl) (refusal (modelOf lists stored) (keep n role neighbour attribute)) _ _
+          ∙ answered (refusal (modelOf lists stored) (keep n role neighbour attribute)) refl;
+      holds = rw keep-step
+          (ledger-held (refusal (modelOf lists stored) (keep n role neighbour attribute)) judging.Refused _ _ _ stays-ok (λ e. same-routes (passed e .0)));
+      stores = λ number.
+          ap (λ x. findRoute number (routesOf (x .words))) keep-step
+          ∙ ledger-stores (refusal (modelOf lists stored) (keep n role neighbour attribute)) judging.Refused _ (putRoute r stored) number _ stays-ok
+          (find-put keyOf eqb ltb ordered-ℕ number r stored
+          ∙ ap (λ b. cond b (some r) (findRoute number stored)) (same-flip eqb ltb ordered-ℕ number n)
+          ∙ ap (cond (eqb n number) (some r)) (sym (stored-before number)));
+    }
+      where
+        r : Route
+        r = keptRoute (register.wordsOf lists) n role neighbour attribute
+
+        answered : (o : Option Refusal) → refusal (modelOf lists stored) (keep n role neighbour attribute) ≡ o
+            → replyUnless o (shownJudged (judgedRoute (hopOf lists) role neighbour attribute)) ≡ replyUnless o done
+        answered (some x) e = refl
+        answered none e = judged-done (passed e .0)
+
+        stays-ok : refusal (modelOf lists stored) (keep n role neighbour attribute) ≡ none → routesOk (putRoute r stored) ≡ true
+        stays-ok e =
+            let p = passed e in
+            put-ok stored fine r (kept-ok (register.wordsOf lists) n role neighbour attribute (p .0)) (same-room (p .0) ∙ p .1)
+
+        same-routes : firstGiven (judgeRows role neighbour attribute) ≡ none
+            → change (modelOf lists stored) (keep n role neighbour attribute) ≡ modelOf lists (putRoute r stored)
+        same-routes e =
+            ap (λ k. record { lists = lists; routes = putKept k (map known stored) }) (sym (kept-known (register.wordsOf lists) n role neighbour attribute e))
+            ∙ ap (λ rs. record { lists = lists; routes = rs }) (put-map keyOf numberOf eqb ltb known (λ r. refl) r stored)
+
+  -- Re-judge, which the model does not refuse.
+  pub rejudge-step :
+      rejudgeStep (register.wordsOf lists) (routes.wordsOf stored)
+      ≡ record {
+        answer = rejudging.Changed (countDiffering stored (map (rejudgedRoute (hopOf lists)) stored));
+        words = routes.wordsOf (map (rejudgedRoute (hopOf lists)) stored);
+      }
+  unfolding rejudgeStep firstGiven
+  rejudge-step = rw (tables-pass lists stored ok fine, routes-are stored fine, records-are lists ok)
+
+  -- Re-judging.
+  rejudge-simulated : Simulated (tablesOf lists stored) (modelOf lists stored) rejudge
+  unfolding refusal firstGiven
+  rejudge-simulated = record {
+    replies = ap (λ x. shownRejudged (x .answer)) rejudge-step;
+    holds = rw rejudge-step (record {
+      lists = lists;
+      stored = map (rejudgedRoute (hopOf lists)) stored;
+      lists-ok = ok;
+      routes-ok = rejudged-all-ok (hopOf lists) stored fine;
+      tables-are = refl;
+      model-is = ap (λ rs. record { lists = lists; routes = rs }) (sym (known-rejudged (hopOf lists) stored));
+    });
+    stores = λ number.
+        ap (λ x. findRoute number (routesOf (x .words))) rejudge-step
+        ∙ ap (findRoute number) (routes-are (map (rejudgedRoute (hopOf lists)) stored) (rejudged-all-ok (hopOf lists) stored fine))
+        ∙ find-map keyOf keyOf eqb ltb (rejudgedRoute (hopOf lists)) (λ k. ap (λ x. x .number) (rejudged-known (hopOf lists) k)) number stored
+        ∙ (λ i. Option·map (rejudgedRoute (hopOf (sym (records-are lists ok) i))) (sym (stored-before number) i));
+  }
+
+  -- A re-judging answers how many routes differ between the ledger before and after it.
+  pub rejudge-counts :
+      says (tablesOf lists stored) rejudge
+      ≡ rejudged (rejudging.Changed (countDiffering (routesOf (routes.wordsOf stored)) (routesOf (leaves (tablesOf lists stored) rejudge .ledger))))
+  rejudge-counts =
+      rw (
+        rejudge-step,
+        routes-are (map (rejudgedRoute (hopOf lists)) stored) (rejudged-all-ok (hopOf lists) stored fine),
+        routes-are stored fine,
+      )
+
+  -- Any call.
+  any-simulated : (c : Call) → Simulated (tablesOf lists stored) (modelOf lists stored) c
+  any-simulated (file s c list) = file-simulated s c list
+  any-simulated (withdraw s c) = withdraw-simulated s c
+  any-simulated (clear s) = clear-simulated s
+  any-simulated (keep n role neighbour attribute) = keep-simulated n role neighbour attribute
+  any-simulated (drop n) = drop-simulated n
+  any-simulated rejudge = rejudge-simulated
+
+  -- A last re-judging leaves the model written out.
+  last-written : leaves (tablesOf lists stored) rejudge ≡ written (modelOf lists stored)
+  unfolding written
+  last-written =
+      ap (λ x. record { register = register.wordsOf lists; ledger = x .words }) rejudge-step
+      ∙ ap (λ rs. record { register = register.wordsOf lists; ledger = routes.wordsOf rs }) (written-rejudged (hopOf lists) stored (each-ok stored fine))
+
+-- ---- whole lists of calls
+
+-- Any call on tables that hold a model.
+pub simulated : (t : Tables) (m : Model) (c : Call) → Holds t m → Simulated t m c
+simulated t m c h = rw (h .tables-are, h .model-is) (any-simulated (h .lists) (h .stored) (h .lists-ok) (h .routes-ok) c)
+
+-- Zeros hold nothing.
+zeros : (size : ℕ) → 2 ≤ size → replicate size 0 ≡ encode size []
+unfolding encode pad rows bodies
+zeros size h = let e : 2 + (size - 2) ≡ size = omega arith in sym (replicate-append-replicate 2 (size - 2) 0 ∙ ap (λ n. replicate n 0) e)
+
+-- So the empty tables are the words of no lists and no routes,
+pub blank-tables : blank ≡ tablesOf [] []
+unfolding blank register.wordsOf routes.wordsOf
+blank-tables = λ i. record { register = zeros registerWords (lit≤ tt) i; ledger = zeros ledgerWords (lit≤ tt) i }
+
+-- which keep the rules,
+pub nothing-ok : (recordsOk [] ≡ true) × (routesOk [] ≡ true)
+unfolding recordsOk roomFor register.listed every ascends routesOk routes.roomFor routes.pathWords bodies
+nothing-ok = (refl, refl)
+
+-- and they hold the empty model.
+blank-holds : Holds blank empty
+blank-holds = record { lists = []; stored = []; lists-ok = nothing-ok .0; routes-ok = nothing-ok .1; tables-are = blank-tables; model-is = refl }
+
+-- After each call the tables hold the model.
+pub history-holds : (l : List Call) (i : ℕ) → Holds (tables l i) (after l i)
+unfolding tables after
+history-holds l zero = blank-holds
+history-holds l (suc i) = simulated (tables l i) (after l i) (callAt l i) (history-holds l i) .holds
+
+-- What is stored after one call more.
+pub history-stores : (l : List Call) (i number : ℕ)
+    → findRoute number (routesOf (tables l (suc i) .ledger)) ≡ storedNext (tables l i) (after l i) (callAt l i) number
+unfolding tables
+history-stores l i number = simulated (tables l i) (after l i) (callAt l i) (history-holds l i) .stores number
+
+-- Each call is answered as by the model.
+pub history-replies : (l : List Call) (i : ℕ) → shown (said l i) ≡ replyAt l i
+history-replies l i = simulated (tables l i) (after l i) (callAt l i) (history-holds l i) .replies
+
+-- After the whole list and one last re-judging both tables are the model written out.
+pub history-written : (l : List Call) → last l ≡ written (final l)
+history-written l =
+    let h : Holds (tables l (length l)) (final l) = history-holds l (length l) in
+    rw (h .tables-are, h .model-is) (last-written (h .lists) (h .stored) (h .lists-ok) (h .routes-ok))

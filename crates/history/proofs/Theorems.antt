@@ -1,0 +1,401 @@
+-- Demands 2 and 3 hold. Assumes nothing.
+use Prim.Native.Nat.{ℕ, zero, suc, _<_}
+use mathlib.Core.Path.{_≡_, refl, sym, ap, _∙_}
+use mathlib.Core.Bool.{Bool, true, false, cond}
+use mathlib.Core.List.{List, [], _∷_, map}
+use mathlib.Core.Option.{Option, none, some, Option·map}
+use native.Mathlib.Omega.{arith}
+use borrow.Author.Tests.{eqb-true, eqb-false}
+use lib.Dec.{eqb, ltb}
+use native.Mathlib.Decide.{decLt}
+use lib.ListN.{length, List·getD-eq-default}
+use Rattle.types.specs.declared.Cause.the-variants.{ByGround}
+use Rattle.types.specs.declared.Verdict.{Verdict}
+use Rattle.types.specs.declared.Verdict.the-variants.{Valid, Invalid, Unknown}
+use Rattle.types.specs.declared.Answer.{Answer}
+use Rattle.types.specs.declared.Answer.the-variants.{Plain}
+use Rattle.types.specs.declared.Filed.{Filed}
+use Rattle.types.specs.declared.Filed.the-variants as filing
+use Rattle.types.specs.declared.Removal.{Removal}
+use Rattle.types.specs.declared.Removal.the-variants as removal
+use Rattle.types.specs.declared.Cleared.{Cleared}
+use Rattle.types.specs.declared.Cleared.the-variants as clearing
+use Rattle.types.specs.declared.Judged.the-variants.{Answered, Refused}
+use Rattle.types.specs.declared.Rejudged.the-variants.{Changed}
+use Rattle.types.specs.declared.Refusal.{Refusal}
+use Rattle.types.specs.Numbers.{verdictNumber}
+use Rattle.types.specs.Rows.{firstGiven, unlessRefused}
+use Rattle.as_path.specs.Reading.{contentOf}
+use Rattle.keyed.specs.Keyed.{samePair, beforePair, every, find}
+use Rattle.keyed.proofs.Orders.{ordered-pairs, ordered-ℕ, both-left, both-right}
+use Rattle.keyed.proofs.Finds.{find-key, same-finds}
+use Rattle.verdict.specs.Hops.{HopFunction}
+use Rattle.verdict.specs.Records.{Record, hopOf}
+use Rattle.verdict.specs.Verdicts.{judged}
+use Rattle.verdict.specs.Judging.{judgeRows, judgedRoute}
+use Rattle.verdict.specs.Draft.{outcomeOf}
+use Rattle.verdict.proofs.Judges.{judged-reads, Judgement, on-ground, on-path, judgement}
+use Rattle.register.specs.Register.{registerWords, recordsOf, registerOk}
+use Rattle.register.specs.Register as register
+use Rattle.register.specs.Calls.{recordFor}
+use Rattle.register.proofs.Holding as holding
+use Rattle.register.proofs.Refusals.{Register}
+use Rattle.routes.specs.Routes.{ledgerWords, ledgerOk, Route, routesOf, routeOk, keyOf}
+use Rattle.routes.specs.Routes as routes
+use Rattle.routes.specs.Calls.{stamped, countDiffering}
+use Rattle.rejudge.specs.Rejudging.{verdictOf, rejudgedRoute}
+use Rattle.filter.specs.Calls.{hopIn, judgeAnswer, refusalIn, keepStep, rejudgeStep}
+use Rattle.history.specs.Calls.{Call, file, withdraw, clear, keep, drop, rejudge, filed, removed, cleared, kept, rejudged, Tables, tables, says, callAt, said, last}
+use Rattle.history.specs.Replies.{ModelReply, new, replaced, done, gone, refused, shownFiled, shownRemoval, shownCleared, shown, forRoom, accepted}
+use Rattle.history.specs.Model.{numberOf, refusal, after, replyAt, written}
+use Rattle.history.specs.Filings.{filedList, keptRouteAt, hopFiled, hopsAt, storedBy, storedAt}
+use Rattle.history.specs.Reorderings.{IsRegisterStep, IsStep, Reordering}
+use Rattle.history.specs.Demands.{findRecord, findRoute, providersOf, known, draftWord, wordNumber, Roomy, Drafted, Demand2, Demand3}
+use Rattle.history.proofs.Keys.{findKept}
+use Rattle.history.proofs.Matching.{RoomyModel, same-replies, same-final}
+use Rattle.history.proofs.Mapping.{find-map}
+use Rattle.history.proofs.Ledgers.{length-words, words-ok, has-room, each-ok, in-order}
+use Rattle.history.proofs.KeptRoutes.{path-ok, path-length, judged-word, pathed, on-a-ground, rejudged-known}
+use Rattle.history.proofs.Simulating.{modelOf, Holds, records-are, is-register, register-passes, routes-are, keep-step, rejudge-step, rejudge-counts, rejudged-all-ok, blank-tables, nothing-ok, history-holds, history-stores, history-replies, history-written}
+use Rattle.history.proofs.FiledLists.{filed-list, kept-route}
+use Rattle.history.proofs.FiledHops.{filed-hops}
+
+-- A verdict that is answered without a refusal: rows 9 to 17 are not given.
+answered-rows : (hop : HopFunction) (role neighbour : ℕ) (attribute : List ℕ) (a : Answer) → judgedRoute hop role neighbour attribute ≡ Answered a
+    → firstGiven (judgeRows role neighbour attribute) ≡ none
+answered-rows hop role neighbour attribute a e = sym (judged-reads hop role neighbour attribute refusalIn (λ r. refl) (λ a. refl)) ∙ ap refusalIn e
+
+-- Its word is the draft's.
+answered-word : (hop : HopFunction) (role neighbour : ℕ) (attribute : List ℕ) (a : Answer) → judgedRoute hop role neighbour attribute ≡ Answered a
+    → draftWord hop role (contentOf role neighbour attribute) ≡ some (outcomeOf (verdictOf a))
+answered-word hop role neighbour attribute a e = go (judgement hop role neighbour attribute (answered-rows hop role neighbour attribute a e))
+  where
+    go : Judgement hop role neighbour attribute → draftWord hop role (contentOf role neighbour attribute) ≡ some (outcomeOf (verdictOf a))
+    go (on-ground g c j) =
+        let f : Answered (Plain (Invalid (ByGround g))) ≡ Answered a = sym j ∙ e in
+        let z : Plain (Invalid (ByGround g)) ≡ a = cc in
+        rw (c, ← z)
+    go (on-path path c short j) =
+        let f : Answered (judged hop path role) ≡ Answered a = sym j ∙ e in
+        let z : judged hop path role ≡ a = cc in
+        let n = path-length role neighbour path (path-ok role neighbour attribute path c short) in
+        rw (c, ← z) (ap some (judged-word hop path role (n .0)))
+
+-- A keeping that is answered answers what is judged.
+keep-answered : (o : Option Refusal) (hop : HopFunction) (role neighbour : ℕ) (attribute ws ws′ : List ℕ) (a : Answer)
+    → unlessRefused o Refused ws (record { answer = judgedRoute hop role neighbour attribute; words = ws′ }) .answer ≡ Answered a
+    → judgedRoute hop role neighbour attribute ≡ Answered a
+keep-answered (some r) hop role neighbour attribute ws ws′ a e = let z : _≡_ {A = ℕ} 0 1 = cc in absurd (omega arith)
+keep-answered none hop role neighbour attribute ws ws′ a e = e
+
+-- ---- what the tables hold after i calls
+
+module _ (l : List Call) (i : ℕ) where
+  -- The tables hold the model.
+  holds-at : Holds (tables l i) (after l i)
+  holds-at = history-holds l i
+
+  -- The register is the words of the model's lists, the ledger those of the stored routes.
+  register-is : tables l i .register ≡ register.wordsOf (holds-at .lists)
+  register-is = ap (λ t. t .register) (holds-at .tables-are)
+
+  ledger-is : tables l i .ledger ≡ routes.wordsOf (holds-at .stored)
+  ledger-is = ap (λ t. t .ledger) (holds-at .tables-are)
+
+  -- The records are the model's lists.
+  lists-are : recordsOf (tables l i .register) ≡ after l i .lists
+  lists-are = ap recordsOf register-is ∙ records-are (holds-at .lists) (holds-at .lists-ok) ∙ sym (ap (λ m. m .lists) (holds-at .model-is))
+
+  -- The hops are those over the filed lists.
+  hops-are : hopOf (holds-at .lists) ≡ hopsAt l i
+  hops-are =
+      filed-hops (holds-at .lists) (holds-at .lists-ok)
+      ∙ ap (λ rs. hopFiled (λ source customer. providersOf (findRecord (customer, source) rs))) (sym (ap (λ m. m .lists) (holds-at .model-is)))
+      ∙ ap hopFiled (λ j source customer. filed-list source customer l i j)
+
+  -- Both tables keep the word rules.
+  formed-register : (length (tables l i .register) ≡ registerWords) × (registerOk (tables l i .register) ≡ true)
+  formed-register =
+      let r : Register (register.wordsOf (holds-at .lists)) = is-register (holds-at .lists) (holds-at .lists-ok) in
+      rw register-is (r .long, r .ok)
+
+  formed-ledger : (length (tables l i .ledger) ≡ ledgerWords) × (ledgerOk (tables l i .ledger) ≡ true)
+  formed-ledger =
+      rw ledger-is (length-words (holds-at .stored) (has-room (holds-at .stored) (holds-at .routes-ok)), words-ok (holds-at .stored) (holds-at .routes-ok))
+
+  -- The stored routes, but for their verdicts, are those kept.
+  kept-are : (number : ℕ) → Option·map known (findRoute number (routesOf (tables l i .ledger))) ≡ keptRouteAt l i number
+  kept-are number =
+      ap (λ ws. Option·map known (findRoute number (routesOf ws))) ledger-is
+      ∙ ap (λ rs. Option·map known (findRoute number rs)) (routes-are (holds-at .stored) (holds-at .routes-ok))
+      ∙ sym (find-map keyOf numberOf eqb ltb known (λ r. refl) number (holds-at .stored))
+      ∙ ap (λ m. findKept number (m .routes)) (sym (holds-at .model-is))
+      ∙ kept-route number l i
+
+  -- Judge answers over the filed lists.
+  judge-answer : (role neighbour : ℕ) (attribute : List ℕ)
+      → judgeAnswer (tables l i .register) role neighbour attribute ≡ judgedRoute (hopsAt l i) role neighbour attribute
+  unfolding judgeAnswer firstGiven
+  judge-answer role neighbour attribute =
+      rw (register-is, register-passes (holds-at .lists) (holds-at .lists-ok) [], records-are (holds-at .lists) (holds-at .lists-ok), hops-are)
+
+  -- So does a keeping that is answered.
+  keep-answer : (number role neighbour : ℕ) (attribute : List ℕ) (a : Answer)
+      → kept (keepStep (tables l i .register) (tables l i .ledger) number role neighbour attribute .answer) ≡ kept (Answered a)
+      → judgedRoute (hopsAt l i) role neighbour attribute ≡ Answered a
+  keep-answer number role neighbour attribute a e =
+      let step = keep-step (holds-at .lists) (holds-at .stored) (holds-at .lists-ok) (holds-at .routes-ok) number role neighbour attribute in
+      let f : keepStep (tables l i .register) (tables l i .ledger) number role neighbour attribute .answer ≡ Answered a = cc in
+      let o : Option Refusal = refusal (modelOf (holds-at .lists) (holds-at .stored)) (keep number role neighbour attribute) in
+      rw (← hops-are) (keep-answered o _ role neighbour attribute _ _ a (rw (register-is, ledger-is, step) at f))
+
+  -- A re-judging counts the routes that it changes.
+  rejudge-count : callAt l i ≡ rejudge
+      → said l i ≡ rejudged (Changed (countDiffering (routesOf (tables l i .ledger)) (routesOf (tables l (suc i) .ledger))))
+  unfolding tables
+  rejudge-count c = rw (c, holds-at .tables-are) (rejudge-counts (holds-at .lists) (holds-at .stored) (holds-at .lists-ok) (holds-at .routes-ok))
+
+-- What is stored under a number, with its verdict.
+stored-at : (l : List Call) (number i : ℕ) → findRoute number (routesOf (tables l i .ledger)) ≡ storedAt l i number
+unfolding storedAt tables after find
+stored-at l number zero = ap (findRoute number) (ap (λ t. routesOf (t .ledger)) blank-tables ∙ routes-are [] (nothing-ok .1))
+stored-at l number (suc i) =
+    history-stores l i number
+    ∙ ap (λ r. cond (accepted r) (storedBy (hopIn (tables l i .register)) number (callAt l i) (before i)) (before i)) (sym (history-replies l i))
+    ∙ (λ j. cond (accepted (shown (said l i))) (storedBy (hops j) number (callAt l i) (stored-at l number i j)) (stored-at l number i j))
+  where
+    before : ℕ → Option Route
+    before k = findRoute number (routesOf (tables l k .ledger))
+
+    hops : hopIn (tables l i .register) ≡ hopsAt l i
+    hops = ap hopIn (register-is l i) ∙ ap hopOf (records-are (holds-at l i .lists) (holds-at l i .lists-ok)) ∙ hops-are l i
+
+-- A record is its key and its list.
+record-found : (k : ℕ × ℕ) (rs : List Record)
+    → findRecord k rs ≡ Option·map (λ list. recordFor (k .1) (k .0) list) (providersOf (findRecord k rs))
+record-found k rs = go (findRecord k rs) refl
+  where
+    go : (o : Option Record) → findRecord k rs ≡ o → o ≡ Option·map (λ list. recordFor (k .1) (k .0) list) (providersOf o)
+    go none e = refl
+    go (some r) e =
+        let q : register.keyOf r ≡ k = find-key register.keyOf samePair beforePair ordered-pairs k rs r e in
+        λ i. some (record { customer = q i .0; source = q i .1; providers = r .providers })
+
+module _ (l m : List Call) (i j : ℕ) where
+  -- The same lists filed: the same register.
+  registers-alike : ((source customer : ℕ) → filedList l i source customer ≡ filedList m j source customer) → tables l i .register ≡ tables m j .register
+  registers-alike e = register-is l i ∙ ap register.wordsOf same ∙ sym (register-is m j)
+    where
+      there : (n : List Call) (x : ℕ) (k : ℕ × ℕ)
+          → findRecord k (holds-at n x .lists) ≡ Option·map (λ list. recordFor (k .1) (k .0) list) (filedList n x (k .1) (k .0))
+      there n x k =
+          record-found k (holds-at n x .lists)
+          ∙ ap (λ rs. Option·map (λ list. recordFor (k .1) (k .0) list) (providersOf (findRecord k rs))) (sym (ap (λ z. z .lists) (holds-at n x .model-is)))
+          ∙ ap (Option·map (λ list. recordFor (k .1) (k .0) list)) (filed-list (k .1) (k .0) n x)
+
+      same : holds-at l i .lists ≡ holds-at m j .lists
+      same =
+          same-finds register.keyOf samePair beforePair ordered-pairs (holds-at l i .lists) (holds-at m j .lists)
+          (holding.in-order (holds-at l i .lists) (holds-at l i .lists-ok)) (holding.in-order (holds-at m j .lists) (holds-at m j .lists-ok))
+          (λ k. there l i k ∙ ap (Option·map (λ list. recordFor (k .1) (k .0) list)) (e (k .1) (k .0)) ∙ sym (there m j k))
+
+  -- The same routes stored: the same ledger.
+  ledgers-alike : ((number : ℕ) → storedAt l i number ≡ storedAt m j number) → tables l i .ledger ≡ tables m j .ledger
+  ledgers-alike e = ledger-is l i ∙ ap routes.wordsOf same ∙ sym (ledger-is m j)
+    where
+      there : (n : List Call) (x number : ℕ) → findRoute number (holds-at n x .stored) ≡ storedAt n x number
+      there n x number =
+          ap (findRoute number) (sym (ap routesOf (ledger-is n x) ∙ routes-are (holds-at n x .stored) (holds-at n x .routes-ok))) ∙ stored-at n number x
+
+      same : holds-at l i .stored ≡ holds-at m j .stored
+      same =
+          same-finds keyOf eqb ltb ordered-ℕ (holds-at l i .stored) (holds-at m j .stored)
+          (in-order (holds-at l i .stored) (holds-at l i .routes-ok)) (in-order (holds-at m j .stored) (holds-at m j .routes-ok))
+          (λ k. there l i k ∙ e k ∙ sym (there m j k))
+
+-- Demand 2.
+pub demand2 : Demand2
+demand2 = record {
+  lists-held = λ l i source customer. ap (λ rs. providersOf (findRecord (customer, source) rs)) (lists-are l i) ∙ filed-list source customer l i;
+  routes-held = kept-are;
+  verdicts-held = λ l i number. stored-at l number i;
+  register-formed = formed-register;
+  ledger-formed = formed-ledger;
+  register-exact = registers-alike;
+  ledger-exact = ledgers-alike;
+  judge-answers = judge-answer;
+  keep-answers = λ l i number role neighbour attribute a c e. keep-answer l i number role neighbour attribute a (rw c at e);
+  draft-answers = λ l i role neighbour attribute a e. answered-word (hopsAt l i) role neighbour attribute a e;
+  rejudge-counts = rejudge-count;
+}
+
+-- ---- demand 3
+
+-- The answer of a register step, from what it shows.
+abbrev filedBack : ModelReply → Filed
+filedBack new = filing.New
+filedBack replaced = filing.Replaced
+filedBack done = filing.New
+filedBack (gone n) = filing.New
+filedBack (refused r) = filing.Refused r
+
+-- Nothing of the answer to a filing is lost in what it shows,
+filed-back : (x : Filed) → filedBack (shownFiled x) ≡ x
+filed-back filing.New = refl
+filed-back filing.Replaced = refl
+filed-back (filing.Refused r) = refl
+
+-- nor of that to a withdrawal,
+abbrev removalBack : ModelReply → Removal
+removalBack new = removal.Done
+removalBack replaced = removal.Done
+removalBack done = removal.Done
+removalBack (gone n) = removal.Done
+removalBack (refused r) = removal.Refused r
+
+removal-back : (x : Removal) → removalBack (shownRemoval x) ≡ x
+removal-back removal.Done = refl
+removal-back (removal.Refused r) = refl
+
+-- nor of that to a clearing.
+abbrev clearedBack : ModelReply → Cleared
+clearedBack new = clearing.Gone 0
+clearedBack replaced = clearing.Gone 0
+clearedBack done = clearing.Gone 0
+clearedBack (gone n) = clearing.Gone n
+clearedBack (refused r) = clearing.Refused r
+
+cleared-back : (x : Cleared) → clearedBack (shownCleared x) ≡ x
+cleared-back (clearing.Gone n) = refl
+cleared-back (clearing.Refused r) = refl
+
+-- Register steps that show the same answer the same.
+same-shown : (t u : Tables) (c : Call) → IsRegisterStep c → shown (says t c) ≡ shown (says u c) → says t c ≡ says u c
+same-shown t u (file s c list) g e = ap filed (sym (filed-back _) ∙ ap filedBack e ∙ filed-back _)
+same-shown t u (withdraw s c) g e = ap removed (sym (removal-back _) ∙ ap removalBack e ∙ removal-back _)
+same-shown t u (clear s) g e = ap cleared (sym (cleared-back _) ∙ ap clearedBack e ∙ cleared-back _)
+same-shown t u (keep n role neighbour attribute) g e = absurd g
+same-shown t u (drop n) g e = absurd g
+same-shown t u rejudge g e = absurd g
+
+-- A register step is a step.
+register-step : (c : Call) → IsRegisterStep c → IsStep c
+register-step (file s c list) g = tt
+register-step (withdraw s c) g = tt
+register-step (clear s) g = tt
+register-step (keep n role neighbour attribute) g = absurd g
+register-step (drop n) g = absurd g
+register-step rejudge g = absurd g
+
+-- Past the end of a list stand re-judgings, and these are not refused.
+roomy-model : (l : List Call) → Roomy l → RoomyModel l
+unfolding refusal firstGiven
+roomy-model l h i = go (decLt i (length l))
+  where
+    go : Dec (i < length l) → forRoom (replyAt l i) ≡ false
+    go (yes p) = ap forRoom (sym (history-replies l i)) ∙ h i p
+    go (no n) = let e : callAt l i ≡ rejudge = List·getD-eq-default l rejudge (omega arith) in rw e
+
+-- What all entries pass, the one found under a key passes.
+every-found : {E K : Type 0} (key : E → K) (same before : K → K → Bool) (p : E → Bool) (k : K) (es : List E) (e : E)
+    → every p es ≡ true → find key same before k es ≡ some e → p e ≡ true
+unfolding every find
+every-found key same before p k [] e a f = let z : _≡_ {A = ℕ} 0 1 = cc in absurd (omega arith)
+every-found key same before p k (x ∷ es) e a f = go (same k (key x)) f (every-found key same before p k es e (both-right (p x) _ a))
+  where
+    go : (b : Bool) → cond b (some x) (find key same before k es) ≡ some e → (find key same before k es ≡ some e → p e ≡ true) → p e ≡ true
+    go true f ih = let z : x ≡ e = cc in rw (← z) (both-left (p x) (every p es) a)
+    go false f ih = ih f
+
+-- A verdict's word is its outcome's.
+word-number : (v : Verdict) → verdictNumber v ≡ wordNumber (outcomeOf v)
+word-number Valid = refl
+word-number (Invalid c) = refl
+word-number (Unknown a b) = refl
+
+-- A route that is judged anew has the verdict and places of its path, and the draft's word.
+drafted : (hop : HopFunction) (r : Route) → routeOk r ≡ true → Drafted hop (rejudgedRoute hop r)
+drafted hop r ok = go (eqb (r .ground) 0) refl
+  where
+    v : Verdict
+    v = verdictOf (judged hop (r .path) (r .role))
+
+    go : (b : Bool) → eqb (r .ground) 0 ≡ b → Drafted hop (cond b (stamped v r) r)
+    go true e =
+        let g : r .ground ≡ 0 = eqb-true _ _ e in
+        let n = path-length (r .role) (r .neighbour) (r .path) (pathed r ok g .path) in
+        record {
+          verdict = λ z. refl;
+          a = λ z. refl;
+          b = λ z. refl;
+          word = λ z. word-number v ∙ ap wordNumber (sym (judged-word hop (r .path) (r .role) (n .0)));
+          ground = λ z. absurd (z g);
+        }
+    go false e =
+        record {
+          verdict = λ z. absurd (eqb-false _ _ e z);
+          a = λ z. absurd (eqb-false _ _ e z);
+          b = λ z. absurd (eqb-false _ _ e z);
+          word = λ z. absurd (eqb-false _ _ e z);
+          ground = λ z. on-a-ground r ok e;
+        }
+
+-- The verdicts after a last re-judging.
+last-verdicts : (l : List Call) (number : ℕ) (r : Route) → findRoute number (routesOf (last l .ledger)) ≡ some r → Drafted (hopsAt l (length l)) r
+last-verdicts l number r e = rw (← hops-are l (length l)) (go (findRoute number stored) refl (sym found ∙ e))
+  where
+    held : Holds (tables l (length l)) (after l (length l))
+    held = holds-at l (length l)
+
+    stored : List Route
+    stored = held .stored
+
+    hop : HopFunction
+    hop = hopOf (held .lists)
+
+    routes-left : routesOf (last l .ledger) ≡ map (rejudgedRoute hop) stored
+    routes-left =
+        ap (λ t. routesOf (rejudgeStep (t .register) (t .ledger) .words)) (held .tables-are)
+        ∙ ap (λ s. routesOf (s .words)) (rejudge-step (held .lists) stored (held .lists-ok) (held .routes-ok))
+        ∙ routes-are (map (rejudgedRoute hop) stored) (rejudged-all-ok hop stored (held .routes-ok))
+
+    found : findRoute number (routesOf (last l .ledger)) ≡ Option·map (rejudgedRoute hop) (findRoute number stored)
+    found =
+        ap (findRoute number) routes-left
+        ∙ find-map keyOf keyOf eqb ltb (rejudgedRoute hop) (λ k. ap (λ x. x .number) (rejudged-known hop k)) number stored
+
+    go : (o : Option Route) → findRoute number stored ≡ o → Option·map (rejudgedRoute hop) o ≡ some r → Drafted hop r
+    go none f q = let z : _≡_ {A = ℕ} 0 1 = cc in absurd (omega arith)
+    go (some x) f q =
+        let z : rejudgedRoute hop x ≡ r = cc in
+        rw (← z) (drafted hop x (every-found keyOf eqb ltb routeOk number stored x (each-ok stored (held .routes-ok)) f))
+
+module _ (l m : List Call) (r : Reordering l m) (f : Roomy l) (g : Roomy m) where
+  -- Each step is done in both lists or refused alike.
+  ends-alike : (i : ℕ) → IsStep (callAt l i) → shown (said l i) ≡ shown (said m (r .to i))
+  ends-alike i s =
+      history-replies l i ∙ same-replies l m r (roomy-model l f) (roomy-model m g) i s ∙ sym (history-replies m (r .to i))
+
+  -- Each register step gets the same answer.
+  answers-alike : (i : ℕ) → IsRegisterStep (callAt l i) → said l i ≡ said m (r .to i)
+  answers-alike i s =
+      let k : IsStep (callAt l i) = register-step (callAt l i) s in
+      let c : callAt m (r .to i) ≡ callAt l i = r .to-same i k in
+      rw c (same-shown (tables l i) (tables m (r .to i)) (callAt l i) s (rw c at (ends-alike i k)))
+
+  -- The tables are the same at the end.
+  tables-alike : last l ≡ last m
+  tables-alike =
+      history-written l ∙ ap written (same-final l m r (roomy-model l f) (roomy-model m g)) ∙ sym (history-written m)
+
+-- Demand 3.
+pub demand3 : Demand3
+demand3 = record {
+  as-model = history-replies;
+  lists-filed = λ l i source customer. filed-list source customer l i;
+  written-out = history-written;
+  verdicts = last-verdicts;
+  same-answers = answers-alike;
+  same-ends = ends-alike;
+  same-tables = tables-alike;
+}

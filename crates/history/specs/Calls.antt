@@ -1,0 +1,105 @@
+-- Lists of calls from empty tables on, each call being lent the tables as the last one left them ("The desk's calls"; demands 2 and 3).
+use Prim.Native.Nat.{ℕ, zero, suc}
+use mathlib.Core.List.{List}
+use lib.ListN.{length, getD, replicate}
+use Rattle.types.specs.declared.Filed.{Filed}
+use Rattle.types.specs.declared.Removal.{Removal}
+use Rattle.types.specs.declared.Cleared.{Cleared}
+use Rattle.types.specs.declared.Judged.{Judged}
+use Rattle.types.specs.declared.Rejudged.{Rejudged}
+use Rattle.types.specs.Numbers.{groundNumber}
+use Rattle.as_path.specs.Reading.{Content, faulty, grounded, merged, contentOf}
+use Rattle.register.specs.Register.{registerWords}
+use Rattle.register.specs.Calls.{fileStep, withdrawStep, clearStep}
+use Rattle.routes.specs.Routes.{ledgerWords}
+use Rattle.routes.specs.Calls.{dropStep}
+use Rattle.filter.specs.Calls.{pathIn, keepStep, rejudgeStep}
+
+-- The calls that can change a table, with their arguments: any numbers and any bytes.
+pub data Call : Type 0 where
+  file : (source customer : ℕ) → (list : List ℕ) → Call
+  withdraw : (source customer : ℕ) → Call
+  clear : (source : ℕ) → Call
+  keep : (number role neighbour : ℕ) → (attribute : List ℕ) → Call
+  drop : (number : ℕ) → Call
+  rejudge : Call
+
+-- What the calls answer: Withdraw and Drop a removal.
+pub data Reply : Type 0 where
+  filed : Filed → Reply
+  removed : Removal → Reply
+  cleared : Cleared → Reply
+  kept : Judged → Reply
+  rejudged : Rejudged → Reply
+
+-- The two lent tables.
+pub record Tables : Type 0 where
+  pub register : List ℕ
+  pub ledger : List ℕ
+
+-- The answer to a call that is lent the tables.
+abbrev pub says : Tables → Call → Reply
+says t (file source customer list) = filed (fileStep (t .register) source customer list .answer)
+says t (withdraw source customer) = removed (withdrawStep (t .register) source customer .answer)
+says t (clear source) = cleared (clearStep (t .register) source .answer)
+says t (keep number role neighbour attribute) = kept (keepStep (t .register) (t .ledger) number role neighbour attribute .answer)
+says t (drop number) = removed (dropStep (t .ledger) number .answer)
+says t rejudge = rejudged (rejudgeStep (t .register) (t .ledger) .answer)
+
+-- The tables as it leaves them. A table that it is not lent, or is lent only to be read, stays.
+abbrev pub leaves : Tables → Call → Tables
+leaves t (file source customer list) = record { register = fileStep (t .register) source customer list .words; ledger = t .ledger }
+leaves t (withdraw source customer) = record { register = withdrawStep (t .register) source customer .words; ledger = t .ledger }
+leaves t (clear source) = record { register = clearStep (t .register) source .words; ledger = t .ledger }
+leaves t (keep number role neighbour attribute) =
+    record { register = t .register; ledger = keepStep (t .register) (t .ledger) number role neighbour attribute .words }
+leaves t (drop number) = record { register = t .register; ledger = dropStep (t .ledger) number .words }
+leaves t rejudge = record { register = t .register; ledger = rejudgeStep (t .register) (t .ledger) .words }
+
+-- Register and ledger empty: zeros, of the right lengths.
+unfoldable pub blank : Tables
+blank = record { register = replicate registerWords 0; ledger = replicate ledgerWords 0 }
+
+-- The call at place i of a list; past its end a re-judging.
+abbrev pub callAt : List Call → ℕ → Call
+callAt l i = getD l i rejudge
+
+-- The tables after the first i calls.
+unfoldable pub tables : List Call → ℕ → Tables
+tables l zero = blank
+tables l (suc i) = leaves (tables l i) (callAt l i)
+
+-- The answer to the call at place i.
+abbrev pub said : List Call → ℕ → Reply
+said l i = says (tables l i) (callAt l i)
+
+-- The tables after the whole list and one last re-judging.
+abbrev pub last : List Call → Tables
+last l = leaves (tables l (length l)) rejudge
+
+-- ---- the route that a keeping's arguments are read as
+
+-- A kept route: no verdict, and no path under a ground.
+pub record KeptRoute : Type 0 where
+  pub number : ℕ
+  pub role : ℕ
+  pub neighbour : ℕ
+  pub ground : ℕ
+  pub path : List ℕ
+
+-- The ground of an attribute, and 0 if it has none.
+abbrev pub groundIn : Content → ℕ
+groundIn (faulty f p) = 0
+groundIn (grounded g) = groundNumber g
+groundIn (merged path) = 0
+
+-- The route that a keeping's arguments are read as.
+abbrev pub routeRead : ℕ → ℕ → ℕ → List ℕ → KeptRoute
+routeRead number role neighbour attribute =
+    record {
+      number = number;
+      role = role;
+      neighbour = neighbour;
+      ground = groundIn (contentOf role neighbour attribute);
+      path = pathIn (contentOf role neighbour attribute);
+    }

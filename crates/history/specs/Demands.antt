@@ -1,0 +1,130 @@
+-- Demands 2 and 3 of the request, clause by clause.
+use Prim.Native.Nat.{ℕ, suc, _<_}
+use mathlib.Core.Path.{_≡_}
+use mathlib.Core.Bool.{true, false, cond}
+use mathlib.Core.List.{List}
+use mathlib.Core.Option.{Option, none, some, Option·map}
+use lib.Dec.{eqb, ltb}
+use lib.ListN.{length}
+use Rattle.types.specs.declared.Answer.{Answer}
+use Rattle.types.specs.declared.Judged.the-variants.{Answered}
+use Rattle.types.specs.declared.Rejudged.the-variants.{Changed}
+use Rattle.types.specs.Numbers.{verdictNumber, placeA, placeB}
+use Rattle.types.specs.Roles.{isUpstream}
+use Rattle.as_path.specs.Reading.{Content, faulty, grounded, merged, contentOf}
+use Rattle.keyed.specs.Keyed.{samePair, beforePair, find}
+use Rattle.verdict.specs.Hops.{HopFunction}
+use Rattle.verdict.specs.Records.{Record}
+use Rattle.verdict.specs.Verdicts.{judged}
+use Rattle.verdict.specs.Judging.{judgedRoute}
+use Rattle.verdict.specs.Draft.{Outcome, outcomeOf, draftUpstream, draftDownstream}
+use Rattle.verdict.specs.Draft as draft
+use Rattle.register.specs.Register.{registerWords, recordsOf, registerOk}
+use Rattle.register.specs.Register as register
+use Rattle.routes.specs.Routes.{ledgerWords, Route, routesOf, ledgerOk}
+use Rattle.routes.specs.Routes as routes
+use Rattle.routes.specs.Calls.{countDiffering}
+use Rattle.rejudge.specs.Rejudging.{verdictOf}
+use Rattle.filter.specs.Calls.{judgeAnswer}
+use Rattle.history.specs.Calls.{Call, keep, rejudge, kept, rejudged, KeptRoute, tables, callAt, said, last}
+use Rattle.history.specs.Replies.{shown, forRoom}
+use Rattle.history.specs.Model.{after, replyAt, final, written}
+use Rattle.history.specs.Filings.{filedList, keptRouteAt, hopsAt, storedAt}
+use Rattle.history.specs.Reorderings.{IsRegisterStep, Step, Reordering}
+
+-- ---- what the tables hold
+
+-- The record of a customer and a source, the route under a number.
+abbrev pub findRecord : ℕ × ℕ → List Record → Option Record
+findRecord k rs = find register.keyOf samePair beforePair k rs
+
+abbrev pub findRoute : ℕ → List Route → Option Route
+findRoute number rs = find routes.keyOf eqb ltb number rs
+
+-- Its list.
+abbrev pub providersOf : Option Record → Option (List ℕ)
+providersOf found = Option·map (λ r. r .providers) found
+
+-- A stored route without its verdict and places.
+abbrev pub known : Route → KeptRoute
+known r = record { number = r .number; role = r .role; neighbour = r .neighbour; ground = r .ground; path = r .path }
+
+-- ---- the draft's word
+
+-- Roles 3 and 6 go by section 6.2, the others by 6.1.
+abbrev pub draftPath : HopFunction → ℕ → List ℕ → Outcome
+draftPath hop role path = cond (isUpstream role) (draftUpstream hop path) (draftDownstream hop path)
+
+-- A ground makes the route Invalid. An attribute with a fault has no word.
+abbrev pub draftWord : HopFunction → ℕ → Content → Option Outcome
+draftWord hop role (faulty f p) = none
+draftWord hop role (grounded g) = some draft.Invalid
+draftWord hop role (merged path) = some (draftPath hop role path)
+
+-- The number of the draft's word.
+abbrev pub wordNumber : Outcome → ℕ
+wordNumber draft.Valid = 0
+wordNumber draft.Invalid = 1
+wordNumber draft.Unknown = 2
+
+-- ---- demand 2
+
+pub record Demand2 : Type 0 where
+  -- "the register holds exactly each source's last accepted list for each customer, unless since withdrawn or cleared"
+  pub lists-held : (l : List Call) (i source customer : ℕ)
+      → providersOf (findRecord (customer, source) (recordsOf (tables l i .register))) ≡ filedList l i source customer
+  -- "the ledger, exactly the routes kept and not since dropped"
+  pub routes-held : (l : List Call) (i number : ℕ) → Option·map known (findRoute number (routesOf (tables l i .ledger))) ≡ keptRouteAt l i number
+  -- Each with the verdict and places that it was last judged by.
+  pub verdicts-held : (l : List Call) (i number : ℕ) → findRoute number (routesOf (tables l i .ledger)) ≡ storedAt l i number
+  -- Both tables keep the word rules: rows 1 to 3 are never given.
+  pub register-formed : (l : List Call) (i : ℕ) → (length (tables l i .register) ≡ registerWords) × (registerOk (tables l i .register) ≡ true)
+  pub ledger-formed : (l : List Call) (i : ℕ) → (length (tables l i .ledger) ≡ ledgerWords) × (ledgerOk (tables l i .ledger) ≡ true)
+  -- "exactly": they hold nothing else. What is filed makes up the register's words, and what is stored the ledger's, whatever the calls were.
+  pub register-exact : (l m : List Call) (i j : ℕ) → ((source customer : ℕ) → filedList l i source customer ≡ filedList m j source customer)
+      → tables l i .register ≡ tables m j .register
+  pub ledger-exact : (l m : List Call) (i j : ℕ) → ((number : ℕ) → storedAt l i number ≡ storedAt m j number) → tables l i .ledger ≡ tables m j .ledger
+  -- "A verdict, when it is given, with its ground or hops, is the one .. for the union of those lists": Judge at any time, and a keeping.
+  pub judge-answers : (l : List Call) (i role neighbour : ℕ) (attribute : List ℕ)
+      → judgeAnswer (tables l i .register) role neighbour attribute ≡ judgedRoute (hopsAt l i) role neighbour attribute
+  pub keep-answers : (l : List Call) (i number role neighbour : ℕ) (attribute : List ℕ) (a : Answer)
+      → callAt l i ≡ keep number role neighbour attribute → said l i ≡ kept (Answered a)
+      → judgedRoute (hopsAt l i) role neighbour attribute ≡ Answered a
+  -- ".. that the ASPA draft's steps give": the draft's Valid is answered Valid and nothing else is, and so for the other two.
+  pub draft-answers : (l : List Call) (i role neighbour : ℕ) (attribute : List ℕ) (a : Answer)
+      → judgedRoute (hopsAt l i) role neighbour attribute ≡ Answered a
+      → draftWord (hopsAt l i) role (contentOf role neighbour attribute) ≡ some (outcomeOf (verdictOf a))
+  -- A re-judging is never refused, and answers how many routes differ between the ledger before and after it.
+  pub rejudge-counts : (l : List Call) (i : ℕ) → callAt l i ≡ rejudge
+      → said l i ≡ rejudged (Changed (countDiffering (routesOf (tables l i .ledger)) (routesOf (tables l (suc i) .ledger))))
+
+-- ---- demand 3
+
+-- No call of the list is refused for room.
+abbrev pub Roomy : List Call → Type 0
+Roomy l = (i : ℕ) → i < length l → forRoom (shown (said l i)) ≡ false
+
+-- The verdict and places of a stored route: the rules' for its role and path over these hops, and the draft's word; under a ground Invalid, 0, 0.
+pub record Drafted (hop : HopFunction) (r : Route) : Type 0 where
+  pub verdict : r .ground ≡ 0 → r .verdict ≡ verdictNumber (verdictOf (judged hop (r .path) (r .role)))
+  pub a : r .ground ≡ 0 → r .a ≡ placeA (verdictOf (judged hop (r .path) (r .role)))
+  pub b : r .ground ≡ 0 → r .b ≡ placeB (verdictOf (judged hop (r .path) (r .role)))
+  pub word : r .ground ≡ 0 → r .verdict ≡ wordNumber (draftPath hop (r .role) (r .path))
+  pub ground : (r .ground ≡ 0 → ⊥) → (r .verdict ≡ 1) × (r .a ≡ 0) × (r .b ≡ 0)
+
+pub record Demand3 : Type 0 where
+  -- "Refused for room or not, each step is refused exactly when the rules' plain book refuses it, and alike, and each register step answers as there."
+  pub as-model : (l : List Call) (i : ℕ) → shown (said l i) ≡ replyAt l i
+  -- "The book's lists are the ones that demand 2 calls filed."
+  pub lists-filed : (l : List Call) (i source customer : ℕ)
+      → providersOf (findRecord (customer, source) (after l i .lists)) ≡ filedList l i source customer
+  -- "After every list and one last re-judging both tables are that book written out"
+  pub written-out : (l : List Call) → last l ≡ written (final l)
+  -- "and every verdict, with its places, is the draft's over the lists that demand 2 says are filed."
+  pub verdicts : (l : List Call) (number : ℕ) (r : Route) → findRoute number (routesOf (last l .ledger)) ≡ some r → Drafted (hopsAt l (length l)) r
+  -- "If neither list is refused for room, each register step gets the same answer in both"
+  pub same-answers : (l m : List Call) (r : Reordering l m) → Roomy l → Roomy m → (i : ℕ) → IsRegisterStep (callAt l i) → said l i ≡ said m (r .to i)
+  -- "each keeping and dropping is done in both or refused alike"
+  pub same-ends : (l m : List Call) (r : Reordering l m) → Roomy l → Roomy m → (i : ℕ) → Step l i → shown (said l i) ≡ shown (said m (r .to i))
+  -- "and after one last re-judging in each the two registers are equal word for word, and so are the two ledgers."
+  pub same-tables : (l m : List Call) → Reordering l m → Roomy l → Roomy m → last l ≡ last m

@@ -1,0 +1,169 @@
+-- The reference model (the rules' plain book): lists and routes, fed only the arguments of each call.
+use Prim.Native.Nat.{ℕ, zero, suc, _+_}
+use mathlib.Core.Bool.{Bool, not, cond, _&&_}
+use mathlib.Core.List.{List, [], _∷_, _++_, map}
+use mathlib.Core.Option.{Option, none, some}
+use lib.Dec.{eqb, leb, ltb}
+use lib.ListN.{length}
+use Rattle.types.specs.declared.Verdict.{Verdict}
+use Rattle.types.specs.declared.Refusal.{Refusal}
+use Rattle.types.specs.declared.Refusal.the-variants.{ProviderList, NoRecord, RegisterFull, RouteTaken, NoRoute, RoutesFull}
+use Rattle.types.specs.Numbers.{verdictNumber, placeA, placeB}
+use Rattle.types.specs.Rows.{rowIf, firstGiven}
+use Rattle.keyed.specs.Keyed.{holds, put, without}
+use Rattle.verdict.specs.Hops.{HopFunction}
+use Rattle.verdict.specs.Records.{Record, hopOf}
+use Rattle.verdict.specs.Verdicts.{judged}
+use Rattle.verdict.specs.Judging.{judgeRows}
+use Rattle.register.specs.Register as register
+use Rattle.register.specs.Calls.{sourceRow, customerRow, recordFor, holdsRecord, putRecord, eraseRecord, clearRecords, countRecords}
+use Rattle.routes.specs.Routes.{Route, mostRoutes, mostPathWords}
+use Rattle.routes.specs.Routes as routes
+use Rattle.rejudge.specs.Rejudging.{verdictOf}
+use Rattle.history.specs.Calls.{Call, file, withdraw, clear, keep, drop, rejudge, Tables, callAt, KeptRoute, routeRead}
+use Rattle.history.specs.Replies.{ModelReply, new, replaced, done, gone, refused}
+
+-- ---- what the model holds
+
+-- At most one list for each customer and source, by these; at most one route for each route number, by that.
+pub record Model : Type 0 where
+  pub lists : List Record
+  pub routes : List KeptRoute
+
+-- It begins empty.
+abbrev pub empty : Model
+empty = record { lists = []; routes = [] }
+
+-- Routes looked for, put in, taken out.
+abbrev pub numberOf : KeptRoute → ℕ
+numberOf r = r .number
+
+abbrev pub holdsKept : ℕ → List KeptRoute → Bool
+holdsKept number rs = holds numberOf eqb ltb number rs
+
+abbrev pub putKept : KeptRoute → List KeptRoute → List KeptRoute
+putKept r rs = put numberOf eqb ltb r rs
+
+abbrev pub eraseKept : ℕ → List KeptRoute → List KeptRoute
+eraseKept number rs = without numberOf eqb ltb (eqb number) rs
+
+-- ---- refusals
+
+-- By the arguments alone: rows 4, 5, 6 and 9 to 17.
+abbrev pub argumentRows : Call → List (Option Refusal)
+argumentRows (file source customer list) = sourceRow source ∷ customerRow customer ∷ rowIf (not (register.listOk list)) ProviderList ∷ []
+argumentRows (withdraw source customer) = sourceRow source ∷ customerRow customer ∷ []
+argumentRows (clear source) = sourceRow source ∷ []
+argumentRows (keep number role neighbour attribute) = judgeRows role neighbour attribute
+argumentRows (drop number) = []
+argumentRows rejudge = []
+
+-- By what is held: 7, no such list; 18, route number taken; 19, no such route.
+abbrev pub heldRows : Model → Call → List (Option Refusal)
+heldRows m (file source customer list) = []
+heldRows m (withdraw source customer) = rowIf (not (holdsRecord customer source (m .lists))) NoRecord ∷ []
+heldRows m (clear source) = []
+heldRows m (keep number role neighbour attribute) = rowIf (holdsKept number (m .routes)) RouteTaken ∷ []
+heldRows m (drop number) = rowIf (not (holdsKept number (m .routes))) NoRoute ∷ []
+heldRows m rejudge = []
+
+-- How many numbers the paths hold together.
+unfoldable pub pathNumbers : List KeptRoute → ℕ
+pathNumbers [] = 0
+pathNumbers (r ∷ rs) = length (r .path) + pathNumbers rs
+
+-- Routes within both limits of row 20. (Those of row 8 are the register's `roomFor`.)
+unfoldable pub roomForRoutes : List KeptRoute → Bool
+roomForRoutes rs = leb (length rs) mostRoutes && leb (pathNumbers rs) mostPathWords
+
+-- For room: 8, lists or numbers in them; 20, routes or numbers in their paths.
+abbrev pub roomRows : Model → Call → List (Option Refusal)
+roomRows m (file source customer list) = rowIf (not (register.roomFor (putRecord (recordFor source customer list) (m .lists)))) RegisterFull ∷ []
+roomRows m (withdraw source customer) = []
+roomRows m (clear source) = []
+roomRows m (keep number role neighbour attribute) =
+    rowIf (not (roomForRoutes (putKept (routeRead number role neighbour attribute) (m .routes)))) RoutesFull ∷ []
+roomRows m (drop number) = []
+roomRows m rejudge = []
+
+-- The first row that is given, in this order.
+unfoldable pub refusal : Model → Call → Option Refusal
+refusal m c = firstGiven (argumentRows c ++ (heldRows m c ++ roomRows m c))
+
+-- ---- replies and changes
+
+-- The reply to a call that is not refused, and the model after it.
+abbrev pub answer : Model → Call → ModelReply
+answer m (file source customer list) = cond (holdsRecord customer source (m .lists)) replaced new
+answer m (withdraw source customer) = done
+answer m (clear source) = gone (countRecords source (m .lists))
+answer m (keep number role neighbour attribute) = done
+answer m (drop number) = done
+answer m rejudge = done
+
+abbrev pub change : Model → Call → Model
+change m (file source customer list) = record { lists = putRecord (recordFor source customer list) (m .lists); routes = m .routes }
+change m (withdraw source customer) = record { lists = eraseRecord customer source (m .lists); routes = m .routes }
+change m (clear source) = record { lists = clearRecords source (m .lists); routes = m .routes }
+change m (keep number role neighbour attribute) =
+    record { lists = m .lists; routes = putKept (routeRead number role neighbour attribute) (m .routes) }
+change m (drop number) = record { lists = m .lists; routes = eraseKept number (m .routes) }
+change m rejudge = m
+
+-- A refused call is answered so, and leaves the model alone.
+abbrev pub replyUnless : Option Refusal → ModelReply → ModelReply
+replyUnless (some r) reply = refused r
+replyUnless none reply = reply
+
+abbrev pub changeUnless : Option Refusal → Model → Model → Model
+changeUnless (some r) before after = before
+changeUnless none before after = after
+
+-- The model's reply to a call, and the model after it.
+abbrev pub replyTo : Model → Call → ModelReply
+replyTo m c = replyUnless (refusal m c) (answer m c)
+
+abbrev pub next : Model → Call → Model
+next m c = changeUnless (refusal m c) m (change m c)
+
+-- The model after the first i calls, its reply to the call at place i, and the model after the whole list.
+unfoldable pub after : List Call → ℕ → Model
+after l zero = empty
+after l (suc i) = next (after l i) (callAt l i)
+
+abbrev pub replyAt : List Call → ℕ → ModelReply
+replyAt l i = replyTo (after l i) (callAt l i)
+
+abbrev pub final : List Call → Model
+final l = after l (length l)
+
+-- ---- the model written out
+
+-- A route with a verdict word and two places.
+abbrev pub withVerdict : KeptRoute → ℕ → ℕ → ℕ → Route
+withVerdict r verdict a b =
+    record {
+      number = r .number;
+      role = r .role;
+      neighbour = r .neighbour;
+      ground = r .ground;
+      verdict = verdict;
+      a = a;
+      b = b;
+      path = r .path;
+    }
+
+abbrev pub withWords : KeptRoute → Verdict → Route
+withWords r v = withVerdict r (verdictNumber v) (placeA v) (placeB v)
+
+-- As "Roles and hops" judge its role and path over these hops; under grounds 1 to 3 they are 1, 0, 0.
+abbrev pub judgedKept : HopFunction → KeptRoute → Route
+judgedKept hop r = cond (eqb (r .ground) 0) (withWords r (verdictOf (judged hop (r .path) (r .role)))) (withVerdict r 1 0 0)
+
+-- The words of the lists, and of the routes as judged over the lists, united for each customer.
+unfoldable pub written : Model → Tables
+written m =
+    record {
+      register = register.wordsOf (m .lists);
+      ledger = routes.wordsOf (map (judgedKept (hopOf (m .lists))) (m .routes));
+    }
