@@ -1,4 +1,4 @@
--- Lists of calls from empty tables on, each call being lent the tables as the last one left them ("The desk's calls"; demands 2 and 3).
+-- Lists of calls from empty tables on, each call being lent the tables as the last one left them ("The calls"; demands 2 and 3).
 use Prim.Native.Nat.{ℕ, zero, suc}
 use mathlib.Core.List.{List}
 use lib.ListN.{length, getD, replicate}

@@ -1,4 +1,4 @@
--- Demands 2 and 3 of the request, clause by clause.
+-- Demands 2 and 3, clause by clause (docs/PROOFS.md has the demands).
 use Prim.Native.Nat.{ℕ, suc, _<_}
 use mathlib.Core.Path.{_≡_}
 use mathlib.Core.Bool.{true, false, cond}
@@ -70,27 +70,27 @@ wordNumber draft.Unknown = 2
 -- ---- demand 2
 
 pub record Demand2 : Type 0 where
-  -- "the register holds exactly each source's last accepted list for each customer, unless since withdrawn or cleared"
+  -- The register has, for each source and customer, the last list that was accepted and neither withdrawn nor cleared since.
   pub lists-held : (l : List Call) (i source customer : ℕ)
       → providersOf (findRecord (customer, source) (recordsOf (tables l i .register))) ≡ filedList l i source customer
-  -- "the ledger, exactly the routes kept and not since dropped"
+  -- The ledger has the routes that were kept and not dropped since.
   pub routes-held : (l : List Call) (i number : ℕ) → Option·map known (findRoute number (routesOf (tables l i .ledger))) ≡ keptRouteAt l i number
   -- Each with the verdict and places that it was last judged by.
   pub verdicts-held : (l : List Call) (i number : ℕ) → findRoute number (routesOf (tables l i .ledger)) ≡ storedAt l i number
   -- Both tables keep the word rules: rows 1 to 3 are never given.
   pub register-formed : (l : List Call) (i : ℕ) → (length (tables l i .register) ≡ registerWords) × (registerOk (tables l i .register) ≡ true)
   pub ledger-formed : (l : List Call) (i : ℕ) → (length (tables l i .ledger) ≡ ledgerWords) × (ledgerOk (tables l i .ledger) ≡ true)
-  -- "exactly": they hold nothing else. What is filed makes up the register's words, and what is stored the ledger's, whatever the calls were.
+  -- They hold nothing else: what is filed makes up the register's words, and what is stored the ledger's, whatever the calls were.
   pub register-exact : (l m : List Call) (i j : ℕ) → ((source customer : ℕ) → filedList l i source customer ≡ filedList m j source customer)
       → tables l i .register ≡ tables m j .register
   pub ledger-exact : (l m : List Call) (i j : ℕ) → ((number : ℕ) → storedAt l i number ≡ storedAt m j number) → tables l i .ledger ≡ tables m j .ledger
-  -- "A verdict, when it is given, with its ground or hops, is the one .. for the union of those lists": Judge at any time, and a keeping.
+  -- Every verdict that is given, by Judge at any time or by a keeping, with its ground or places, is the rules' for the union of those lists.
   pub judge-answers : (l : List Call) (i role neighbour : ℕ) (attribute : List ℕ)
       → judgeAnswer (tables l i .register) role neighbour attribute ≡ judgedRoute (hopsAt l i) role neighbour attribute
   pub keep-answers : (l : List Call) (i number role neighbour : ℕ) (attribute : List ℕ) (a : Answer)
       → callAt l i ≡ keep number role neighbour attribute → said l i ≡ kept (Answered a)
       → judgedRoute (hopsAt l i) role neighbour attribute ≡ Answered a
-  -- ".. that the ASPA draft's steps give": the draft's Valid is answered Valid and nothing else is, and so for the other two.
+  -- Its word is the draft's: Valid exactly where the draft says Valid, and so for Invalid and Unknown.
   pub draft-answers : (l : List Call) (i role neighbour : ℕ) (attribute : List ℕ) (a : Answer)
       → judgedRoute (hopsAt l i) role neighbour attribute ≡ Answered a
       → draftWord (hopsAt l i) role (contentOf role neighbour attribute) ≡ some (outcomeOf (verdictOf a))
@@ -113,18 +113,18 @@ pub record Drafted (hop : HopFunction) (r : Route) : Type 0 where
   pub ground : (r .ground ≡ 0 → ⊥) → (r .verdict ≡ 1) × (r .a ≡ 0) × (r .b ≡ 0)
 
 pub record Demand3 : Type 0 where
-  -- "Refused for room or not, each step is refused exactly when the rules' plain book refuses it, and alike, and each register step answers as there."
+  -- With room or without: every call is refused exactly when the model refuses it, by the same row and place, and register calls answer as it does.
   pub as-model : (l : List Call) (i : ℕ) → shown (said l i) ≡ replyAt l i
-  -- "The book's lists are the ones that demand 2 calls filed."
+  -- The model's lists are those that demand 2 speaks of.
   pub lists-filed : (l : List Call) (i source customer : ℕ)
       → providersOf (findRecord (customer, source) (after l i .lists)) ≡ filedList l i source customer
-  -- "After every list and one last re-judging both tables are that book written out"
+  -- After every list and one last re-judging both tables are the model written out.
   pub written-out : (l : List Call) → last l ≡ written (final l)
-  -- "and every verdict, with its places, is the draft's over the lists that demand 2 says are filed."
+  -- Every verdict in them, with its places, is the draft's over the lists that demand 2 speaks of.
   pub verdicts : (l : List Call) (number : ℕ) (r : Route) → findRoute number (routesOf (last l .ledger)) ≡ some r → Drafted (hopsAt l (length l)) r
-  -- "If neither list is refused for room, each register step gets the same answer in both"
+  -- Two lists, one a reordering of the other, neither refused for room: each register call gets the same answer in both;
   pub same-answers : (l m : List Call) (r : Reordering l m) → Roomy l → Roomy m → (i : ℕ) → IsRegisterStep (callAt l i) → said l i ≡ said m (r .to i)
-  -- "each keeping and dropping is done in both or refused alike"
+  -- each keeping and dropping is done in both, or refused in both by the same row and place;
   pub same-ends : (l m : List Call) (r : Reordering l m) → Roomy l → Roomy m → (i : ℕ) → Step l i → shown (said l i) ≡ shown (said m (r .to i))
-  -- "and after one last re-judging in each the two registers are equal word for word, and so are the two ledgers."
+  -- and after one last re-judging in each, both tables are equal word for word.
   pub same-tables : (l m : List Call) → Reordering l m → Roomy l → Roomy m → last l ≡ last m

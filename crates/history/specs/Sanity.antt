@@ -64,7 +64,7 @@ abbrev pub room-missing : List Call
 room-missing = filings 32 ++ (file 0 33 (7 ∷ []) ∷ withdraw 0 1 ∷ [])
 
 pub record Sanity : Type 0 where
-  -- "the last accepted list": the scan finds exactly the last one.
+  -- The scan finds exactly the last accepted list.
   pub filed-is-last : (l : List Call) (i source customer : ℕ) (list : List ℕ)
       → (filedList l i source customer ≡ some list) ↔ LastFiled l i source customer list
   pub kept-is-last : (l : List Call) (i number : ℕ) (r : KeptRoute) → (keptRouteAt l i number ≡ some r) ↔ LastKept l i number r
@@ -80,13 +80,13 @@ pub record Sanity : Type 0 where
       → Reordering (file source customer list ∷ clear source ∷ []) (clear source ∷ file source customer list ∷ []) → ⊥
   pub dropping-stays : (number role neighbour : ℕ) (attribute : List ℕ)
       → Reordering (keep number role neighbour attribute ∷ drop number ∷ []) (drop number ∷ keep number role neighbour attribute ∷ []) → ⊥
-  -- "Two registries may file for one customer number. Neither may rub out the other."
+  -- Two sources file for one customer, and both lists are there, in either order.
   pub both-there : (filedList two-first 2 2 65010 ≡ some (65001 ∷ 65002 ∷ [])) × (filedList two-first 2 0 65010 ≡ some (65003 ∷ []))
   pub both-there-too : (filedList one-first 2 2 65010 ≡ some (65001 ∷ 65002 ∷ [])) × (filedList one-first 2 0 65010 ≡ some (65003 ∷ []))
   pub either-order : Reordering two-first one-first
   pub same-either-way : last two-first ≡ last one-first
   pub whole-register : last two-first .register ≡ (2 ∷ 3 ∷ 65010 ∷ 0 ∷ 0 ∷ 1 ∷ 65010 ∷ 2 ∷ 1 ∷ 2 ∷ 65003 ∷ 65001 ∷ 65002 ∷ []) ++ replicate 12277 0
-  -- "If neither list is refused for room" is needed: of two lists, one a reordering of the other, one is, and the registers differ.
+  -- Why room is a premise: of two lists, one a reordering of the other, one is refused for room, and the registers differ.
   pub room-reordered : Reordering room-made room-missing
   pub room-is-made : Roomy room-made
   pub room-is-missing : shown (said room-missing 32) ≡ refused RegisterFull
