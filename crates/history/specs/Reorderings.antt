@@ -40,7 +40,7 @@ OnRoute number (keep n role neighbour attribute) = n ≡ number
 OnRoute number (drop n) = n ≡ number
 OnRoute number rejudge = ⊥
 
--- Two steps that "stay in order": on the same source and customer; a clearing and a step of its source; on the same route number.
+-- Two steps whose order a reordering keeps: on the same source and customer; a clearing and a step of its source; on the same route number.
 pub data Tied (a b : Call) : Type 0 where
   same-pair : (source customer : ℕ) → OnPair source customer a → OnPair source customer b → Tied a b
   clear-first : (source : ℕ) → Clears source a → OfSource source b → Tied a b
@@ -69,7 +69,7 @@ IsRegisterStep rejudge = ⊥
 abbrev pub Step : List Call → ℕ → Type 0
 Step l i = IsStep (callAt l i)
 
--- "But for re-judgings, the two lists hold the same calls, matched one to one": the step at place i of l is the one at place `to i` of m, and back by
+-- But for re-judgings both lists have the same calls, matched one to one: the step at place i of l is the one at place `to i` of m, and back by
 -- `from`. Steps that are tied stand in the same order in both. Re-judgings may stand anywhere, any number of them.
 pub record Reordering (l m : List Call) : Type 0 where
   pub to : ℕ → ℕ
