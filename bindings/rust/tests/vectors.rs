@@ -1,0 +1,316 @@
+//! The worked vectors A to O, the limits, and the calls on whole tables.
+use aspa_filter::{
+    Answer, AsNumber, Cause, Filed, Ground, Ledger, Refusal, Register, Role, RouteNumber, Verdict,
+    LEDGER_WORDS, REGISTER_WORDS,
+};
+
+fn numbers(list: &[u32]) -> Vec<AsNumber> {
+    list.iter().copied().map(AsNumber).collect()
+}
+
+/// Register D.
+fn register_d() -> Register {
+    let mut register = Register::new();
+    for (customer, list) in [
+        (10, &[20, 30][..]),
+        (20, &[40]),
+        (40, &[0]),
+        (50, &[40]),
+        (70, &[80]),
+        (80, &[70]),
+    ] {
+        assert_eq!(
+            register.file(0, AsNumber(customer), &numbers(list)),
+            Ok(Filed::New)
+        );
+    }
+    register
+}
+
+/// One sequence, left end first.
+fn sequence(path: &[u32]) -> Vec<u8> {
+    let mut bytes = vec![2, path.len() as u8];
+    for x in path {
+        bytes.extend(x.to_be_bytes());
+    }
+    bytes
+}
+
+fn judge(register: &Register, role: u32, path: &[u32]) -> Result<Answer, Refusal> {
+    judge_from(register, role, path[0], path)
+}
+
+fn judge_from(
+    register: &Register,
+    role: u32,
+    neighbour: u32,
+    path: &[u32],
+) -> Result<Answer, Refusal> {
+    register.judge(
+        Role::from_number(role).unwrap(),
+        AsNumber(neighbour),
+        &sequence(path),
+    )
+}
+
+fn valid(gap: Option<i32>) -> Result<Answer, Refusal> {
+    Ok(Answer {
+        verdict: Verdict::Valid,
+        gap,
+    })
+}
+
+fn invalid(a: u32, b: u32, gap: Option<i32>) -> Result<Answer, Refusal> {
+    Ok(Answer {
+        verdict: Verdict::Invalid(Cause::Hops(a, b)),
+        gap,
+    })
+}
+
+fn unknown(a: u32, b: u32, gap: Option<i32>) -> Result<Answer, Refusal> {
+    Ok(Answer {
+        verdict: Verdict::Unknown(a, b),
+        gap,
+    })
+}
+
+fn ground(ground: Ground) -> Result<Answer, Refusal> {
+    Ok(Answer {
+        verdict: Verdict::Invalid(Cause::Ground(ground)),
+        gap: None,
+    })
+}
+
+fn refused<T: std::fmt::Debug>(r: Result<T, Refusal>) -> (u32, Option<u32>) {
+    let r = r.expect_err("refused");
+    (r.number(), r.place())
+}
+
+#[test]
+fn vectors_a_to_l() {
+    let d = register_d();
+    assert_eq!(sequence(&[20, 10]), [2, 2, 0, 0, 0, 0x14, 0, 0, 0, 0x0A]);
+    assert_eq!(judge(&d, 1, &[20, 10]), valid(None), "A");
+    assert_eq!(judge(&d, 1, &[40, 20, 10]), valid(None), "B");
+    assert_eq!(judge(&d, 1, &[50, 20, 10]), invalid(3, 0, None), "C");
+    assert_eq!(judge(&d, 2, &[30, 60, 10]), invalid(2, 0, None), "D");
+    assert_eq!(judge(&d, 1, &[30, 60]), unknown(2, 0, None), "E");
+    assert_eq!(judge(&d, 3, &[50, 40, 20, 10]), valid(Some(0)), "F");
+    assert_eq!(judge(&d, 3, &[20, 10, 30]), unknown(1, 3, Some(2)), "G");
+    assert_eq!(judge(&d, 3, &[20, 10, 40]), invalid(2, 2, Some(2)), "H");
+    assert_eq!(judge(&d, 3, &[50, 20]), valid(Some(1)), "I");
+    assert_eq!(judge(&d, 6, &[80, 70]), valid(Some(-1)), "J");
+    assert_eq!(
+        judge_from(&d, 1, 30, &[20, 10]),
+        ground(Ground::NotNeighbour),
+        "K"
+    );
+    assert_eq!(judge_from(&d, 4, 30, &[20, 10]), valid(None), "L");
+}
+
+#[test]
+fn vector_m() {
+    let mut register = register_d();
+    register.file(0, AsNumber(30), &numbers(&[0])).unwrap();
+    assert_eq!(judge(&register, 3, &[20, 10, 30]), invalid(2, 2, Some(2)));
+}
+
+#[test]
+fn vector_n() {
+    let mut register = register_d();
+    assert_eq!(
+        register.file(5, AsNumber(20), &numbers(&[50])),
+        Ok(Filed::New)
+    );
+    assert_eq!(judge(&register, 1, &[50, 20, 10]), valid(None));
+    // The earlier source's list still counts.
+    assert_eq!(judge(&register, 1, &[40, 20, 10]), valid(None));
+}
+
+#[test]
+fn vector_o() {
+    let d = register_d();
+    let bytes = [sequence(&[20]), sequence(&[20, 10])].concat();
+    assert_eq!(
+        d.judge(Role::Customer, AsNumber(20), &bytes),
+        invalid(3, 0, None)
+    );
+    // Within one segment the run is merged.
+    assert_eq!(judge(&d, 1, &[20, 20, 10]), valid(None));
+}
+
+#[test]
+fn grounds_and_limits() {
+    let d = register_d();
+    let judge_bytes = |bytes: &[u8]| d.judge(Role::Customer, AsNumber(20), bytes);
+    assert_eq!(judge_bytes(&[]), ground(Ground::Empty));
+    assert_eq!(
+        judge_bytes(&[sequence(&[20]), vec![1, 1, 0, 0, 0, 10]].concat()),
+        ground(Ground::AsSet)
+    );
+
+    let path: Vec<u32> = (0..65).map(|i| 1000 + i).collect();
+    assert_eq!(judge(&d, 1, &path[..64]), unknown(2, 0, None));
+    assert_eq!(refused(judge(&d, 1, &path)), (17, None));
+
+    let mut bytes = [sequence(&[20; 200]), sequence(&[10; 55])].concat();
+    assert_eq!(bytes.len(), 1024);
+    assert_eq!(judge_bytes(&bytes), valid(None));
+    bytes.push(2);
+    assert_eq!(refused(judge_bytes(&bytes)), (11, None));
+
+    assert_eq!(refused(judge_bytes(&[2])), (12, Some(0)));
+    assert_eq!(
+        refused(judge_bytes(
+            &[sequence(&[20]), vec![2, 1, 0, 0, 0]].concat()
+        )),
+        (12, Some(6))
+    );
+    assert_eq!(refused(judge_bytes(&[5, 1, 0, 0, 0, 20])), (13, Some(0)));
+    assert_eq!(refused(judge_bytes(&[3, 1, 0, 0, 0, 20])), (14, Some(0)));
+    assert_eq!(
+        refused(judge_bytes(&[sequence(&[20]), vec![2, 0]].concat())),
+        (15, Some(6))
+    );
+    assert_eq!(refused(judge_bytes(&sequence(&[20, 0]))), (16, Some(6)));
+    assert_eq!(
+        refused(d.judge(Role::Customer, AsNumber(0), &[])),
+        (10, None)
+    );
+}
+
+#[test]
+fn gap_at_both_ends() {
+    let path: Vec<u32> = (0..64).map(|i| 1000 + i).collect();
+    let mut register = Register::new();
+    assert_eq!(judge(&register, 3, &path), unknown(1, 64, Some(63)));
+    for x in &path {
+        register
+            .file(0, AsNumber(*x), &numbers(&[x - 1, x + 1]))
+            .unwrap();
+    }
+    assert_eq!(judge(&register, 3, &path), valid(Some(-63)));
+}
+
+#[test]
+fn whole_register() {
+    let mut register = Register::new();
+    assert_eq!(
+        register.file(2, AsNumber(65010), &numbers(&[65001, 65002])),
+        Ok(Filed::New)
+    );
+    assert_eq!(
+        register.file(0, AsNumber(65010), &numbers(&[65003])),
+        Ok(Filed::New)
+    );
+    let mut words = vec![2, 3, 65010, 0, 0, 1, 65010, 2, 1, 2, 65003, 65001, 65002];
+    words.resize(REGISTER_WORDS, 0);
+    assert_eq!(register.words(), words);
+    assert_eq!(
+        register.file(0, AsNumber(65010), &numbers(&[65004, 65005])),
+        Ok(Filed::Replaced)
+    );
+    assert_eq!(register.withdraw(0, AsNumber(65010)), Ok(()));
+    assert_eq!(refused(register.withdraw(0, AsNumber(65010))), (7, None));
+    assert_eq!(register.clear(2), Ok(1));
+    assert_eq!(register.clear(2), Ok(0));
+    assert_eq!(register, Register::new());
+}
+
+#[test]
+fn refused_filings_change_nothing() {
+    let mut register = register_d();
+    let before = register.clone();
+    assert_eq!(
+        refused(register.file(8, AsNumber(1), &numbers(&[2]))),
+        (4, None)
+    );
+    assert_eq!(
+        refused(register.file(0, AsNumber(0), &numbers(&[2]))),
+        (5, None)
+    );
+    assert_eq!(refused(register.file(0, AsNumber(1), &[])), (6, None));
+    assert_eq!(
+        refused(register.file(0, AsNumber(1), &numbers(&[2, 2]))),
+        (6, None)
+    );
+    assert_eq!(refused(register.clear(8)), (4, None));
+    assert_eq!(register, before);
+
+    let mut full = Register::new();
+    for x in 1..=1024 {
+        full.file(0, AsNumber(x), &numbers(&[x])).unwrap();
+    }
+    let before = full.clone();
+    assert_eq!(
+        refused(full.file(0, AsNumber(2000), &numbers(&[1]))),
+        (8, None)
+    );
+    assert_eq!(full, before);
+}
+
+#[test]
+fn wrong_tables() {
+    let mut short = Register::from_words(vec![0; REGISTER_WORDS - 1]);
+    assert_eq!(refused(short.clear(0)), (1, None));
+    let mut none = Register::from_words(vec![]);
+    assert_eq!(refused(none.clear(0)), (1, None));
+    let mut words = vec![0; REGISTER_WORDS];
+    words[REGISTER_WORDS - 1] = 1;
+    let damaged = Register::from_words(words);
+    assert_eq!(refused(judge(&damaged, 1, &[20, 10])), (2, None));
+    let mut words = vec![0; LEDGER_WORDS];
+    words[1] = 1;
+    let mut ledger = Ledger::from_words(words.clone());
+    assert_eq!(refused(ledger.drop_route(RouteNumber(1))), (3, None));
+    assert_eq!(refused(ledger.rejudge(&damaged)), (2, None));
+    assert_eq!(refused(ledger.rejudge(&Register::new())), (3, None));
+    assert_eq!(ledger.words(), words);
+}
+
+#[test]
+fn kept_and_judged_again() {
+    let mut register = register_d();
+    let mut ledger = Ledger::new();
+    let path = [50, 20, 10];
+    let kept = ledger.keep(
+        &register,
+        RouteNumber(7),
+        Role::Customer,
+        AsNumber(50),
+        &sequence(&path),
+    );
+    assert_eq!(kept, invalid(3, 0, None));
+    assert_eq!(
+        ledger.keep(&register, RouteNumber(3), Role::Provider, AsNumber(9), &[]),
+        ground(Ground::Empty)
+    );
+    assert_eq!(
+        refused(ledger.keep(
+            &register,
+            RouteNumber(7),
+            Role::Customer,
+            AsNumber(50),
+            &sequence(&path)
+        )),
+        (18, None)
+    );
+    let mut words = vec![
+        2, 3, 3, 3, 9, 1, 1, 0, 0, 0, 0, 7, 1, 50, 0, 1, 3, 0, 0, 3, 50, 20, 10,
+    ];
+    words.resize(LEDGER_WORDS, 0);
+    assert_eq!(ledger.words(), words);
+
+    assert_eq!(ledger.rejudge(&register), Ok(0));
+    register.file(1, AsNumber(20), &numbers(&[50])).unwrap();
+    assert_eq!(ledger.rejudge(&register), Ok(1));
+    assert_eq!(ledger.words()[15..18], [0, 0, 0]);
+    register.withdraw(0, AsNumber(10)).unwrap();
+    assert_eq!(ledger.rejudge(&register), Ok(1));
+    assert_eq!(ledger.words()[15..18], [2, 2, 0]);
+
+    assert_eq!(ledger.drop_route(RouteNumber(3)), Ok(()));
+    assert_eq!(refused(ledger.drop_route(RouteNumber(3))), (19, None));
+    assert_eq!(ledger.drop_route(RouteNumber(7)), Ok(()));
+    assert_eq!(ledger, Ledger::new());
+}

@@ -1,0 +1,46 @@
+-- `c_api::aspa_clear` meets its contract. Assumes nothing.
+use mathlib.Core.Path.{_∙_}
+use Rattle.c_api.proofs.Tellings.{told}
+use Rattle.c_api.specs.Answers.{clearedRow, clearedWords}
+use borrow.Author.Needs.{needs}
+use Rattle.c_api.proofs.aspa_clear.Statement.{statement}
+use Rattle.c_api.proofs.aspa_clear.Tie as tie
+
+clear-requires : tie.Need-clear-requires
+clear-requires c κs = search needs
+
+enum-known-n : tie.Need-enum-known-n
+enum-known-n c = search needs
+
+enum-known-r : tie.Need-enum-known-r
+enum-known-r c = search needs
+
+number-requires : tie.Need-number-requires
+number-requires c κs = search needs
+
+same-length : tie.Need-same-length
+same-length c = search needs
+
+returns : tie.Need-returns
+returns c = let e = c .before .before .before .before .before .before .clear .ensures in let m = c .before .before .n .given .1 in
+    (told clearedRow (e .0) m, told clearedWords (e .0) m, e .1)
+
+same-length-2 : tie.Need-same-length-2
+same-length-2 c = search needs
+
+returns-2 : tie.Need-returns-2
+returns-2 c = let e = c .before .before .before .before .before .before .before .clear .ensures in let m = c .before .before .before .r .given .1 in
+    (c .number .ensures ∙ told clearedRow (e .0) m, told clearedWords (e .0) m, e .1)
+
+pub aspa-clear-spec : {M : Type 1} → statement M
+aspa-clear-spec =
+    tie.close
+    (tie.spec
+    clear-requires
+    enum-known-n
+    enum-known-r
+    number-requires
+    same-length
+    returns
+    same-length-2
+    returns-2)

@@ -1,0 +1,59 @@
+-- `c_api::aspa_file` meets its contract. Assumes nothing.
+use mathlib.Core.Path.{_∙_}
+use Rattle.c_api.proofs.Tellings.{told}
+use Rattle.c_api.specs.Answers.{filedRow, filedWords}
+use borrow.Author.Needs.{needs}
+use Rattle.c_api.proofs.aspa_file.Statement.{statement}
+use Rattle.c_api.proofs.aspa_file.Tie as tie
+
+file-requires : tie.Need-file-requires
+file-requires c κs = search needs
+
+enum-told : tie.Need-enum-told
+enum-told c = search needs
+
+enum-told-2 : tie.Need-enum-told-2
+enum-told-2 c = search needs
+
+enum-known-r : tie.Need-enum-known-r
+enum-known-r c = search needs
+
+number-requires : tie.Need-number-requires
+number-requires c κs = search needs
+
+same-length : tie.Need-same-length
+same-length c = search needs
+
+returns : tie.Need-returns
+returns c = let e = c .before .before .before .before .before .file .ensures in let m = c .before .enum-told .given .1 in
+    (told filedRow (e .0) m, told filedWords (e .0) m, e .1)
+
+same-length-2 : tie.Need-same-length-2
+same-length-2 c = search needs
+
+returns-2 : tie.Need-returns-2
+returns-2 c = let e = c .before .before .before .before .before .file .ensures in let m = c .before .enum-told2 .given .1 in
+    (told filedRow (e .0) m, told filedWords (e .0) m, e .1)
+
+same-length-3 : tie.Need-same-length-3
+same-length-3 c = search needs
+
+returns-3 : tie.Need-returns-3
+returns-3 c = let e = c .before .before .before .before .before .before .before .file .ensures in let m = c .before .before .before .r .given .1 in
+    (c .number .ensures ∙ told filedRow (e .0) m, told filedWords (e .0) m, e .1)
+
+pub aspa-file-spec : {M : Type 1} → statement M
+aspa-file-spec =
+    tie.close
+    (tie.spec
+    file-requires
+    enum-told
+    enum-told-2
+    enum-known-r
+    number-requires
+    same-length
+    returns
+    same-length-2
+    returns-2
+    same-length-3
+    returns-3)
