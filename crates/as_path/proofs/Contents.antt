@@ -14,6 +14,7 @@ use Rattle.as_path.specs.declared.Reading.the-variants.{Path, Refused}
 use Rattle.as_path.specs.declared.Scan.{Scan}
 use Rattle.as_path.specs.declared.Scan.the-variants.{Clean, Faulty}
 use Rattle.types.specs.declared.Ground.the-variants.{Empty}
+use Rattle.types.proofs.Clashes.{clash}
 use Rattle.as_path.specs.declared.Grounded.{Grounded}
 use Rattle.as_path.specs.declared.Grounded.the-variants.{By, Not}
 use Rattle.as_path.specs.Segments.{segments}
@@ -46,9 +47,6 @@ module _ {before l after : List ℕ} {n : ℕ} (s : Stored before 0 l after n) w
   short-enough h =
       let e' : n ≡ length l = omega (arith, s .index) in
       rw (e', le-ltb mostNumbers (length l) (omega arith))
-
-clash {ℓ} : {X : Type ℓ} → _≡_ {A = ℕ} 0 1 → X
-clash z = absurd (omega arith)
 
 -- What a merged path shows: no fault, at least a byte, and which path it is.
 pub record Merged (xs l : List ℕ) : Type 0 where

@@ -23,6 +23,7 @@ use Rattle.types.specs.declared.Judged.the-variants.{Answered, Refused}
 use Rattle.types.specs.Numbers.{roleNumber, roleOf}
 use Rattle.types.specs.Roles.{isRole}
 use Rattle.types.specs.Rows.{firstGiven}
+use Rattle.types.proofs.Clashes.{clash}
 use Rattle.types.proofs.RoleNumbers.{Names, role-named, role-none}
 use Rattle.as_path.specs.declared.Reading.the-variants as reading
 use Rattle.as_path.specs.Reading.{mostNumbers, Content, faulty, grounded, merged, contentOf, readingOf, bufferAfter}
@@ -36,9 +37,6 @@ use Rattle.filter.specs.declared.Known.{Known}
 use Rattle.filter.specs.declared.Known.the-variants as known
 use Rattle.filter.specs.Known.{afterRole, knownFrom}
 use Rattle.filter.specs.Calls.{hopIn, judgeAnswer}
-
-clash {ℓ} : {X : Type ℓ} → _≡_ {A = ℕ} 0 1 → X
-clash z = absurd (omega arith)
 
 -- ---- what was read
 

@@ -7,7 +7,6 @@ use mathlib.Core.Option.{Option, none, some}
 use borrow.Author.Tests.{eq-eqb, ne-eqb}
 use lib.Dec.{eqb}
 use lib.ListN.{length}
-use native.Mathlib.Omega.{arith}
 use Rattle.types.specs.declared.Ground.{Ground}
 use Rattle.types.specs.declared.Cause.the-variants.{ByGround}
 use Rattle.types.specs.declared.Verdict.the-variants.{Invalid}
@@ -18,6 +17,7 @@ use Rattle.types.specs.declared.Refusal.the-variants.{TableLength, RegisterMalf
 use Rattle.types.specs.declared.Judged.{Judged}
 use Rattle.types.specs.declared.Judged.the-variants.{Answered, Refused}
 use Rattle.types.specs.Rows.{orElse, firstGiven, Step, unlessRefused}
+use Rattle.types.proofs.Clashes.{clash}
 use Rattle.as_path.specs.declared.Reading.the-variants as reading
 use Rattle.as_path.specs.Reading.{contentOf, readingOf}
 use Rattle.verdict.specs.Verdicts.{judged}
@@ -67,9 +67,6 @@ module _ (reg led : List ℕ) (number role neighbour : ℕ) (xs : List ℕ) wher
           keep-stored e = rw (eq-eqb (length reg) registerWords a, eq-eqb (length led) ledgerWords b, c, d, e)
 
 -- ---- rows 18 and 20, and the store
-
-clash {ℓ} : {X : Type ℓ} → _≡_ {A = ℕ} 0 1 → X
-clash z = absurd (omega arith)
 
 module _ (led : List ℕ) (r : Route) (answer : Answer) {led' : List ℕ} (w : led' ≡ storeStep led r .words) where
   pub stored-done : kept.Done ≡ storeStep led r .answer → (Answered answer ≡ storedStep led r answer .answer) × (led' ≡ storedStep led r answer .words)

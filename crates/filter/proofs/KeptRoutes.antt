@@ -30,7 +30,7 @@ use Rattle.as_path.specs.Merging.{mergedPath}
 use Rattle.as_path.specs.Reading.{mostNumbers, grounded, merged, afterGround, afterScan, contentOf}
 use Rattle.as_path.proofs.MergedPaths.{segments-some, merged-no-zero, merged-first}
 use Rattle.as_path.proofs.Grounding.{first-whole, first-number, ground-empty, ground-is}
-use Rattle.keyed.proofs.Orders.{both-intro}
+use Rattle.keyed.proofs.Orders.{both-intro, above-zero}
 use Rattle.keyed.proofs.Puts.{neither-left}
 use Rattle.verdict.specs.Hops.{HopFunction}
 use Rattle.verdict.specs.Verdicts.{lowestNotPlus, lowestUnattested, highestNotPlus, rampUp, rampDown, gapOf, upstream, downstream, judged}
@@ -231,10 +231,7 @@ module _ (number role neighbour : ℕ) (path : List ℕ) where
 
 module _ (reg : List ℕ) (number role neighbour : ℕ) (attribute : List ℕ) (e : firstGiven (judgeRows role neighbour attribute) ≡ none) where
   positive : leb 1 neighbour ≡ true
-  positive = le-leb 1 neighbour (above neighbour (eqb-false _ _ (judged-arguments (hopIn reg) role neighbour attribute e .1)))
-    where
-      above : (n : ℕ) → (n ≡ 0 → ⊥) → 1 ≤ n
-      above n h = omega arith
+  positive = above-zero neighbour (judged-arguments (hopIn reg) role neighbour attribute e .1)
 
   -- The route that Keep stores keeps the rules.
   pub kept-ok : routeOk (keptRoute reg number role neighbour attribute) ≡ true

@@ -18,10 +18,11 @@ use Rattle.types.specs.declared.Rejudged.the-variants as rejudged
 use Rattle.types.specs.Numbers.{refusalNumber, faultNumber}
 use Rattle.types.specs.Roles.{isRole}
 use Rattle.types.specs.Rows.{rowIf, orElse, firstGiven, unlessRefused}
+use Rattle.types.proofs.Clashes.{some-not-none}
 use Rattle.types.proofs.Refusing.{FirstAt, refused-first, first-refuses, accepted-none, answers-first, refusal-leaves, Numbered, numbered}
 use Rattle.as_path.specs.Reading.{mostNumbers, Content, faulty, grounded, merged, contentOf}
 use Rattle.verdict.specs.Judging.{mostBytes, contentRow, judgeRows, unlessGiven, judgedRoute}
-use Rattle.verdict.proofs.Judges.{first-append, not-none, judged-reads}
+use Rattle.verdict.proofs.Judges.{first-append, judged-reads}
 use Rattle.register.specs.Register.{registerWords, registerOk}
 use Rattle.register.specs.Calls.{tableRow, registerRow}
 use Rattle.routes.specs.Routes.{ledgerWords, routesOf, wordsOf, roomFor, ledgerOk}
@@ -36,12 +37,12 @@ judgeRowsOver reg role neighbour attribute = tableRow reg ∷ registerRow reg �
 
 -- What is read as a refusal is that refusal.
 pub refusal-is : (j : Judged) (r : Refusal) → refusalIn j ≡ some r → j ≡ Refused r
-refusal-is (Answered a) r e = not-none (sym e)
+refusal-is (Answered a) r e = some-not-none (sym e)
 refusal-is (Refused s) r e = cc
 
 -- What is read as no refusal is no refusal.
 pub refusal-none : (j : Judged) (r : Refusal) → refusalIn j ≡ none → j ≡ Refused r → ⊥
-refusal-none j r e f = not-none (ap refusalIn (sym f) ∙ e)
+refusal-none j r e f = some-not-none (ap refusalIn (sym f) ∙ e)
 
 -- An answer that is refused as rows are refuses exactly by the first of them that is given.
 refuses-first : (j : Judged) (rows : List (Option Refusal)) → refusalIn j ≡ firstGiven rows → (r : Refusal)
@@ -144,7 +145,7 @@ fault-within ZeroNumber = (omega arith, omega arith)
 -- The row of a content is one of 12 to 17.
 content-number : (c : Content) (r : Refusal) → contentRow c ≡ some r → (12 ≤ refusalNumber r) × (refusalNumber r ≤ 17)
 content-number (faulty f p) r e = let z : Attribute f p ≡ r = cc in rw (← z) (fault-within f)
-content-number (grounded g) r e = not-none (sym e)
+content-number (grounded g) r e = some-not-none (sym e)
 content-number (merged path) r e =
     let n : refusalNumber r ≡ 17 = numbered (ltb mostNumbers (length path)) PathLength r e in
     (omega (arith, n), omega (arith, n))
@@ -182,7 +183,7 @@ module _ (reg : List ℕ) (role neighbour : ℕ) (attribute : List ℕ) where
       go (suc zero) f = wider 10 10 (omega arith) (omega arith) (route-numbers .1 .0 r (f .given))
       go (suc (suc zero)) f = wider 11 11 (omega arith) (omega arith) (route-numbers .1 .1 .0 r (f .given))
       go (suc (suc (suc zero))) f = wider 12 17 (omega arith) (omega arith) (route-numbers .1 .1 .1 .0 r (f .given))
-      go (suc (suc (suc (suc i)))) f = not-none (sym (f .given))
+      go (suc (suc (suc (suc i)))) f = some-not-none (sym (f .given))
 
   -- Keep: rows 1, 2, 3, one of 9 to 17, which is the first of those that is given, then 18 and 20.
   pub keep-numbers : (led : List ℕ) (number : ℕ)

@@ -13,10 +13,10 @@ use Rattle.types.specs.declared.Judged.the-variants.{Refused}
 use Rattle.types.specs.declared.Rejudged.the-variants as rejudged
 use Rattle.types.specs.Numbers.{refusalNumber}
 use Rattle.types.specs.Rows.{firstGiven, unlessRefused}
+use Rattle.types.proofs.Clashes.{some-not-none}
 use Rattle.types.proofs.Refusing.{FirstAt, accepted-none, row-passed}
 use Rattle.keyed.proofs.Orders.{both-left, both-right}
 use Rattle.verdict.specs.Judging.{judgeRows, judgedRoute}
-use Rattle.verdict.proofs.Judges.{not-none}
 use Rattle.register.specs.Register.{registerWords}
 use Rattle.register.specs.Calls.{tableRow, registerRow}
 use Rattle.register.proofs.Refusals.{Register}
@@ -58,13 +58,13 @@ module _ (reg led : List ℕ) (w : Register reg) (l : Ledger led) where
     keep-passes r e = let p = keep-refuses reg led number role neighbour attribute r .0 e in go (p .0) (p .1)
       where
         go : (i : ℕ) → FirstAt (keepRows reg led number role neighbour attribute) i r → 9 ≤ refusalNumber r
-        go zero f = not-none (sym (f .given) ∙ tables-pass .0)
-        go (suc zero) f = not-none (sym (f .given) ∙ tables-pass .1)
-        go (suc (suc zero)) f = not-none (sym (f .given) ∙ tables-pass .2)
+        go zero f = some-not-none (sym (f .given) ∙ tables-pass .0)
+        go (suc zero) f = some-not-none (sym (f .given) ∙ tables-pass .1)
+        go (suc (suc zero)) f = some-not-none (sym (f .given) ∙ tables-pass .2)
         go (suc (suc (suc zero))) f = keep-numbers reg role neighbour attribute led number .1 .1 .1 .0 r (f .given) .0
         go (suc (suc (suc (suc zero)))) f = omega (arith, keep-numbers reg role neighbour attribute led number .1 .1 .1 .1 .0 r (f .given) .0)
         go (suc (suc (suc (suc (suc zero))))) f = omega (arith, keep-numbers reg role neighbour attribute led number .1 .1 .1 .1 .1 .0 r (f .given) .0)
-        go (suc (suc (suc (suc (suc (suc i)))))) f = not-none (sym (f .given))
+        go (suc (suc (suc (suc (suc (suc i)))))) f = some-not-none (sym (f .given))
 
 -- Judge refuses a well-formed register by no row before 9.
 pub judge-passes : (reg : List ℕ) → Register reg → (role neighbour : ℕ) (attribute : List ℕ) (r : Refusal)
@@ -72,13 +72,13 @@ pub judge-passes : (reg : List ℕ) → Register reg → (role neighbour : ℕ) 
 judge-passes reg w role neighbour attribute r e = let p = judge-refuses reg role neighbour attribute r .0 e in go (p .0) (p .1)
   where
     go : (i : ℕ) → FirstAt (judgeRowsOver reg role neighbour attribute) i r → 9 ≤ refusalNumber r
-    go zero f = not-none (sym (f .given) ∙ register-passes reg w .0)
-    go (suc zero) f = not-none (sym (f .given) ∙ register-passes reg w .1)
+    go zero f = some-not-none (sym (f .given) ∙ register-passes reg w .0)
+    go (suc zero) f = some-not-none (sym (f .given) ∙ register-passes reg w .1)
     go (suc (suc zero)) f = judge-numbers reg role neighbour attribute .1 .1 .0 r (f .given) .0
     go (suc (suc (suc zero))) f = omega (arith, judge-numbers reg role neighbour attribute .1 .1 .1 .0 r (f .given) .0)
     go (suc (suc (suc (suc zero)))) f = omega (arith, judge-numbers reg role neighbour attribute .1 .1 .1 .1 .0 r (f .given) .0)
     go (suc (suc (suc (suc (suc zero))))) f = omega (arith, judge-numbers reg role neighbour attribute .1 .1 .1 .1 .1 .0 r (f .given) .0)
-    go (suc (suc (suc (suc (suc (suc i)))))) f = not-none (sym (f .given))
+    go (suc (suc (suc (suc (suc (suc i)))))) f = some-not-none (sym (f .given))
 
 -- ---- what an accepted call has passed
 

@@ -1,6 +1,5 @@
 pub mod Keys
 pub mod Matching
-pub mod Mapping
 pub mod Ledgers
 pub mod KeptRoutes
 pub mod Simulating

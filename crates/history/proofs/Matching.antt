@@ -1,17 +1,17 @@
 -- The model over two lists of calls, of which one is a reordering of the other and neither is refused for room: the same replies, and the same model at
 -- the end. Assumes nothing.
 use Prim.Native.Nat.{ℕ, zero, suc, _<_, _≤_}
-use mathlib.Core.Path.{_≡_, refl, sym, ap, subst, _∙_}
+use mathlib.Core.Path.{_≡_, refl, sym, ap, _∙_}
 use mathlib.Core.Bool.{Bool, true, false, not}
 use mathlib.Core.List.{List, _++_}
 use mathlib.Core.Option.{Option, none, some}
 use native.Mathlib.Omega.{arith}
 use native.Mathlib.Decide.{decLt, decLe}
-use lib.Dec.{T}
 use lib.ListN.{length, List·getD-eq-default}
 use Rattle.types.specs.declared.Refusal.{Refusal}
 use Rattle.types.specs.declared.Refusal.the-variants.{RegisterFull, RoutesFull}
 use Rattle.types.specs.Rows.{rowIf, orElse, firstGiven}
+use Rattle.types.proofs.Clashes.{not-both, some-not-none}
 use Rattle.keyed.proofs.Orders.{ordered-pairs, ordered-ℕ}
 use Rattle.verdict.proofs.Judges.{first-append}
 use Rattle.register.specs.Register.{roomFor}
@@ -22,18 +22,10 @@ use Rattle.history.specs.Model.{Model, putKept, argumentRows, heldRows, 
 use Rattle.history.specs.Reorderings.{OnPair, Clears, OfSource, OnRoute, Tied, same-pair, clear-first, clear-second, same-route, IsStep, Step, Reordering}
 use Rattle.history.proofs.Keys.{Key, pair, route, look, hits, freeRefusal, freeReply, freeNext, freeAfter, miss, alike, free-in-order, same-model, reply-alike}
 
--- A test does not both fail and pass.
-nope {ℓ} : {X : Type ℓ} → false ≡ true → X
-nope h = absurd (subst T (sym h) tt)
-
 -- A test that cannot pass fails.
 not-true : (b : Bool) → (b ≡ true → ⊥) → b ≡ false
 not-true true h = absurd (h refl)
 not-true false h = refl
-
--- No row is not a row.
-nothing {ℓ} : {X : Type ℓ} {r : Refusal} → _≡_ {A = Option Refusal} none (some r) → X
-nothing h = let z : _≡_ {A = ℕ} 0 1 = cc in absurd (omega arith)
 
 -- ---- calls on one key are tied
 
@@ -51,18 +43,18 @@ hits-pair k (withdraw s c) h =
     let e : (c, s) ≡ k = sym (ordered-pairs .same-is k (c, s) h) in
     on-pair (ap (λ x. x .1) e, ap (λ x. x .0) e) (ap (λ x. x .1) e)
 hits-pair k (clear s) h = let e : s ≡ k .1 = sym (ordered-ℕ .same-is (k .1) s h) in on-source e e
-hits-pair k (keep n role neighbour attribute) h = nope h
-hits-pair k (drop n) h = nope h
-hits-pair k rejudge h = nope h
+hits-pair k (keep n role neighbour attribute) h = not-both refl h
+hits-pair k (drop n) h = not-both refl h
+hits-pair k rejudge h = not-both refl h
 
 -- A call that hits a route number is a step on it.
 hits-route : (k : ℕ) (c : Call) → hits (route k) c ≡ true → OnRoute k c
-hits-route k (file s c list) h = nope h
-hits-route k (withdraw s c) h = nope h
-hits-route k (clear s) h = nope h
+hits-route k (file s c list) h = not-both refl h
+hits-route k (withdraw s c) h = not-both refl h
+hits-route k (clear s) h = not-both refl h
 hits-route k (keep n role neighbour attribute) h = sym (ordered-ℕ .same-is k n h)
 hits-route k (drop n) h = sym (ordered-ℕ .same-is k n h)
-hits-route k rejudge h = nope h
+hits-route k rejudge h = not-both refl h
 
 -- Two calls that hit one key are tied.
 hit-tied : (k : Key) (a b : Call) → hits k a ≡ true → hits k b ≡ true → Tied a b
@@ -82,8 +74,8 @@ hit-step k (withdraw s c) h = tt
 hit-step k (clear s) h = tt
 hit-step k (keep n role neighbour attribute) h = tt
 hit-step k (drop n) h = tt
-hit-step (pair k) rejudge h = nope h
-hit-step (route k) rejudge h = nope h
+hit-step (pair k) rejudge h = not-both refl h
+hit-step (route k) rejudge h = not-both refl h
 
 -- ---- the same is found under each key
 
@@ -139,7 +131,7 @@ module _ (k : Key) where
         -- The call at i misses the key, and another one hits it.
         other : (x : ℕ) → hits k (callAt l i) ≡ false → hits k (callAt l x) ≡ true → x < suc i → Dec (x < i) → x < i
         other x p h z (yes a) = a
-        other x p h z (no n) = let e : x ≡ i = omega arith in nope (sym p ∙ (rw e at h))
+        other x p h z (no n) = let e : x ≡ i = omega arith in not-both p (rw e at h)
 
         -- No call on the key stands in m between the one matched to i and place j.
         between : (y : ℕ) → hits k (callAt l i) ≡ true → r .to i < y → y < j → hits k (callAt m y) ≡ true → Dec (r .from y < i) → ⊥
@@ -197,17 +189,17 @@ unfolding firstGiven
 room-row m (file s c list) r = go (roomFor (putRecord (recordFor s c list) (m .lists)))
   where
     go : (b : Bool) → orElse (rowIf (not b) RegisterFull) none ≡ some r → forRoom (refused r) ≡ true
-    go true h = nothing h
+    go true h = some-not-none (sym h)
     go false h = let e : RegisterFull ≡ r = cc in rw (← e)
-room-row m (withdraw s c) r = nothing
-room-row m (clear s) r = nothing
+room-row m (withdraw s c) r = λ h. some-not-none (sym h)
+room-row m (clear s) r = λ h. some-not-none (sym h)
 room-row m (keep n role neighbour attribute) r = go (roomForRoutes (putKept (routeRead n role neighbour attribute) (m .routes)))
   where
     go : (b : Bool) → orElse (rowIf (not b) RoutesFull) none ≡ some r → forRoom (refused r) ≡ true
-    go true h = nothing h
+    go true h = some-not-none (sym h)
     go false h = let e : RoutesFull ≡ r = cc in rw (← e)
-room-row m (drop n) r = nothing
-room-row m rejudge r = nothing
+room-row m (drop n) r = λ h. some-not-none (sym h)
+room-row m rejudge r = λ h. some-not-none (sym h)
 
 -- A call that is not refused for room is refused as if room were without end.
 free-refusal : (m : Model) (c : Call) → forRoom (replyTo m c) ≡ false → refusal m c ≡ freeRefusal m c
@@ -222,7 +214,7 @@ free-refusal m c h =
         → orElse a (orElse b o) ≡ orElse a b
     go (some x) b o e h = refl
     go none (some x) o e h = refl
-    go none none (some x) e h = nope (sym h ∙ room-row m c x e)
+    go none none (some x) e h = not-both h (room-row m c x e)
     go none none none e h = refl
 
 -- No call of the list is refused for room by the model.

@@ -9,16 +9,13 @@ use native.Mathlib.Omega.{arith}
 use native.Mathlib.Decide.{decLt}
 use borrow.Author.Tests.{eqb-true, eqb-false, eq-eqb}
 use lib.Dec.{eqb}
+use Rattle.types.proofs.Clashes.{not-both}
 use Rattle.keyed.proofs.Orders.{both-left, both-right, both-intro}
 use Rattle.history.specs.Calls.{Call, file, withdraw, clear, keep, drop, rejudge, callAt, said, KeptRoute, routeRead}
 use Rattle.history.specs.Replies.{shown, accepted}
 use Rattle.history.specs.Filings.{filedBy, filedList, keptBy, keptRouteAt}
 use Rattle.history.specs.Reorderings.{OnPair, Clears, OnRoute}
 use Rattle.history.specs.Sanity.{LastFiled, LastKept}
-
--- A test does not both fail and pass.
-clash {ℓ} : {X : Type ℓ} {b : Bool} → b ≡ false → b ≡ true → X
-clash p q = let z : _≡_ {A = ℕ} 0 1 = cc in absurd (omega arith)
 
 -- ---- any scan
 
@@ -71,7 +68,7 @@ module _ {X : Type 0} (by : Call → Option X → Option X) (Gives : Call → X 
 
       go : (b : Bool) → accepted (shown (said l i)) ≡ b → cond b (by (callAt l i) (scan i)) (scan i) ≡ some x → (scan i ≡ some x → Last i x) → Last (suc i) x
       go true p f ih = touched (effect (callAt l i)) p f ih
-      go false p f ih = later i x (ih f) (λ a. clash p a)
+      go false p f ih = later i x (ih f) (λ a. not-both p a)
 
   -- and what that call gives the scan finds.
   found-scan : (i : ℕ) (x : X) → Last i x → scan i ≡ some x
@@ -119,7 +116,7 @@ module _ (source customer : ℕ) where
     where
       go : (b : Bool) → (eqb c customer && eqb s source) ≡ b → Pair s c
       go true e = same (eqb-true _ _ (both-right (eqb c customer) _ e)) (eqb-true _ _ (both-left _ _ e)) e
-      go false e = other (λ p. clash e (both-intro _ _ (eq-eqb c customer (p .1)) (eq-eqb s source (p .0)))) e
+      go false e = other (λ p. not-both e (both-intro _ _ (eq-eqb c customer (p .1)) (eq-eqb s source (p .0)))) e
 
   -- What each call does to the list of the pair.
   file-effect : (c : Call) → Effect (filedBy source customer) Files OnList c

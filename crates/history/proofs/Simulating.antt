@@ -16,15 +16,17 @@ use Rattle.types.specs.declared.Rejudged.the-variants as rejudging
 use Rattle.types.specs.declared.Refusal.{Refusal}
 use Rattle.types.specs.declared.Refusal.the-variants.{TableLength, RouteTaken, RoutesFull}
 use Rattle.types.specs.Rows.{rowIf, orElse, firstGiven, Step, unlessRefused}
+use Rattle.types.proofs.Clashes.{some-not-none}
 use Rattle.types.proofs.Refusing.{row-passed, accepted-none}
 use Rattle.table.specs.Table.{rows, bodies, pad, encode}
 use Rattle.keyed.specs.Keyed.{samePair, every, ascends}
-use Rattle.keyed.proofs.Orders.{ordered-ℕ, same-flip, both-intro, both-left, both-right}
+use Rattle.keyed.proofs.Orders.{ordered-ℕ, same-flip, both-left, both-right}
 use Rattle.keyed.proofs.Finds.{find-put, find-without}
+use Rattle.keyed.proofs.Mapping.{find-map, holds-map, put-map, without-map}
 use Rattle.verdict.specs.Records.{Record, hopOf}
 use Rattle.verdict.specs.Hops.{HopFunction}
 use Rattle.verdict.specs.Judging.{judgeRows, judgedRoute}
-use Rattle.verdict.proofs.Judges.{first-append, judged-reads, not-none, Judgement, on-ground, on-path, judgement}
+use Rattle.verdict.proofs.Judges.{first-append, judged-reads, Judgement, on-ground, on-path, judgement}
 use Rattle.register.specs.Register.{registerWords, recordsOf, recordsOk, roomFor}
 use Rattle.register.specs.Register as register
 use Rattle.register.specs.Calls.{tableRow, registerRow, recordFor, holdsRecord, putRecord, eraseRecord, clearRecords, countRecords, ofSource, filedAs, fileStep, withdrawStep, clearStep}
@@ -37,17 +39,22 @@ use Rattle.register.proofs.Refusals.{Register, records-register}
 use Rattle.routes.specs.Routes.{ledgerWords, Route, routesOf, routeOk, routesOk, keyOf}
 use Rattle.routes.specs.Routes as routes
 use Rattle.routes.specs.Calls.{ledgerRow, holdsRoute, putRoute, eraseRoute, dropStep, countDiffering}
+use Rattle.routes.proofs.Entries.{routes-of-words}
+use Rattle.routes.proofs.Holding.{room-routes, room-paths, has-room, each-ok}
+use Rattle.routes.proofs.Keeping.{put-ok, without-ok}
+use Rattle.routes.proofs.Refusals.{Ledger, routes-ledger}
 use Rattle.rejudge.specs.Rejudging.{rejudgedRoute}
+use Rattle.rejudge.proofs.Rejudgements.{rejudged-ok}
 use Rattle.filter.specs.Calls.{hopIn, tablesRow, refusalIn, keptRoute, keepRows, keepStep, rejudgeStep}
+use Rattle.filter.proofs.KeptRoutes.{kept-ok}
 use Rattle.history.specs.Calls.{Call, file, withdraw, clear, keep, drop, rejudge, rejudged, Tables, routeRead, says, leaves, blank, callAt, tables, said, last}
 use Rattle.history.specs.Replies.{ModelReply, refused, done, replaced, new, shownFiled, shownRemoval, shownCleared, shownJudged, shownRejudged, shown, accepted}
 use Rattle.history.specs.Model.{Model, empty, numberOf, holdsKept, putKept, heldRows, roomRows, roomForRoutes, refusal, answer, change, replyUnless, changeUnless, replyTo, next, after, replyAt, final, judgedKept, written}
 use Rattle.history.specs.Filings.{storedBy}
 use Rattle.history.specs.Demands.{known, findRoute}
 use Rattle.history.proofs.Keys.{either-way}
-use Rattle.history.proofs.Mapping.{find-map, holds-map, put-map, without-map, ascends-map}
-use Rattle.history.proofs.Ledgers.{room-known, routes-of-words, length-words, has-room, each-ok, in-order, words-ok, put-ok, erase-ok}
-use Rattle.history.proofs.KeptRoutes.{kept-ok, kept-known, rejudged-ok, rejudged-written, rejudged-known}
+use Rattle.history.proofs.Ledgers.{room-known}
+use Rattle.history.proofs.KeptRoutes.{kept-known, rejudged-written, rejudged-known}
 
 -- ---- the tables and the model of some lists and some stored routes
 
@@ -99,13 +106,17 @@ module _ (lists : List Record) (ok : recordsOk lists ≡ true) where
 module _ (stored : List Route) (ok : routesOk stored ≡ true) where
   -- The ledger holds the stored routes.
   pub routes-are : routesOf (routes.wordsOf stored) ≡ stored
-  routes-are = routes-of-words stored (has-room stored ok)
+  routes-are = let room = has-room stored ok in routes-of-words stored (room-routes stored room) (room-paths stored room)
+
+  -- It keeps the word rules.
+  pub is-ledger : Ledger (routes.wordsOf stored)
+  is-ledger = routes-ledger stored ok
 
   -- Rows 1 and 3 are not given.
   ledger-passes : (rows : List (Option Refusal))
       → firstGiven (rowIf (not (eqb (length (routes.wordsOf stored)) ledgerWords)) TableLength ∷ ledgerRow (routes.wordsOf stored) ∷ rows) ≡ firstGiven rows
   unfolding firstGiven
-  ledger-passes rows = rw (length-words stored (has-room stored ok), words-ok stored ok)
+  ledger-passes rows = rw (is-ledger .long, is-ledger .ok)
 
 -- Rows 1, 2 and 3 are not given.
 tables-pass : (lists : List Record) (stored : List Route) → recordsOk lists ≡ true → routesOk stored ≡ true → (rows : List (Option Refusal))
@@ -113,7 +124,7 @@ tables-pass : (lists : List Record) (stored : List Route) → recordsOk lists �
     ≡ firstGiven rows
 unfolding firstGiven
 tables-pass lists stored ok fine rows =
-    rw (is-register lists ok .long, is-register lists ok .ok, length-words stored (has-room stored fine), words-ok stored fine)
+    rw (is-register lists ok .long, is-register lists ok .ok, is-ledger stored fine .long, is-ledger stored fine .ok)
 
 -- What is shown of a refused call is the refusal.
 shown-unless : {A : Type 0} (show : A → ModelReply) (refuse : Refusal → A) → ((r : Refusal) → show (refuse r) ≡ refused r)
@@ -121,24 +132,10 @@ shown-unless : {A : Type 0} (show : A → ModelReply) (refuse : Refusal → A) �
 shown-unless show refuse e (some r) ws accepted = e r
 shown-unless show refuse e none ws accepted = refl
 
--- Routes that are judged anew keep the rules.
-rejudged-every : (hop : HopFunction) (rs : List Route) → every routeOk rs ≡ true → every routeOk (map (rejudgedRoute hop) rs) ≡ true
-unfolding every
-rejudged-every hop [] e = refl
-rejudged-every hop (r ∷ rs) e = both-intro _ _ (rejudged-ok hop r (both-left _ _ e)) (rejudged-every hop rs (both-right (routeOk r) _ e))
-
--- But for their verdicts they are the routes that they were.
+-- But for their verdicts, routes that are judged anew are those that they were.
 known-rejudged : (hop : HopFunction) (rs : List Route) → map known (map (rejudgedRoute hop) rs) ≡ map known rs
 known-rejudged hop [] = refl
 known-rejudged hop (r ∷ rs) = λ i. rejudged-known hop r i ∷ known-rejudged hop rs i
-
--- They are written as a well-formed ledger.
-pub rejudged-all-ok : (hop : HopFunction) (rs : List Route) → routesOk rs ≡ true → routesOk (map (rejudgedRoute hop) rs) ≡ true
-unfolding routesOk
-rejudged-all-ok hop rs e =
-    both-intro _ _ (room-known (map (rejudgedRoute hop) rs) ∙ ap roomForRoutes (known-rejudged hop rs) ∙ sym (room-known rs) ∙ has-room rs e)
-    (both-intro _ _ (rejudged-every hop rs (each-ok rs e))
-    (ascends-map keyOf keyOf eqb ltb (rejudgedRoute hop) (λ r. ap (λ k. k .number) (rejudged-known hop r)) rs ∙ in-order rs e))
 
 -- They are the model's routes, with the verdicts that the model writes.
 written-rejudged : (hop : HopFunction) (rs : List Route) → every routeOk rs ≡ true → map (rejudgedRoute hop) rs ≡ map (judgedKept hop) (map known rs)
@@ -281,11 +278,11 @@ module _ (lists : List Record) (stored : List Route) (ok : recordsOk lists ≡ t
           ap (λ x. shownRemoval (x .answer)) drop-step
           ∙ shown-unless shownRemoval removal.Refused (λ r. refl) (refusal (modelOf lists stored) (drop n)) _ _;
       holds = rw drop-step
-          (ledger-held (refusal (modelOf lists stored) (drop n)) removal.Refused _ _ _ (λ e. erase-ok stored fine n)
+          (ledger-held (refusal (modelOf lists stored) (drop n)) removal.Refused _ _ _ (λ e. without-ok stored fine (eqb n))
           (λ e. ap (λ rs. record { lists = lists; routes = rs }) (without-map keyOf numberOf eqb ltb known (λ r. refl) (eqb n) stored)));
       stores = λ number.
           ap (λ x. findRoute number (routesOf (x .words))) drop-step
-          ∙ ledger-stores (refusal (modelOf lists stored) (drop n)) removal.Refused _ (eraseRoute n stored) number _ (λ e. erase-ok stored fine n)
+          ∙ ledger-stores (refusal (modelOf lists stored) (drop n)) removal.Refused _ (eraseRoute n stored) number _ (λ e. without-ok stored fine (eqb n))
           (find-without keyOf eqb ltb ordered-ℕ number (eqb n) stored ∙ ap (cond (eqb n number) none) (sym (stored-before number)));
     }
 
@@ -341,10 +338,10 @@ module _ (lists : List Record) (stored : List Route) (ok : recordsOk lists ≡ t
       where
         go : (o : Option Refusal) (b c : Bool) → orElse o (orElse (rowIf b RouteTaken) (orElse (rowIf (not c) RoutesFull) none)) ≡ none
             → (o ≡ none) × (c ≡ true)
-        go (some r) b c h = not-none h
-        go none true c h = not-none h
+        go (some r) b c h = some-not-none h
+        go none true c h = some-not-none h
         go none false true h = (refl, refl)
-        go none false false h = not-none h
+        go none false false h = some-not-none h
 
     -- Keep, as the model refuses it.
     pub keep-step :
@@ -420,13 +417,13 @@ module _ (lists : List Record) (stored : List Route) (ok : recordsOk lists ≡ t
       lists = lists;
       stored = map (rejudgedRoute (hopOf lists)) stored;
       lists-ok = ok;
-      routes-ok = rejudged-all-ok (hopOf lists) stored fine;
+      routes-ok = rejudged-ok (hopOf lists) stored fine;
       tables-are = refl;
       model-is = ap (λ rs. record { lists = lists; routes = rs }) (sym (known-rejudged (hopOf lists) stored));
     });
     stores = λ number.
         ap (λ x. findRoute number (routesOf (x .words))) rejudge-step
-        ∙ ap (findRoute number) (routes-are (map (rejudgedRoute (hopOf lists)) stored) (rejudged-all-ok (hopOf lists) stored fine))
+        ∙ ap (findRoute number) (routes-are (map (rejudgedRoute (hopOf lists)) stored) (rejudged-ok (hopOf lists) stored fine))
         ∙ find-map keyOf keyOf eqb ltb (rejudgedRoute (hopOf lists)) (λ k. ap (λ x. x .number) (rejudged-known (hopOf lists) k)) number stored
         ∙ (λ i. Option·map (rejudgedRoute (hopOf (sym (records-are lists ok) i))) (sym (stored-before number) i));
   }
@@ -438,7 +435,7 @@ module _ (lists : List Record) (stored : List Route) (ok : recordsOk lists ≡ t
   rejudge-counts =
       rw (
         rejudge-step,
-        routes-are (map (rejudgedRoute (hopOf lists)) stored) (rejudged-all-ok (hopOf lists) stored fine),
+        routes-are (map (rejudgedRoute (hopOf lists)) stored) (rejudged-ok (hopOf lists) stored fine),
         routes-are stored fine,
       )
 

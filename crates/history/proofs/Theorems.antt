@@ -2,7 +2,7 @@
 use Prim.Native.Nat.{ℕ, zero, suc, _<_}
 use mathlib.Core.Path.{_≡_, refl, sym, ap, _∙_}
 use mathlib.Core.Bool.{Bool, true, false, cond}
-use mathlib.Core.List.{List, [], _∷_, map}
+use mathlib.Core.List.{List, [], map}
 use mathlib.Core.Option.{Option, none, some, Option·map}
 use native.Mathlib.Omega.{arith}
 use borrow.Author.Tests.{eqb-true, eqb-false}
@@ -26,9 +26,10 @@ use Rattle.types.specs.declared.Refusal.{Refusal}
 use Rattle.types.specs.Numbers.{verdictNumber}
 use Rattle.types.specs.Rows.{firstGiven, unlessRefused}
 use Rattle.as_path.specs.Reading.{contentOf}
-use Rattle.keyed.specs.Keyed.{samePair, beforePair, every, find}
-use Rattle.keyed.proofs.Orders.{ordered-pairs, ordered-ℕ, both-left, both-right}
-use Rattle.keyed.proofs.Finds.{find-key, same-finds}
+use Rattle.keyed.specs.Keyed.{samePair, beforePair, find}
+use Rattle.keyed.proofs.Orders.{ordered-pairs, ordered-ℕ}
+use Rattle.keyed.proofs.Finds.{find-key, every-found, same-finds}
+use Rattle.keyed.proofs.Mapping.{find-map}
 use Rattle.verdict.specs.Hops.{HopFunction}
 use Rattle.verdict.specs.Records.{Record, hopOf}
 use Rattle.verdict.specs.Verdicts.{judged}
@@ -43,8 +44,13 @@ use Rattle.register.proofs.Refusals.{Register}
 use Rattle.routes.specs.Routes.{ledgerWords, ledgerOk, Route, routesOf, routeOk, keyOf}
 use Rattle.routes.specs.Routes as routes
 use Rattle.routes.specs.Calls.{stamped, countDiffering}
+use Rattle.routes.proofs.Holding.{each-ok, in-order}
+use Rattle.routes.proofs.Paths.{path-some}
+use Rattle.routes.proofs.Refusals.{Ledger}
 use Rattle.rejudge.specs.Rejudging.{verdictOf, rejudgedRoute}
+use Rattle.rejudge.proofs.Rejudgements.{some-numbers, rejudged-ok}
 use Rattle.filter.specs.Calls.{hopIn, judgeAnswer, refusalIn, keepStep, rejudgeStep}
+use Rattle.filter.proofs.KeptRoutes.{path-ok}
 use Rattle.history.specs.Calls.{Call, file, withdraw, clear, keep, drop, rejudge, filed, removed, cleared, kept, rejudged, Tables, tables, says, callAt, said, last}
 use Rattle.history.specs.Replies.{ModelReply, new, replaced, done, gone, refused, shownFiled, shownRemoval, shownCleared, shown, forRoom, accepted}
 use Rattle.history.specs.Model.{numberOf, refusal, after, replyAt, written}
@@ -53,10 +59,8 @@ use Rattle.history.specs.Reorderings.{IsRegisterStep, IsStep, Reordering
 use Rattle.history.specs.Demands.{findRecord, findRoute, providersOf, known, draftWord, wordNumber, Roomy, Drafted, Demand2, Demand3}
 use Rattle.history.proofs.Keys.{findKept}
 use Rattle.history.proofs.Matching.{RoomyModel, same-replies, same-final}
-use Rattle.history.proofs.Mapping.{find-map}
-use Rattle.history.proofs.Ledgers.{length-words, words-ok, has-room, each-ok, in-order}
-use Rattle.history.proofs.KeptRoutes.{path-ok, path-length, judged-word, pathed, on-a-ground, rejudged-known}
-use Rattle.history.proofs.Simulating.{modelOf, Holds, records-are, is-register, register-passes, routes-are, keep-step, rejudge-step, rejudge-counts, rejudged-all-ok, blank-tables, nothing-ok, history-holds, history-stores, history-replies, history-written}
+use Rattle.history.proofs.KeptRoutes.{judged-word, on-a-ground, rejudged-known}
+use Rattle.history.proofs.Simulating.{modelOf, Holds, records-are, is-register, register-passes, routes-are, is-ledger, keep-step, rejudge-step, rejudge-counts, blank-tables, nothing-ok, history-holds, history-stores, history-replies, history-written}
 use Rattle.history.proofs.FiledLists.{filed-list, kept-route}
 use Rattle.history.proofs.FiledHops.{filed-hops}
 
@@ -78,8 +82,8 @@ answered-word hop role neighbour attribute a e = go (judgement hop role neighbou
     go (on-path path c short j) =
         let f : Answered (judged hop path role) ≡ Answered a = sym j ∙ e in
         let z : judged hop path role ≡ a = cc in
-        let n = path-length role neighbour path (path-ok role neighbour attribute path c short) in
-        rw (c, ← z) (ap some (judged-word hop path role (n .0)))
+        let n = path-some role neighbour path (path-ok role neighbour attribute path c short) in
+        rw (c, ← z) (ap some (judged-word hop path role n))
 
 -- A keeping that is answered answers what is judged.
 keep-answered : (o : Option Refusal) (hop : HopFunction) (role neighbour : ℕ) (attribute ws ws′ : List ℕ) (a : Answer)
@@ -121,7 +125,8 @@ module _ (l : List Call) (i : ℕ) where
 
   formed-ledger : (length (tables l i .ledger) ≡ ledgerWords) × (ledgerOk (tables l i .ledger) ≡ true)
   formed-ledger =
-      rw ledger-is (length-words (holds-at .stored) (has-room (holds-at .stored) (holds-at .routes-ok)), words-ok (holds-at .stored) (holds-at .routes-ok))
+      let r : Ledger (routes.wordsOf (holds-at .stored)) = is-ledger (holds-at .stored) (holds-at .routes-ok) in
+      rw ledger-is (r .long, r .ok)
 
   -- The stored routes, but for their verdicts, are those kept.
   kept-are : (number : ℕ) → Option·map known (findRoute number (routesOf (tables l i .ledger))) ≡ keptRouteAt l i number
@@ -296,17 +301,6 @@ roomy-model l h i = go (decLt i (length l))
     go (yes p) = ap forRoom (sym (history-replies l i)) ∙ h i p
     go (no n) = let e : callAt l i ≡ rejudge = List·getD-eq-default l rejudge (omega arith) in rw e
 
--- What all entries pass, the one found under a key passes.
-every-found : {E K : Type 0} (key : E → K) (same before : K → K → Bool) (p : E → Bool) (k : K) (es : List E) (e : E)
-    → every p es ≡ true → find key same before k es ≡ some e → p e ≡ true
-unfolding every find
-every-found key same before p k [] e a f = let z : _≡_ {A = ℕ} 0 1 = cc in absurd (omega arith)
-every-found key same before p k (x ∷ es) e a f = go (same k (key x)) f (every-found key same before p k es e (both-right (p x) _ a))
-  where
-    go : (b : Bool) → cond b (some x) (find key same before k es) ≡ some e → (find key same before k es ≡ some e → p e ≡ true) → p e ≡ true
-    go true f ih = let z : x ≡ e = cc in rw (← z) (both-left (p x) (every p es) a)
-    go false f ih = ih f
-
 -- A verdict's word is its outcome's.
 word-number : (v : Verdict) → verdictNumber v ≡ wordNumber (outcomeOf v)
 word-number Valid = refl
@@ -323,12 +317,11 @@ drafted hop r ok = go (eqb (r .ground) 0) refl
     go : (b : Bool) → eqb (r .ground) 0 ≡ b → Drafted hop (cond b (stamped v r) r)
     go true e =
         let g : r .ground ≡ 0 = eqb-true _ _ e in
-        let n = path-length (r .role) (r .neighbour) (r .path) (pathed r ok g .path) in
         record {
           verdict = λ z. refl;
           a = λ z. refl;
           b = λ z. refl;
-          word = λ z. word-number v ∙ ap wordNumber (sym (judged-word hop (r .path) (r .role) (n .0)));
+          word = λ z. word-number v ∙ ap wordNumber (sym (judged-word hop (r .path) (r .role) (some-numbers r ok g)));
           ground = λ z. absurd (z g);
         }
     go false e =
@@ -357,7 +350,7 @@ last-verdicts l number r e = rw (← hops-are l (length l)) (go (findRoute numbe
     routes-left =
         ap (λ t. routesOf (rejudgeStep (t .register) (t .ledger) .words)) (held .tables-are)
         ∙ ap (λ s. routesOf (s .words)) (rejudge-step (held .lists) stored (held .lists-ok) (held .routes-ok))
-        ∙ routes-are (map (rejudgedRoute hop) stored) (rejudged-all-ok hop stored (held .routes-ok))
+        ∙ routes-are (map (rejudgedRoute hop) stored) (rejudged-ok hop stored (held .routes-ok))
 
     found : findRoute number (routesOf (last l .ledger)) ≡ Option·map (rejudgedRoute hop) (findRoute number stored)
     found =

@@ -3,13 +3,20 @@ use mathlib.Core.Path.{_≡_, refl, sym, _∙_}
 use mathlib.Core.Bool.{Bool, true, false, cond, _||_}
 use mathlib.Core.List.{List, [], _∷_}
 use mathlib.Core.Option.{Option, none, some}
-use Prim.Native.Nat.{ℕ, suc, _+_}
+use Prim.Native.Nat.{ℕ, zero, suc, _+_, _<_}
 use native.Mathlib.Omega.{arith}
 use lib.ListN.{length, getD}
 use Rattle.keyed.specs.Keyed.{Ordered, ascendsFrom, ascends, find, holds, rank, put, without, every, countOf}
 use Rattle.keyed.proofs.Orders.{both-intro, both-left, both-right, same-not-before, same-flip}
 use Rattle.keyed.proofs.Ranks.{from-ascends, from-holds}
 use Rattle.keyed.proofs.Puts.{from-not-held}
+
+-- What all entries pass, the one at an index passes.
+pub every-at : {E : Type 0} (p : E → Bool) (es : List E) (d : E) → every p es ≡ true → (i : ℕ) → i < length es → p (getD es i d) ≡ true
+unfolding every
+every-at p [] d a i h = absurd (omega arith)
+every-at p (e ∷ es) d a zero h = both-left (p e) (every p es) a
+every-at p (e ∷ es) d a (suc i) h = every-at p es d (both-right (p e) (every p es) a) i (omega arith)
 
 -- Something is found.
 abbrev pub isSome : {E : Type 0} → Option E → Bool
@@ -61,6 +68,16 @@ module _ {E K : Type 0} (key : E → K) (same before : K → K → Bool) where
           → every p (cond b (without key same before test es) (e ∷ without key same before test es)) ≡ true
       go true ih = ih
       go false ih = rw (both-left (p e) (every p es) h) ih
+
+  -- What all entries pass, the one found under a key passes.
+  pub every-found : (p : E → Bool) (k : K) (es : List E) (e : E) → every p es ≡ true → find key same before k es ≡ some e → p e ≡ true
+  unfolding every find
+  every-found p k [] e a f = absurd (let z : _≡_ {A = ℕ} 0 1 = cc in omega arith)
+  every-found p k (x ∷ es) e a f = go (same k (key x)) f (every-found p k es e (both-right (p x) _ a))
+    where
+      go : (b : Bool) → cond b (some x) (find key same before k es) ≡ some e → (find key same before k es ≡ some e → p e ≡ true) → p e ≡ true
+      go true f ih = let z : x ≡ e = cc in rw (← z) (both-left (p x) (every p es) a)
+      go false f ih = ih f
 
   -- The entries that are left and those that are counted are all.
   pub count-without : (test : K → Bool) (es : List E) → length (without key same before test es) + countOf key same before test es ≡ length es

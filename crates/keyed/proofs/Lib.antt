@@ -3,3 +3,4 @@ pub mod Orders
 pub mod Ranks
 pub mod Puts
 pub mod Finds
+pub mod Mapping

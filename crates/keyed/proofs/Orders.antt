@@ -3,8 +3,8 @@ use mathlib.Core.Path.{_≡_, refl, sym, _∙_}
 use mathlib.Core.Bool.{Bool, true, false, _&&_, _||_}
 use Prim.Native.Nat.{ℕ, _<_, _≤_}
 use native.Mathlib.Omega.{arith}
-use lib.Dec.{eqb, ltb}
-use borrow.Author.Tests.{ltb-true, ltb-false, eqb-true, eqb-false, lt-ltb, le-ltb, eq-eqb}
+use lib.Dec.{eqb, leb, ltb}
+use borrow.Author.Tests.{ltb-true, ltb-false, eqb-true, eqb-false, lt-ltb, le-ltb, le-leb, eq-eqb}
 use Rattle.keyed.specs.Keyed.{Ordered, samePair, beforePair}
 
 -- Two tests that hold, hold together.
@@ -20,6 +20,13 @@ both-left false b h = h
 pub both-right : (a b : Bool) → (a && b) ≡ true → b ≡ true
 both-right true b h = h
 both-right false b h = cc
+
+-- A number that is not 0 is at least 1.
+pub above-zero : (n : ℕ) → eqb n 0 ≡ false → leb 1 n ≡ true
+above-zero n e = le-leb 1 n (go (eqb-false n 0 e))
+  where
+    go : (n ≡ 0 → ⊥) → 1 ≤ n
+    go h = omega arith
 
 module _ {K : Type 0} (same before : K → K → Bool) (o : Ordered same before) where
   -- Equal keys are the same.

@@ -1,9 +1,8 @@
 -- What a well-formed register shows. Assumes nothing.
-use Prim.Native.Nat.{ℕ, zero, suc, _≤_, _<_}
-use mathlib.Core.Path.{_≡_, sym, _∙_}
-use mathlib.Core.Bool.{Bool, true, _&&_}
-use mathlib.Core.List.{List, [], _∷_, map}
-use native.Mathlib.Omega.{arith}
+use Prim.Native.Nat.{ℕ, _≤_, _<_}
+use mathlib.Core.Path.{_≡_}
+use mathlib.Core.Bool.{true}
+use mathlib.Core.List.{List, [], map}
 use lib.Dec.{leb}
 use borrow.Author.Tests.{leb-true}
 use lib.ListN.{length}
@@ -11,6 +10,7 @@ use Rattle.table.specs.Table.{Sound, wellFormed}
 use Rattle.table.proofs.Exact.{passes-sound, encode-passes}
 use Rattle.keyed.specs.Keyed.{samePair, beforePair, ascends, every}
 use Rattle.keyed.proofs.Orders.{both-left, both-right, both-intro}
+use Rattle.keyed.proofs.Finds.{every-at}
 use Rattle.verdict.specs.Records.{Record}
 use Rattle.register.specs.Register.{registerWords, mostRecords, mostBodyWords, mostProviders, lastSource, recordAt, rises, listOk, recordsOf, wordsOf, entryOf, keyOf, listed, recordOk, roomFor, recordsOk, registerOk}
 use Rattle.register.proofs.Entries.{entries-wide, records-fit, records-of-words}
@@ -61,18 +61,11 @@ module _ (ws : List ℕ) (e : registerOk ws ≡ true) where
   pub ordered : ascends keyOf samePair beforePair (recordsOf ws) ≡ true
   ordered = in-order (recordsOf ws) records-ok
 
--- What every record of a list keeps, the one at an index keeps.
-every-at : (p : Record → Bool) (rs : List Record) → every p rs ≡ true → (i : ℕ) → i < length rs → p (recordAt rs i) ≡ true
-unfolding every
-every-at p [] e i h = absurd (omega arith)
-every-at p (r ∷ rs) e zero h = both-left (p r) (every p rs) e
-every-at p (r ∷ rs) e (suc i) h = every-at p rs (both-right (p r) (every p rs) e) i (omega arith)
-
 -- The lists of a register ascend.
 pub providers-rise : (ws : List ℕ) → registerOk ws ≡ true → (i : ℕ) → i < length (recordsOf ws) → rises (recordAt (recordsOf ws) i .providers) ≡ true
 unfolding recordOk listOk
 providers-rise ws e i h =
     let r = recordAt (recordsOf ws) i in
-    let a = every-at recordOk (recordsOf ws) (each-ok (recordsOf ws) (records-ok ws e)) i h in
+    let a = every-at recordOk (recordsOf ws) (recordAt [] 0) (each-ok (recordsOf ws) (records-ok ws e)) i h in
     let b = both-right (leb (r .source) lastSource) _ (both-right (leb 1 (r .customer)) _ a) in
     both-right (leb (length (r .providers)) mostProviders) _ (both-right (leb 1 (length (r .providers))) _ b)

@@ -5,11 +5,11 @@ use mathlib.Core.Bool.{Bool, true, false, not, cond}
 use mathlib.Core.List.{List, [], _∷_, map}
 use mathlib.Core.Option.{Option, none, some}
 use native.Mathlib.Omega.{arith}
-use borrow.Author.Tests.{le-leb, lt-leb, ltb-false, eqb-false, not-true, not-false}
+use borrow.Author.Tests.{le-leb, lt-leb, ltb-false, not-true, not-false}
 use lib.Dec.{leb, ltb, eqb}
 use lib.ListN.{length}
 use Rattle.keyed.specs.Keyed.{samePair, beforePair, ascends, every, find, put, without, holds, countOf}
-use Rattle.keyed.proofs.Orders.{ordered-pairs, both-intro, same-flip}
+use Rattle.keyed.proofs.Orders.{ordered-pairs, both-intro, same-flip, above-zero}
 use Rattle.keyed.proofs.Puts.{ascends-put, ascends-without}
 use Rattle.keyed.proofs.Finds.{every-put, every-without, find-put, find-without, find-key, same-finds, count-without}
 use Rattle.verdict.specs.Records.{Record}
@@ -20,12 +20,7 @@ use Rattle.register.proofs.Holding.{room-records, room-lists, has-room,
 -- A record whose parts passed rows 4, 5 and 6.
 pub record-ok : (r : Record) → ltb lastSource (r .source) ≡ false → eqb (r .customer) 0 ≡ false → listOk (r .providers) ≡ true → recordOk r ≡ true
 unfolding recordOk
-record-ok r s c l =
-    let c' : 1 ≤ r .customer = positive (r .customer) (eqb-false _ _ c) in
-    both-intro _ _ (le-leb 1 (r .customer) c') (both-intro _ _ (le-leb (r .source) lastSource (ltb-false _ _ s)) l)
-  where
-    positive : (n : ℕ) → (n ≡ 0 → ⊥) → 1 ≤ n
-    positive n h = omega arith
+record-ok r s c l = both-intro _ _ (above-zero (r .customer) c) (both-intro _ _ (le-leb (r .source) lastSource (ltb-false _ _ s)) l)
 
 -- Fewer records, with fewer numbers, still fit.
 pub room-fewer : (rs ss : List Record) → length ss ≤ length rs → listed ss ≤ listed rs → roomFor rs ≡ true → roomFor ss ≡ true

@@ -1,10 +1,10 @@
 -- Routes judged anew: what stays, what a second time does, and that they still keep the rules. Assumes nothing.
-use Prim.Native.Nat.{ℕ, _≤_}
+use Prim.Native.Nat.{_≤_}
 use mathlib.Core.Path.{_≡_, refl, sym, _∙_, ap}
 use mathlib.Core.Bool.{Bool, true, false, cond}
 use mathlib.Core.List.{List, [], _∷_, _++_, map}
 use native.Mathlib.Omega.{arith}
-use borrow.Author.Tests.{eqb-true, eqb-false, eq-eqb, ne-eqb, leb-true, le-leb}
+use borrow.Author.Tests.{eqb-true, eqb-false, eq-eqb, ne-eqb, le-leb}
 use lib.Dec.{leb, ltb, eqb}
 use lib.ListN.{length, length-map}
 use Rattle.types.specs.declared.Verdict.{Verdict}
@@ -12,25 +12,22 @@ use Rattle.types.specs.declared.Verdict.the-variants.{Valid, Invalid, Unknown}
 use Rattle.types.specs.Numbers.{verdictNumber, placeA, placeB}
 use Rattle.types.specs.Roles.{isRole, isUpstream}
 use Rattle.table.specs.Table.{bodies}
-use Rattle.keyed.specs.Keyed.{ascends, ascendsFrom, every}
-use Rattle.keyed.proofs.Orders.{both-left, both-right, both-intro}
+use Rattle.keyed.proofs.Orders.{ordered-ℕ, both-left, both-right, both-intro}
+use Rattle.keyed.proofs.Mapping.{every-map, ascends-map}
 use Rattle.verdict.specs.Hops.{HopFunction}
 use Rattle.verdict.specs.Verdicts.{judged}
 use Rattle.verdict.proofs.Orders.{Within, places-within}
-use Rattle.routes.specs.Routes.{Route, entryOf, keyOf, pathWords, pathOk, routeOk, roomFor, routesOk}
+use Rattle.routes.specs.Routes.{Route, entryOf, keyOf, pathWords, pathOk, groundOk, routeOk, roomFor, routesOk}
 use Rattle.routes.specs.Calls.{stamped, differs}
 use Rattle.routes.proofs.Holding.{has-room, each-ok, in-order}
+use Rattle.routes.proofs.Paths.{path-some, path-few}
 use Rattle.rejudge.specs.Rejudging.{verdictOf, rejudgedRoute}
 
 -- ---- one route
 
--- A number is the same as itself.
-same-self : (n : ℕ) → eqb n n ≡ true
-same-self n = eq-eqb n n refl
-
 -- A route does not differ from itself.
 pub not-differs : (r : Route) → differs r r ≡ false
-not-differs r = rw (same-self (r .verdict), same-self (r .a), same-self (r .b))
+not-differs r = rw (ordered-ℕ .same-self (r .verdict), ordered-ℕ .same-self (r .a), ordered-ℕ .same-self (r .b))
 
 module _ (hop : HopFunction) (r : Route) where
   -- A route with a ground is left as it is.
@@ -47,27 +44,28 @@ module _ (r : Route) (e : routeOk r ≡ true) where
   unfolding routeOk
   has-role = both-left (isRole (r .role)) _ e
 
+  -- What the rules ask of it by its ground.
+  pub by-ground : cond (eqb (r .ground) 0) (pathOk (r .role) (r .neighbour) (r .path)) (groundOk r) ≡ true
+  unfolding routeOk
+  by-ground =
+      both-right (leb (r .b) 64) _
+      (both-right (leb (r .a) 64) _
+      (both-right (leb (r .verdict) 2) _
+      (both-right (leb (r .ground) 3) _
+      (both-right (leb 1 (r .neighbour)) _ (both-right (isRole (r .role)) _ e)))))
+
   module _ (g : r .ground ≡ 0) where
     -- Without a ground its path keeps the rules.
     pub path-fine : pathOk (r .role) (r .neighbour) (r .path) ≡ true
-    unfolding routeOk
-    path-fine =
-        rw (eq-eqb (r .ground) 0 g)
-        at (both-right (leb (r .b) 64) _
-        (both-right (leb (r .a) 64) _
-        (both-right (leb (r .verdict) 2) _
-        (both-right (leb (r .ground) 3) _
-        (both-right (leb 1 (r .neighbour)) _ (both-right (isRole (r .role)) _ e))))))
+    path-fine = rw (eq-eqb (r .ground) 0 g) at by-ground
 
     -- It has a number.
     pub some-numbers : 1 ≤ length (r .path)
-    unfolding pathOk
-    some-numbers = leb-true _ _ (both-left (leb 1 (length (r .path))) _ path-fine)
+    some-numbers = path-some (r .role) (r .neighbour) (r .path) path-fine
 
     -- And at most 64.
     pub few-numbers : length (r .path) ≤ 64
-    unfolding pathOk
-    few-numbers = leb-true _ _ (both-left (leb (length (r .path)) 64) _ (both-right (leb 1 (length (r .path))) _ path-fine))
+    few-numbers = path-few (r .role) (r .neighbour) (r .path) path-fine
 
 -- What a stamp leaves, stays whether the route is stamped or not.
 stays-either : {X : Type 0} (part : Route → X) (v : Verdict) (r : Route) → part (stamped v r) ≡ part r
@@ -162,26 +160,7 @@ module _ (hop : HopFunction) where
       go true t = stamped-ok r e (eqb-true _ _ t)
       go false t = ap routeOk (left-alone hop r (eqb-false _ _ t)) ∙ e
 
-  -- Routes judged anew keep theirs.
-  every-ok : (rs : List Route) → every routeOk rs ≡ true → every routeOk (map anew rs) ≡ true
-  unfolding every
-  every-ok [] e = refl
-  every-ok (r ∷ rs) e =
-      both-intro (routeOk (anew r)) _ (still-ok r (both-left (routeOk r) _ e)) (every-ok rs (both-right (routeOk r) _ e))
-
-  -- They stand in the same order behind a number.
-  same-order-from : (k : ℕ) (rs : List Route) → ascendsFrom keyOf eqb ltb k (map anew rs) ≡ ascendsFrom keyOf eqb ltb k rs
-  unfolding ascendsFrom
-  same-order-from k [] = refl
-  same-order-from k (r ∷ rs) = rw (number-stays r, same-order-from (r .number) rs)
-
-  -- They stand in the same order.
-  same-order : (rs : List Route) → ascends keyOf eqb ltb (map anew rs) ≡ ascends keyOf eqb ltb rs
-  unfolding ascends
-  same-order [] = refl
-  same-order (r ∷ rs) = rw (number-stays r, same-order-from (r .number) rs)
-
-  -- Their paths are the same.
+  -- The paths of routes judged anew are the same.
   same-paths : (rs : List Route) → bodies (map entryOf (map anew rs)) ≡ bodies (map entryOf rs)
   unfolding bodies
   same-paths [] = refl
@@ -191,5 +170,5 @@ module _ (hop : HopFunction) where
   pub rejudged-ok : (rs : List Route) → routesOk rs ≡ true → routesOk (map anew rs) ≡ true
   unfolding routesOk roomFor pathWords
   rejudged-ok rs e =
-      rw (length-map rs anew, same-paths rs, same-order rs, every-ok rs (each-ok rs e))
+      rw (length-map rs anew, same-paths rs, ascends-map keyOf keyOf eqb ltb anew number-stays rs, every-map routeOk routeOk anew still-ok rs (each-ok rs e))
       (both-intro (roomFor rs) _ (has-room rs e) (in-order rs e))

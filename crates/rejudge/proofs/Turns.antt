@@ -9,8 +9,7 @@ use lib.ListN.{length, getD, drop, set, length-map, drop-of-length-le}
 use lib.Seq.{drop-cons}
 use Rattle.table.specs.Table.{bodies, Sound}
 use Rattle.table.proofs.Exact.{length-encode, passes-sound}
-use Rattle.keyed.specs.Keyed.{every}
-use Rattle.keyed.proofs.Orders.{both-left, both-right}
+use Rattle.keyed.proofs.Finds.{every-at}
 use Rattle.verdict.specs.Hops.{HopFunction}
 use Rattle.verdict.specs.Records.{hopOf}
 use Rattle.register.specs.Register.{recordsOf, registerOk}
@@ -22,13 +21,6 @@ use Rattle.routes.proofs.Looking.{count-is, few}
 use Rattle.rejudge.specs.Rejudging.{rejudgedRoute, Judgeable}
 use Rattle.rejudge.proofs.Rows.{Promised}
 use Rattle.rejudge.proofs.Rejudgements.{anew, path-stays}
-
--- Each of routes that all keep their rules keeps them.
-one-ok : (rs : List Route) (i : ℕ) → every routeOk rs ≡ true → i < length rs → routeOk (routeAt rs i) ≡ true
-unfolding every
-one-ok [] i e h = absurd (omega arith)
-one-ok (r ∷ rs) zero e h = both-left (routeOk r) _ e
-one-ok (r ∷ rs) (suc i) e h = one-ok rs i (both-right (routeOk r) _ e) (omega arith)
 
 -- ---- some routes judged anew
 
@@ -179,7 +171,7 @@ module _ {reg start ws : List ℕ} {n changed i : ℕ} (t : Turned reg start n w
         record {
           register = t .given .0;
           route = record { sound = holding .sound; size = holding .size; within = rw (holding .routes, first-length hop i routes) inside };
-          ok = rw (holding .routes, first-at hop i routes) (one-ok routes i (each-ok _ (routes-ok start (t .given .2))) inside);
+          ok = rw (holding .routes, first-at hop i routes) (every-at routeOk routes (routeAt [] 0) (each-ok _ (routes-ok start (t .given .2))) i inside);
         }
 
     module _ {out : List ℕ} {b : Bool} (q : Promised reg ws i out b) where

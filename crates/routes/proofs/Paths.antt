@@ -4,12 +4,13 @@ use mathlib.Core.Path.{_≡_}
 use mathlib.Core.Bool.{true, false, _||_}
 use mathlib.Core.List.{List, []}
 use native.Mathlib.Numerals.{add-one}
-use borrow.Author.Tests.{le-leb, lt-leb, eq-eqb, ne-eqb}
-use lib.Dec.{eqb}
+use borrow.Author.Tests.{leb-true, le-leb, lt-leb, eq-eqb, ne-eqb}
+use lib.Dec.{eqb, leb}
 use lib.ListN.{length, getD, drop, drop-of-length-le}
 use lib.Seq.{drop-cons}
 use Rattle.types.specs.Roles.{isRouteServer}
 use Rattle.as_path.specs.Reading.{mostNumbers}
+use Rattle.keyed.proofs.Orders.{both-left, both-right}
 use Rattle.routes.specs.Routes.{noZero, pathOk}
 
 module _ (l : List ℕ) (i : ℕ) (same : noZero (drop i l) ≡ noZero l) where
@@ -50,3 +51,14 @@ module _ (role neighbour : ℕ) (l : List ℕ) where
       pub path-first : noZero l ≡ true → (isRouteServer role || eqb (getD l 0 0) neighbour) ≡ pathOk role neighbour l
       unfolding pathOk
       path-first e = rw (le-leb 1 (length l) h, le-leb (length l) mostNumbers k, e)
+
+module _ (role neighbour : ℕ) (l : List ℕ) (e : pathOk role neighbour l ≡ true) where
+  -- A path that keeps the rules has a number.
+  pub path-some : 1 ≤ length l
+  unfolding pathOk
+  path-some = leb-true _ _ (both-left (leb 1 (length l)) _ e)
+
+  -- And at most 64.
+  pub path-few : length l ≤ mostNumbers
+  unfolding pathOk
+  path-few = leb-true _ _ (both-left (leb (length l) mostNumbers) _ (both-right (leb 1 (length l)) _ e))

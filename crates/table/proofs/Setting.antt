@@ -1,11 +1,11 @@
 -- A store into a head word of an entry: the table of the entries with that word set. Assumes nothing.
 use mathlib.Core.Path.{_≡_, sym, ap, _∙_, subst}
-use mathlib.Core.List.{List, [], _∷_, _++_}
+use mathlib.Core.List.{List, _∷_, _++_}
 use Prim.Native.Nat.{ℕ, suc, _+_, _-_, _*_, _≤_, _<_}
 use native.Mathlib.Omega.{arith}
-use native.Mathlib.Nat.{zero-add, suc-add}
 use lib.ListN.{length, take, drop, set, replicate, length-append, length-set}
 use lib.Seq.{set-append-left, set-split}
+use Rattle.words.proofs.Laws.{set-append-add}
 use Rattle.table.specs.Table.{Entry, width, rows, bodies, pad, encode, Wide, decode, Sound}
 use Rattle.table.proofs.Tables.{bodies-append, length-rows, wide-append, encode-split}
 use Rattle.table.proofs.Sounds.{nth, cut, wide-before, wide-at, laid, before}
@@ -16,12 +16,6 @@ abbrev pub withHead : Entry → List ℕ → Entry
 withHead e l = record { head = l; body = e .body; tail = e .tail }
 
 -- ---- a store into words
-
--- A store behind a list is one into what follows it.
-pub set-append-add : (xs ys : List ℕ) (n x : ℕ) → set (xs ++ ys) (length xs + n) x ≡ xs ++ set ys n x
-set-append-add [] ys n x = ap (λ (k : ℕ). set ys k x) (zero-add n)
-set-append-add (y ∷ xs) ys n x =
-    ap (λ (k : ℕ). set (y ∷ (xs ++ ys)) k x) (suc-add (length xs) n) ∙ ap (λ (r : List ℕ). y ∷ r) (set-append-add xs ys n x)
 
 -- A store into p, where it stands between a and others.
 pub set-between : (a p c y : List ℕ) (n j x : ℕ) → length a ≡ n → j < length p

@@ -1,2 +1,3 @@
+pub mod Clashes
 pub mod Refusing
 pub mod RoleNumbers

@@ -11,14 +11,12 @@ use Rattle.types.specs.declared.Removal.the-variants as removal
 use mathlib.Core.Logic.{_↔_}
 use Rattle.types.specs.Numbers.{refusalNumber}
 use Rattle.types.specs.Rows.{rowIf, orElse, firstGiven, Step, unlessRefused}
+use Rattle.types.proofs.Clashes.{clash, some-not-none}
 
 -- Row i is given as r, and no row before it is given.
 pub record FirstAt (rows : List (Option Refusal)) (i : ℕ) (r : Refusal) : Type 0 where
   pub given : getD rows i none ≡ some r
   pub earlier : (j : ℕ) → j < i → getD rows j none ≡ none
-
-some-not-none {ℓ} : {X : Type ℓ} {r : Refusal} → _≡_ {A = Option Refusal} (some r) none → X
-some-not-none e = let z : _≡_ {A = ℕ} 0 1 = cc in absurd (omega arith)
 
 -- A call is refused by r exactly when some row is given as r and no row before it is given.
 pub refused-first : (rows : List (Option Refusal)) (r : Refusal) → firstGiven rows ≡ some r → (i : ℕ) × FirstAt rows i r
@@ -113,7 +111,7 @@ parts e = (sym (ap (λ s. s .answer) e), sym (ap (λ s. s .words) e))
 
 -- A refusal to remove is told from an acceptance.
 pub removal-apart : (r : Refusal) → removal.Done ≡ removal.Refused r → ⊥
-removal-apart r e = let z : _≡_ {A = ℕ} 0 1 = cc in omega arith
+removal-apart r e = clash (cc)
 
 -- And from every other refusal.
 pub removal-same : (r s : Refusal) → removal.Refused r ≡ removal.Refused s → r ≡ s

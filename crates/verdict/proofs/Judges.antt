@@ -4,7 +4,6 @@ use mathlib.Core.Path.{_≡_, refl, sym, _∙_, ap}
 use mathlib.Core.Bool.{Bool, true, false, not, cond}
 use mathlib.Core.List.{List, [], _∷_, _++_}
 use mathlib.Core.Option.{Option, none, some}
-use native.Mathlib.Omega.{arith}
 use borrow.Author.Tests.{ltb-false, not-false}
 use lib.Dec.{ltb, eqb}
 use lib.ListN.{length}
@@ -19,6 +18,7 @@ use Rattle.types.specs.declared.Judged.{Judged}
 use Rattle.types.specs.declared.Judged.the-variants.{Answered, Refused}
 use Rattle.types.specs.Roles.{isRole}
 use Rattle.types.specs.Rows.{orElse, firstGiven}
+use Rattle.types.proofs.Clashes.{some-not-none}
 use Rattle.types.proofs.Refusing.{row-passed, accepted-none}
 use Rattle.as_path.specs.Reading.{mostNumbers, Content, faulty, grounded, merged, contentOf}
 use Rattle.verdict.specs.Hops.{HopFunction}
@@ -31,10 +31,6 @@ unfolding firstGiven
 first-append [] ys = refl
 first-append (some r ∷ xs) ys = refl
 first-append (none ∷ xs) ys = first-append xs ys
-
--- A row that is given is not none.
-pub not-none {ℓ} : {X : Type ℓ} {r : Refusal} → _≡_ {A = Option Refusal} (some r) none → X
-not-none e = let z : _≡_ {A = ℕ} 0 1 = cc in absurd (omega arith)
 
 module _ (hop : HopFunction) (role neighbour : ℕ) (attribute : List ℕ) where
   -- A judging is refused exactly as rows 9 to 17 refuse it: `read` is any reading of the refusal.
@@ -74,13 +70,13 @@ module _ (hop : HopFunction) (role neighbour : ℕ) (attribute : List ℕ) where
     where
       go : (o : Option Refusal) → firstGiven (argumentRows role neighbour attribute) ≡ o → (c : Content) → contentOf role neighbour attribute ≡ c
           → orElse o (orElse (contentRow (contentOf role neighbour attribute)) none) ≡ none → Judgement
-      go (some r) p c q h = not-none h
-      go none p (faulty f x) q h = not-none (rw q at h)
+      go (some r) p c q h = some-not-none h
+      go none p (faulty f x) q h = some-not-none (rw q at h)
       go none p (grounded g) q h = on-ground g q (rw (p, q))
       go none p (merged path) q h = short (ltb mostNumbers (length path)) refl (rw q at h)
         where
           short : (b : Bool) → ltb mostNumbers (length path) ≡ b → orElse (cond b (some PathLength) none) none ≡ none → Judgement
-          short true s k = not-none k
+          short true s k = some-not-none k
           short false s k = on-path path q (ltb-false _ _ s) (rw (p, q, s))
 
   -- Its role is one, and its neighbour is not 0.

@@ -180,6 +180,12 @@ pub drop-to-pasted : (s p : List ℕ) (at : ℕ) → at ≤ length s → drop at
 unfolding pasted
 drop-to-pasted s p at room = drop-at (take at s) (p ++ drop (at + length p) s) at (length-take-le at s room)
 
+-- A word that is stored behind x.
+pub set-append-add : (x y : List ℕ) (j a : ℕ) → set (x ++ y) (length x + j) a ≡ x ++ set y j a
+set-append-add [] y j a = ap (λ (k : ℕ). set y k a) (zero-add j)
+set-append-add (b ∷ x) y j a =
+    ap (λ (k : ℕ). set (b ∷ (x ++ y)) k a) (suc-add (length x) j) ∙ ap (λ (l : List ℕ). b ∷ l) (set-append-add x y j a)
+
 -- A word that is stored within a pasted run.
 pub set-pasted : (s p : List ℕ) (at j a : ℕ) → j < length p → at ≤ length s → set (pasted s at p) (at + j) a ≡ pasted s at (set p j a)
 unfolding pasted
@@ -192,9 +198,3 @@ set-pasted s p at j a inside room =
     ∙ set-append-add x (p ++ d) j a
     ∙ ap (λ (l : List ℕ). x ++ l) (set-append-left p d j a inside)
     ∙ ap (λ (m : ℕ). x ++ (set p j a ++ drop (at + m) s)) n
-  where
-    -- A word that is stored behind x.
-    set-append-add : (x y : List ℕ) (j a : ℕ) → set (x ++ y) (length x + j) a ≡ x ++ set y j a
-    set-append-add [] y j a = ap (λ (k : ℕ). set y k a) (zero-add j)
-    set-append-add (b ∷ x) y j a =
-        ap (λ (k : ℕ). set (b ∷ (x ++ y)) k a) (suc-add (length x) j) ∙ ap (λ (l : List ℕ). b ∷ l) (set-append-add x y j a)

@@ -3,7 +3,15 @@ use mathlib.Core.Path.{_≡_, refl}
 use mathlib.Core.Bool.{Bool, true, false, cond}
 use mathlib.Core.List.{List, [], _∷_, map}
 use mathlib.Core.Option.{some, Option·map}
-use Rattle.keyed.specs.Keyed.{ascendsFrom, ascends, find, holds, put, without}
+use Rattle.keyed.specs.Keyed.{ascendsFrom, ascends, find, holds, put, without, every}
+use Rattle.keyed.proofs.Orders.{both-left, both-right, both-intro}
+
+-- Entries that all pass a test are changed into ones that pass another, if each is.
+pub every-map : {E F : Type 0} (p : E → Bool) (q : F → Bool) (f : E → F) → ((e : E) → p e ≡ true → q (f e) ≡ true)
+    → (es : List E) → every p es ≡ true → every q (map f es) ≡ true
+unfolding every
+every-map p q f h [] a = refl
+every-map p q f h (e ∷ es) a = both-intro (q (f e)) _ (h e (both-left (p e) _ a)) (every-map p q f h es (both-right (p e) _ a))
 
 module _ {E F K : Type 0} (key : E → K) (key′ : F → K) (same before : K → K → Bool) (f : E → F) (kept : (e : E) → key′ (f e) ≡ key e) where
   -- The same keys are held.

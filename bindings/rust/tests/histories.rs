@@ -1,0 +1,734 @@
+//! Random histories of calls, run through the binding and through the second program's model. Every answer is compared, both tables word
+//! for word every 50 calls, and the refusals of damaged tables. The same seed gives the same history.
+use aspa_filter::{
+    Answer, AsNumber, Cause, Filed, Ground, Ledger, Refusal, Register, Role, RouteNumber, Verdict,
+    LEDGER_WORDS, REGISTER_WORDS,
+};
+use reference::random::Random;
+use reference::words::Form;
+use reference::{judge as by, Model, Table, GREATEST_SOURCE};
+use std::collections::BTreeMap;
+
+/// Of each shape.
+const HISTORIES: u64 = 3;
+const CALLS: usize = 3000;
+const BETWEEN_TABLES: usize = 50;
+const BETWEEN_DAMAGE: usize = 60;
+
+// Calls and what they say, in words that both sides share
+
+#[derive(Clone, Debug)]
+enum Call {
+    File(u32, u32, Vec<u32>),
+    Withdraw(u32, u32),
+    Clear(u32),
+    Judge(Route),
+    Keep(u32, Route),
+    Drop(u32),
+    Rejudge,
+}
+
+#[derive(Clone, Debug)]
+struct Route {
+    role: Role,
+    neighbour: u32,
+    attribute: Vec<u8>,
+}
+
+#[derive(Clone, Copy, Debug, PartialEq, Eq)]
+enum Said {
+    Filed(Filed),
+    Done,
+    Count(u32),
+    Judged(Answer),
+    Refused(u32, Option<u32>),
+}
+
+fn said<T>(result: Result<T, Refusal>, then: impl Fn(T) -> Said) -> Said {
+    match result {
+        Ok(x) => then(x),
+        Err(r) => Said::Refused(r.number(), r.place()),
+    }
+}
+
+fn meant<T>(result: Result<T, reference::Refusal>, then: impl Fn(T) -> Said) -> Said {
+    match result {
+        Ok(x) => then(x),
+        Err(r) => Said::Refused(r.row.into(), r.place.map(|p| p as u32)),
+    }
+}
+
+fn meant_filed(filed: reference::Filed) -> Said {
+    Said::Filed(match filed {
+        reference::Filed::New => Filed::New,
+        reference::Filed::Replaced => Filed::Replaced,
+    })
+}
+
+fn meant_answer(judgement: by::Judgement) -> Said {
+    let verdict = match judgement.verdict {
+        by::Verdict::Valid => Verdict::Valid,
+        by::Verdict::Invalid(by::Cause::Hops { a, b }) => Verdict::Invalid(Cause::Hops(a, b)),
+        by::Verdict::Invalid(by::Cause::Ground(ground)) => {
+            Verdict::Invalid(Cause::Ground(match ground {
+                by::Ground::Empty => Ground::Empty,
+                by::Ground::NotNeighbour => Ground::NotNeighbour,
+                by::Ground::AsSet => Ground::AsSet,
+            }))
+        }
+        by::Verdict::Unknown { a, b } => Verdict::Unknown(a, b),
+    };
+    Said::Judged(Answer {
+        verdict,
+        gap: judgement.gap,
+    })
+}
+
+/// The tables of the binding.
+#[derive(Clone, PartialEq, Eq)]
+struct Tables {
+    register: Register,
+    ledger: Ledger,
+}
+
+impl Tables {
+    fn run(&mut self, call: &Call) -> Said {
+        let Tables { register, ledger } = self;
+        match call {
+            Call::File(source, customer, list) => {
+                let list: Vec<AsNumber> = list.iter().copied().map(AsNumber).collect();
+                said(
+                    register.file(*source, AsNumber(*customer), &list),
+                    Said::Filed,
+                )
+            }
+            Call::Withdraw(source, customer) => {
+                said(register.withdraw(*source, AsNumber(*customer)), |()| {
+                    Said::Done
+                })
+            }
+            Call::Clear(source) => said(register.clear(*source), Said::Count),
+            Call::Judge(r) => said(
+                register.judge(r.role, AsNumber(r.neighbour), &r.attribute),
+                Said::Judged,
+            ),
+            Call::Keep(route, r) => said(
+                ledger.keep(
+                    register,
+                    RouteNumber(*route),
+                    r.role,
+                    AsNumber(r.neighbour),
+                    &r.attribute,
+                ),
+                Said::Judged,
+            ),
+            Call::Drop(route) => said(ledger.drop_route(RouteNumber(*route)), |()| Said::Done),
+            Call::Rejudge => said(ledger.rejudge(register), Said::Count),
+        }
+    }
+}
+
+fn run_model(model: &mut Model, call: &Call) -> Said {
+    use reference::{AsNumber, RouteNumber};
+    let count = |n: usize| Said::Count(n as u32);
+    match call {
+        Call::File(source, customer, list) => {
+            let list: Vec<AsNumber> = list.iter().copied().map(AsNumber).collect();
+            meant(model.file(*source, AsNumber(*customer), &list), meant_filed)
+        }
+        Call::Withdraw(source, customer) => {
+            meant(model.withdraw(*source, AsNumber(*customer)), |()| {
+                Said::Done
+            })
+        }
+        Call::Clear(source) => meant(model.clear(*source), count),
+        Call::Judge(r) => meant(
+            model.judge(r.role.number(), AsNumber(r.neighbour), &r.attribute),
+            meant_answer,
+        ),
+        Call::Keep(route, r) => meant(
+            model.keep(
+                RouteNumber(*route),
+                r.role.number(),
+                AsNumber(r.neighbour),
+                &r.attribute,
+            ),
+            meant_answer,
+        ),
+        Call::Drop(route) => meant(model.drop(RouteNumber(*route)), |()| Said::Done),
+        Call::Rejudge => meant(model.rejudge(), count),
+    }
+}
+
+// Histories
+
+/// What a history is rich in.
+struct Shape {
+    /// Customers are mostly 1 to this.
+    customers: usize,
+    /// Route numbers are mostly below this.
+    routes: usize,
+    /// Percent of lists near 256 providers and of paths near 64 numbers.
+    long_lists: usize,
+    long_paths: usize,
+    /// Weights of the calls, in the order of `Call`.
+    weights: [usize; 7],
+}
+
+struct History<'a> {
+    shape: &'a Shape,
+    seed: u64,
+    random: Random,
+    tables: Tables,
+    model: Model,
+    calls: usize,
+    /// How often each kind of answer was given.
+    tally: BTreeMap<String, usize>,
+}
+
+impl History<'_> {
+    fn new(shape: &Shape, seed: u64) -> History<'_> {
+        History {
+            shape,
+            seed,
+            random: Random::new(seed),
+            tables: Tables {
+                register: Register::new(),
+                ledger: Ledger::new(),
+            },
+            model: Model::new(),
+            calls: 0,
+            tally: BTreeMap::new(),
+        }
+    }
+
+    fn run(mut self) -> (usize, BTreeMap<String, usize>) {
+        for i in 1..=CALLS {
+            let kind = self.kind();
+            self.call(kind);
+            if i % BETWEEN_TABLES == 0 {
+                self.compare_tables();
+            }
+            if i % BETWEEN_DAMAGE == 0 {
+                self.damaged();
+            }
+        }
+        self.compare_tables();
+        (self.calls, self.tally)
+    }
+
+    fn call(&mut self, kind: usize) {
+        let call = self.some_call(kind);
+        self.make(call);
+    }
+
+    fn make(&mut self, call: Call) {
+        self.calls += 1;
+        let before = self.tables.clone();
+        let answer = self.tables.run(&call);
+        let at = format!("seed {}, call {}: {call:?}", self.seed, self.calls);
+        assert_eq!(answer, run_model(&mut self.model, &call), "{at}");
+        let reads = matches!(call, Call::Judge(_)) || matches!(answer, Said::Refused(..));
+        assert!(!reads || self.tables == before, "a table changed: {at}");
+        self.count(&call, answer);
+    }
+
+    fn count(&mut self, call: &Call, answer: Said) {
+        let key = match answer {
+            Said::Refused(number, _) => format!("refused by {number}"),
+            Said::Filed(filed) => format!("{filed:?}"),
+            Said::Count(0) | Said::Done => return,
+            Said::Count(_) if matches!(call, Call::Rejudge) => "changed".into(),
+            Said::Count(_) => "cleared".into(),
+            Said::Judged(Answer { verdict, gap }) => {
+                let way = if gap.is_some() { "down" } else { "up" };
+                if gap.is_some_and(|g| g < 0) {
+                    *self.tally.entry("overlap".into()).or_default() += 1;
+                }
+                match verdict {
+                    Verdict::Valid => format!("valid {way}"),
+                    Verdict::Invalid(Cause::Hops(..)) => format!("invalid {way}"),
+                    Verdict::Invalid(Cause::Ground(ground)) => format!("{ground:?}"),
+                    Verdict::Unknown(..) => format!("unknown {way}"),
+                }
+            }
+        };
+        *self.tally.entry(key).or_default() += 1;
+    }
+
+    fn compare_tables(&self) {
+        let at = format!("seed {}, after call {}", self.seed, self.calls);
+        let pairs = [
+            (
+                "register",
+                self.tables.register.words(),
+                self.model.register.words(),
+            ),
+            (
+                "ledger",
+                self.tables.ledger.words(),
+                self.model.ledger.words(),
+            ),
+        ];
+        for (name, ours, theirs) in pairs {
+            assert_eq!(ours.len(), theirs.len(), "length of the {name}, {at}");
+            if ours != theirs {
+                let differs = ours.iter().zip(&theirs).position(|(x, y)| x != y);
+                let i = differs.expect("they differ");
+                panic!("{name}, word {i}: {} and {}, {at}", ours[i], theirs[i]);
+            }
+        }
+    }
+
+    /// Damages one table or both, makes every call, and repairs them. Altered words that the word rules allow sometimes stay: verdicts
+    /// that aren't true, other providers.
+    fn damaged(&mut self) {
+        let kept = (self.tables.clone(), self.model.clone());
+        let (register, ledger) = self.random.pick(&[
+            (true, false),
+            (false, true),
+            (true, false),
+            (false, true),
+            (true, true),
+        ]);
+        if ledger {
+            let words = alter(&mut self.random, &mut self.model.ledger);
+            self.tables.ledger = Ledger::from_words(words(self.tables.ledger.words()));
+        }
+        if register {
+            let words = alter(&mut self.random, &mut self.model.register);
+            self.tables.register = Register::from_words(words(self.tables.register.words()));
+        }
+        self.compare_tables();
+        let allowed = self.model.register.well_formed() && self.model.ledger.well_formed();
+        for kind in 0..7 {
+            self.call(kind);
+        }
+        self.compare_tables();
+        let key = if allowed { "altered" } else { "damaged" };
+        *self.tally.entry(key.into()).or_default() += 1;
+        if !allowed || self.random.percent(50) {
+            (self.tables, self.model) = kept;
+        }
+    }
+
+    // Calls
+
+    fn kind(&mut self) -> usize {
+        let weights = &self.shape.weights;
+        let mut left = self.random.below(weights.iter().sum());
+        for (kind, weight) in weights.iter().enumerate() {
+            if left < *weight {
+                return kind;
+            }
+            left -= weight;
+        }
+        unreachable!("the weights were summed")
+    }
+
+    fn some_call(&mut self, kind: usize) -> Call {
+        match kind {
+            0 => Call::File(self.source(), self.customer(), self.list()),
+            1 => Call::Withdraw(self.source(), self.customer()),
+            2 => Call::Clear(self.source()),
+            3 => Call::Judge(self.route()),
+            4 => Call::Keep(self.route_number(), self.route()),
+            5 => Call::Drop(self.route_number()),
+            _ => Call::Rejudge,
+        }
+    }
+
+    /// Few numbers, so that they meet again; now and then any.
+    fn number(&mut self) -> u32 {
+        match self.random.below(100) {
+            0..=93 => self.random.between(1, 12) as u32,
+            94..=96 => self.random.between(1, 40) as u32,
+            97 | 98 => self
+                .random
+                .pick(&[256, 65_535, 65_536, 1 << 24, 1 << 31, u32::MAX]),
+            _ => (self.random.draw() as u32).max(1),
+        }
+    }
+
+    fn source(&mut self) -> u32 {
+        match self.random.below(100) {
+            0..=96 => self.random.below(8) as u32,
+            _ => self.random.pick(&[8, 9, 256, u32::MAX]),
+        }
+    }
+
+    fn customer(&mut self) -> u32 {
+        match self.random.below(100) {
+            0..=2 => 0,
+            3..=5 => self.number(),
+            _ => self.random.between(1, self.shape.customers) as u32,
+        }
+    }
+
+    fn route_number(&mut self) -> u32 {
+        match self.random.below(100) {
+            0..=2 => self.random.pick(&[0, 1 << 31, u32::MAX]),
+            _ => self.random.below(self.shape.routes) as u32,
+        }
+    }
+
+    fn list(&mut self) -> Vec<u32> {
+        if self.random.percent(self.shape.long_lists) {
+            let length = self.random.pick(&[200, 255, 256, 256, 256, 257]);
+            let (first, step) = (
+                self.random.below(3) as u32,
+                self.random.between(1, 2) as u32,
+            );
+            return (0..length).map(|i| first + step * i).collect();
+        }
+        let length = self.random.between(1, 5);
+        let mut list: Vec<u32> = (0..length).map(|_| self.number()).collect();
+        match self.random.below(100) {
+            0..=1 => list.clear(),
+            2..=4 => list.push(list[0]),
+            5..=6 => list = vec![0],
+            7..=8 => {} // in any order
+            n => {
+                if n < 14 {
+                    list.push(0);
+                }
+                list.sort_unstable();
+                list.dedup();
+            }
+        }
+        list
+    }
+
+    fn route(&mut self) -> Route {
+        let (first, attribute) = self.attribute();
+        let neighbour = match self.random.below(100) {
+            0..=1 => 0,
+            2..=9 => self.number(),
+            _ => first,
+        };
+        let role = self.random.pick(&[1, 2, 3, 3, 3, 4, 5, 6, 6]);
+        Route {
+            role: Role::from_number(role).expect("1 to 6"),
+            neighbour,
+            attribute,
+        }
+    }
+
+    fn providers(&self, customer: u32) -> Vec<u32> {
+        let Table::Held(records) = &self.model.register else {
+            return vec![];
+        };
+        let customer = reference::AsNumber(customer);
+        records
+            .range((customer, 0)..=(customer, GREATEST_SOURCE))
+            .flat_map(|(_, list)| list.iter().map(|n| n.0))
+            .filter(|n| *n != 0)
+            .collect()
+    }
+
+    /// Mostly from customer to provider by the records, origin first.
+    fn climb(&mut self, steps: usize) -> Vec<u32> {
+        let mut path = vec![self.customer().max(1)];
+        for i in 0..steps {
+            let providers = self.providers(path[i]);
+            path.push(if !providers.is_empty() && self.random.percent(85) {
+                self.random.pick(&providers)
+            } else {
+                self.number()
+            });
+        }
+        path
+    }
+
+    /// Left end first: what descends, then what climbs from the origin.
+    fn path(&mut self) -> Vec<u32> {
+        if self.random.percent(self.shape.long_paths) {
+            let length = self.random.pick(&[40, 63, 64, 64, 64, 64, 65]);
+            let mut path: Vec<u32> = vec![];
+            while path.len() < length {
+                let number = self.random.between(1, 12) as u32;
+                if path.last() != Some(&number) {
+                    path.push(number);
+                }
+            }
+            return path;
+        }
+        let steps = self.random.below(5);
+        let mut up = self.climb(steps);
+        up.reverse();
+        if self.random.percent(30) {
+            return up;
+        }
+        let steps = self.random.below(4);
+        [self.climb(steps), up].concat()
+    }
+
+    /// An attribute, and the number that was to stand first in it.
+    fn attribute(&mut self) -> (u32, Vec<u8>) {
+        let path = self.path();
+        let first = path[0];
+        // Several segments, numbers repeated within one and over a boundary
+        let mut segments = vec![(2, vec![])];
+        let plain = path.len() > 20;
+        for (i, number) in path.iter().enumerate() {
+            if !plain && i > 0 && self.random.percent(12) {
+                let again = self.random.percent(30);
+                segments.push((2, if again { vec![path[i - 1]] } else { vec![] }));
+            }
+            let times = self.random.pick(&[1, 1, 1, 1, 1, 2, 3]);
+            let numbers = &mut segments.last_mut().expect("one at least").1;
+            numbers.extend(vec![*number; times]);
+        }
+        let at = self.random.below(segments.len() + 1);
+        let two = vec![self.number(), self.number()];
+        match self.random.below(100) {
+            0..=3 => segments.insert(at, (1, two)),
+            4..=5 => segments.insert(at, (self.random.pick(&[3, 4]), two)),
+            6..=7 => segments.insert(at, (self.random.pick(&[0, 5, 255]), two)),
+            8..=9 => segments.insert(at, (self.random.pick(&[0, 1, 2, 2, 3]), vec![])),
+            10..=12 => {
+                let numbers = &mut segments[at.saturating_sub(1)].1;
+                let i = self.random.below(numbers.len());
+                numbers[i] = 0;
+            }
+            _ => {}
+        }
+        let mut bytes: Vec<u8> = segments.iter().flat_map(|(t, n)| segment(*t, n)).collect();
+        match self.random.below(100) {
+            0..=2 => bytes.truncate(self.random.below(bytes.len())),
+            3 => bytes.push(self.random.below(6) as u8),
+            4 => {
+                let i = self.random.below(bytes.len());
+                bytes[i] = self.random.pick(&[0, 1, 2, 3, 4, 5, 255]);
+            }
+            5 => bytes.clear(),
+            6 => bytes = (0..40).map(|_| self.random.below(6) as u8).collect(),
+            7 => {
+                // 2 + 4n + 2 + 4(255 - n) is 1024, the longest.
+                let n = self.random.between(1, 254);
+                bytes = [segment(2, &vec![first; n]), segment(2, &vec![7; 255 - n])].concat();
+                bytes.extend(vec![2; self.random.pick(&[0, 0, 1, 400])]);
+            }
+            8 => {
+                let path: Vec<u32> = (0..65).map(|i| first ^ i << 8).collect();
+                bytes = segment(2, &path);
+            }
+            _ => {}
+        }
+        (first, bytes)
+    }
+}
+
+fn segment(kind: u8, numbers: &[u32]) -> Vec<u8> {
+    let mut bytes = vec![kind, numbers.len() as u8];
+    bytes.extend(numbers.iter().flat_map(|n| n.to_be_bytes()));
+    bytes
+}
+
+/// Alters one word of a table or its length; gives the same change for the binding's words.
+fn alter<T: Form>(random: &mut Random, table: &mut Table<T>) -> impl Fn(&[u32]) -> Vec<u32> {
+    let (length, used) = (table.length(), table.used_words().len());
+    let mut resized = length;
+    let mut poked = None;
+    if random.percent(20) {
+        let any = random.below(length);
+        resized = random.pick(&[0, 1, 2, any, length - 1, length + 1]);
+        table.resize(resized);
+    } else {
+        let index = match random.below(10) {
+            0 | 1 => random.below(2),
+            2..=4 => 2 + random.below((T::ENTRY * table.words()[0] as usize).max(1)),
+            5..=7 => random.below(used),
+            8 => used.min(length - 1),
+            _ => random.below(length),
+        };
+        let old = table.words()[index];
+        let any = random.draw() as u32;
+        let near = [old.wrapping_add(1), old.wrapping_sub(1), old ^ (1 << 31)];
+        let value = match random.below(3) {
+            0 => random.pick(&near),
+            _ => random.pick(&[0, 1, 2, 3, 4, 6, 7, 8, 64, 65, 257, 8193, u32::MAX, any]),
+        };
+        assert!(table.poke(index, value));
+        poked = Some((index, value));
+    }
+    move |words| {
+        let mut words = words.to_vec();
+        words.resize(resized, 0);
+        if let Some((index, value)) = poked {
+            words[index] = value;
+        }
+        words
+    }
+}
+
+/// What every shape must reach, with the refusals below.
+const REACHED: [&str; 16] = [
+    "New",
+    "Replaced",
+    "cleared",
+    "changed",
+    "valid up",
+    "valid down",
+    "invalid up",
+    "invalid down",
+    "unknown up",
+    "unknown down",
+    "overlap",
+    "Empty",
+    "NotNeighbour",
+    "AsSet",
+    "altered",
+    "damaged",
+];
+
+/// `full` are the refusals of a full table that this shape must reach.
+fn histories(first_seed: u64, shape: Shape, full: &[u32]) {
+    let mut calls = 0;
+    let mut tally: BTreeMap<String, usize> = BTreeMap::new();
+    for seed in first_seed..first_seed + HISTORIES {
+        let (n, counts) = History::new(&shape, seed).run();
+        calls += n;
+        for (key, n) in counts {
+            *tally.entry(key).or_default() += n;
+        }
+    }
+    println!("{calls} calls: {tally:?}");
+    // Not 9: every Role is of 1 to 6.
+    let refusals = (1..=7).chain(10..=19).chain(full.iter().copied());
+    let refusals = refusals.map(|number| format!("refused by {number}"));
+    for key in REACHED.map(String::from).into_iter().chain(refusals) {
+        assert!(tally.contains_key(&key), "never: {key}");
+    }
+}
+
+#[test]
+fn table_lengths() {
+    assert_eq!(REGISTER_WORDS, <reference::Records as Form>::LENGTH);
+    assert_eq!(LEDGER_WORDS, <reference::Routes as Form>::LENGTH);
+}
+
+const EVERYTHING: Shape = Shape {
+    customers: 12,
+    routes: 60,
+    long_lists: 2,
+    long_paths: 4,
+    weights: [200, 80, 20, 300, 200, 100, 100],
+};
+
+#[test]
+fn everything() {
+    histories(100, EVERYTHING, &[]);
+}
+
+/// Small tables with every role and ground, each of their words set to each of some values.
+#[test]
+fn single_words() {
+    let mut history = History::new(&EVERYTHING, 600);
+    for (source, customer, list) in [
+        (0, 3, vec![0]),
+        (7, 3, vec![4, 6]),
+        (2, 4, vec![3, 5, u32::MAX]),
+        (2, 9, vec![4]),
+    ] {
+        history.make(Call::File(source, customer, list));
+    }
+    let attributes = [
+        vec![],
+        segment(2, &[4, 3]),
+        segment(2, &[5]),
+        segment(1, &[4, 3]),
+    ];
+    for role in 1..=6 {
+        for (i, attribute) in attributes.iter().enumerate() {
+            let route = Route {
+                role: Role::from_number(role).expect("1 to 6"),
+                neighbour: 4,
+                attribute: attribute.clone(),
+            };
+            history.make(Call::Keep(10 * role + 2 * i as u32, route));
+        }
+    }
+    history.compare_tables();
+
+    let kept = (history.tables.clone(), history.model.clone());
+    let values = |old: u32| {
+        let near = [old.wrapping_add(1), old.wrapping_sub(1), old ^ (1 << 31)];
+        (0..=9)
+            .chain([64, 65, 256, 257, 8193, u32::MAX])
+            .chain(near)
+    };
+    let used = kept.1.register.used_words().len();
+    for index in (0..=used).chain([REGISTER_WORDS - 1]) {
+        for value in values(kept.0.register.words()[index]) {
+            let mut words = kept.0.register.words().to_vec();
+            words[index] = value;
+            history.tables.register = Register::from_words(words);
+            assert!(history.model.register.poke(index, value));
+            history.make(Call::Withdraw(2, 8));
+            history.make(Call::Rejudge);
+            (history.tables, history.model) = kept.clone();
+        }
+    }
+    let used = kept.1.ledger.used_words().len();
+    for index in (0..=used).chain([LEDGER_WORDS - 1]) {
+        for value in values(kept.0.ledger.words()[index]) {
+            let mut words = kept.0.ledger.words().to_vec();
+            words[index] = value;
+            history.tables.ledger = Ledger::from_words(words);
+            assert!(history.model.ledger.poke(index, value));
+            history.make(Call::Drop(1));
+            history.make(Call::Rejudge);
+            (history.tables, history.model) = kept.clone();
+        }
+    }
+    println!("{} calls: {:?}", history.calls, history.tally);
+}
+
+#[test]
+fn many_records() {
+    let shape = Shape {
+        customers: 600,
+        routes: 60,
+        long_lists: 0,
+        long_paths: 2,
+        weights: [740, 20, 1, 80, 80, 60, 19],
+    };
+    histories(200, shape, &[8]);
+}
+
+#[test]
+fn long_lists() {
+    let shape = Shape {
+        customers: 12,
+        routes: 60,
+        long_lists: 60,
+        long_paths: 15,
+        weights: [300, 60, 4, 300, 150, 100, 86],
+    };
+    histories(300, shape, &[8]);
+}
+
+#[test]
+fn many_routes() {
+    let shape = Shape {
+        customers: 12,
+        routes: 700,
+        long_lists: 1,
+        long_paths: 1,
+        weights: [100, 30, 3, 80, 700, 30, 57],
+    };
+    histories(400, shape, &[20]);
+}
+
+#[test]
+fn long_paths() {
+    let shape = Shape {
+        customers: 12,
+        routes: 450,
+        long_lists: 10,
+        long_paths: 75,
+        weights: [150, 50, 5, 150, 450, 60, 135],
+    };
+    histories(500, shape, &[20]);
+}
