@@ -1,0 +1,35 @@
+-- `console::line::start` meets its contract. Assumes nothing.
+use borrow.Author.Needs.{needs}
+use Prim.Native.Nat.{_≤_, _-_}
+use lib.ListN.{length}
+use Rattle.console.proofs.line.start.Statement.{statement}
+use Rattle.console.proofs.line.start.Tie as tie
+
+abbrev Inv-loop : tie.InvT-loop
+Inv-loop line k from₀ left₀ from left = from ≤ length line
+
+abbrev μ-loop : tie.MeasureT-loop
+μ-loop line k from₀ left₀ from left = left
+
+loop-holds : tie.Need-loop-holds Inv-loop μ-loop
+loop-holds c = search needs
+
+next-requires : tie.Need-next-requires Inv-loop μ-loop
+next-requires c κs = search needs
+
+sub-left : tie.Need-sub-left Inv-loop μ-loop
+sub-left c = search needs
+
+loop-less : tie.Need-loop-less Inv-loop μ-loop
+loop-less c = search needs
+
+loop-again : tie.Need-loop-again Inv-loop μ-loop
+loop-again c = search needs
+
+returns : tie.Need-returns Inv-loop μ-loop
+returns c = search needs
+
+pub start-spec : {M : Type 1} → statement M
+start-spec =
+    tie.close
+    (tie.spec Inv-loop μ-loop loop-holds next-requires sub-left loop-less loop-again returns)

@@ -1,0 +1,5 @@
+pub mod Digits
+pub mod Pairs
+pub mod Words
+pub mod Spelling
+pub mod Signs

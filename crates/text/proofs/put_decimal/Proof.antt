@@ -1,0 +1,42 @@
+-- `text::put_decimal` meets its contract. Assumes nothing.
+use Rattle.text.proofs.Spelling.{written}
+use borrow.Author.Needs.{needs}
+use Rattle.text.proofs.put_decimal.Statement.{statement}
+use Rattle.text.proofs.put_decimal.Tie as tie
+
+slice-aggregate-spell : tie.Need-slice-aggregate-spell
+slice-aggregate-spell c = search needs
+
+spell-requires : tie.Need-spell-requires
+spell-requires c κs = search needs
+
+sub-put : tie.Need-sub-put
+sub-put c = search needs
+
+part-put-start : tie.Need-part-put-start
+part-put-start c = search needs
+
+part-put-end : tie.Need-part-put-end
+part-put-end c = search needs
+
+put-requires : tie.Need-put-requires
+put-requires c κs = search needs
+
+same-length : tie.Need-same-length
+same-length c = search needs
+
+returns : tie.Need-returns
+returns c = written (c .before .before .before .before .before .before .before .spell .last .1 .0) _ _ (c .before .before .before .before .before .before .before .spell .result) (c .before .before .before .before .before .before .before .before .before .before .args .n) (c .before .before .before .before .before .before .before .spell .kept .1 .0) (c .before .before .before .before .before .before .before .spell .ensures .1) (c .before .before .put .ensures)
+
+pub put-decimal-spec : {M : Type 1} → statement M
+put-decimal-spec =
+    tie.close
+    (tie.spec
+    slice-aggregate-spell
+    spell-requires
+    sub-put
+    part-put-start
+    part-put-end
+    put-requires
+    same-length
+    returns)
