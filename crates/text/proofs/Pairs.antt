@@ -1,13 +1,12 @@
 -- Bytes read two digits at a time: each turn of the loop, and each way out. Assumes nothing.
 use Prim.Native.Nat.{ℕ, suc, _+_, _-_, _*_, _≤_, _<_}
 use mathlib.Core.Path.{_≡_, refl, sym, ap, _∙_}
-use mathlib.Core.Bool.{Bool, true, false, cond}
+use mathlib.Core.Bool.{true, false}
 use mathlib.Core.List.{List, [], _∷_}
 use native.Mathlib.Omega.{arith}
 use native.Mathlib.Numerals.{add-one}
 use borrow.Author.Tests.{lt-ltb, le-ltb, eq-eqb, ne-eqb}
-use lib.Dec.{ltb}
-use lib.ListN.{length, getD, drop, set, length-set, length-drop}
+use lib.ListN.{length, getD, drop, set, length-set}
 use lib.Seq.{drop-cons, drop-length, sets}
 use Rattle.text.specs.declared.Bytes as bytes
 use Rattle.text.specs.declared.Bytes.the-variants.{Read, Bad}

@@ -1,6 +1,5 @@
 -- `console::end_line` meets its contract. Assumes nothing.
 use native.Mathlib.Omega.{arith}
-use mathlib.Core.Path.{ap, sym}
 use Rattle.console.proofs.Prefixes.{prefix}
 use borrow.Author.Needs.{needs}
 use Rattle.console.proofs.end_line.Statement.{statement}

@@ -1,106 +1,77 @@
+-- `console::commands::resize` meets its contract. Assumes nothing.
 use native.Mathlib.Omega.{arith}
 use mathlib.Core.Path.{ap}
 use Rattle.console.specs.States.{lengthCount}
 use borrow.Author.Needs.{needs}
 use Rattle.console.proofs.commands.resize.Statement.{statement}
 use Rattle.console.proofs.commands.resize.Tie as tie
-use Rattle.console.proofs.commands.resize.Reads as reads
-use Rattle.console.proofs.commands.resize.Lts as lts
-use Rattle.console.proofs.commands.length_read.Reads as length-read-reads
-use Rattle.console.proofs.commands.not_resized.Reads as not-resized-reads
-use Rattle.console.proofs.commands.resized.Reads as resized-reads
-use Rattle.console.proofs.commands.table_named.Reads as table-named-reads
-use Rattle.console.proofs.tables.resize.Reads as resize-reads
 
--- src/commands.rt:237:26
 length-read-requires : tie.Need-length-read-requires
 length-read-requires c κs = search needs
 
--- src/commands.rt:237:20
 enum-known-to : tie.Need-enum-known-to
 enum-known-to c = search needs
 
--- src/commands.rt:238:31
 enum-told : tie.Need-enum-told
 enum-told c = search needs
 
--- src/commands.rt:238:9
 not-resized-requires : tie.Need-not-resized-requires
 not-resized-requires c κs = search needs
 
--- src/commands.rt:238:9
 same-length : tie.Need-same-length
 same-length c = search needs
 
--- src/commands.rt:238:9
 returns : tie.Need-returns
 returns c = search needs
 
--- src/commands.rt:242:11
 table-named-requires : tie.Need-table-named-requires
 table-named-requires c κs = search needs
 
--- src/commands.rt:244:28
 enum-told-2 : tie.Need-enum-told-2
 enum-told-2 c = search needs
 
--- src/commands.rt:244:13
 resize-requires : tie.Need-resize-requires
 resize-requires c κs = search needs
 
--- src/commands.rt:245:13
 resized-requires : tie.Need-resized-requires
 resized-requires c κs = (omega (arith, ap lengthCount (c .before .before .before .before .before .before .before .before .before .to .given .1), c .before .before .before .before .before .before .before .before .before .before .before .length-read .ensures), search needs, search needs, search needs)
 
--- src/commands.rt:248:28
 enum-told-3 : tie.Need-enum-told-3
 enum-told-3 c = search needs
 
--- src/commands.rt:248:13
 resize-requires-2 : tie.Need-resize-requires-2
 resize-requires-2 c κs = search needs
 
--- src/commands.rt:249:13
 resized-requires-2 : tie.Need-resized-requires-2
 resized-requires-2 c κs = (search needs, omega (arith, ap lengthCount (c .before .before .before .before .before .before .before .before .before .to .given .1), c .before .before .before .before .before .before .before .before .before .before .before .length-read .ensures), search needs, search needs)
 
--- src/commands.rt:251:42
 enum-told-4 : tie.Need-enum-told-4
 enum-told-4 c = search needs
 
--- src/commands.rt:251:27
 not-resized-requires-2 : tie.Need-not-resized-requires-2
 not-resized-requires-2 c κs = search needs
 
--- src/commands.rt:226:1
 same-length-2 : tie.Need-same-length-2
 same-length-2 c = search needs
 
--- src/commands.rt:226:1
 same-length-3 : tie.Need-same-length-3
 same-length-3 c = search needs
 
--- src/commands.rt:226:1
 returns-2 : tie.Need-returns-2
 returns-2 c = search needs
 
--- src/commands.rt:226:1
 same-length-4 : tie.Need-same-length-4
 same-length-4 c = search needs
 
--- src/commands.rt:226:1
 same-length-5 : tie.Need-same-length-5
 same-length-5 c = search needs
 
--- src/commands.rt:226:1
 returns-3 : tie.Need-returns-3
 returns-3 c = search needs
 
--- src/commands.rt:226:1
 same-length-6 : tie.Need-same-length-6
 same-length-6 c = search needs
 
--- src/commands.rt:226:1
 returns-4 : tie.Need-returns-4
 returns-4 c = search needs
 

@@ -1,6 +1,6 @@
 -- `console::line::start` meets its contract. Assumes nothing.
 use borrow.Author.Needs.{needs}
-use Prim.Native.Nat.{_≤_, _-_}
+use Prim.Native.Nat.{_≤_}
 use lib.ListN.{length}
 use Rattle.console.proofs.line.start.Statement.{statement}
 use Rattle.console.proofs.line.start.Tie as tie

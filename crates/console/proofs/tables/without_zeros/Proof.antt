@@ -1,6 +1,6 @@
 -- `console::tables::without_zeros` meets its contract. Assumes nothing.
 use borrow.Author.Needs.{needs}
-use Prim.Native.Nat.{_≤_, _-_}
+use Prim.Native.Nat.{_≤_}
 use lib.ListN.{length}
 use Rattle.console.proofs.tables.without_zeros.Statement.{statement}
 use Rattle.console.proofs.tables.without_zeros.Tie as tie
