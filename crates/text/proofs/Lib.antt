@@ -3,3 +3,4 @@ pub mod Pairs
 pub mod Words
 pub mod Spelling
 pub mod Signs
+pub mod RoundTrips

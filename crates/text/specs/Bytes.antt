@@ -53,6 +53,14 @@ abbrev pub readCount : bytes.Bytes → ℕ
 readCount (Read n) = n
 readCount Bad = 0
 
+-- The bytes of a word that is read.
+abbrev pub bytesIn : List ℕ → List ℕ
+bytesIn word = cond (eqb (length word) 1) [] (pairs word)
+
+abbrev pub ifBytes : {A : Type 0} → bytes.Bytes → A → A → A
+ifBytes (Read n) a other = a
+ifBytes Bad a other = other
+
 unfoldable pub sameBytes : List ℕ → List ℕ → Bool
 sameBytes [] [] = true
 sameBytes [] (b ∷ bs) = false

@@ -48,3 +48,9 @@ magnitude (negsuc n) = n + 1
 abbrev pub signedOf : ℤ → List ℕ
 signedOf (pos n) = decimalOf n
 signedOf (negsuc n) = 45 ∷ decimalOf (n + 1)
+
+-- ---- what is made of a number that was read
+
+abbrev pub ifNumber : {A : Type 0} → Number → (ℕ → A) → A → A
+ifNumber (Is n) f other = f n
+ifNumber Bad f other = other

@@ -1,0 +1,100 @@
+-- The answers as the console writes them ("The console").
+use Prim.Native.Nat.{ℕ}
+use mathlib.Core.List.{List, [], _∷_, _++_}
+use Rattle.types.specs.declared.Answer.{Answer}
+use Rattle.types.specs.declared.Answer.the-variants.{Plain, WithGap}
+use Rattle.types.specs.declared.Cause.{Cause}
+use Rattle.types.specs.declared.Cause.the-variants.{ByGround, ByHops}
+use Rattle.types.specs.declared.Verdict.{Verdict}
+use Rattle.types.specs.declared.Verdict.the-variants.{Valid, Invalid, Unknown}
+use Rattle.types.specs.declared.Refusal.{Refusal}
+use Rattle.types.specs.declared.Refusal.the-variants.{TableLength, RegisterMalformed, RoutesMalformed, SourceNumber, CustomerZero, ProviderList, NoRecord, RegisterFull, RoleNumber, NeighbourZero, AttributeLength, Attribute, PathLength, RouteTaken, NoRoute, RoutesFull}
+use Rattle.types.specs.declared.Filed.{Filed}
+use Rattle.types.specs.declared.Filed.the-variants as filed
+use Rattle.types.specs.declared.Removal.{Removal}
+use Rattle.types.specs.declared.Removal.the-variants as removal
+use Rattle.types.specs.declared.Cleared.{Cleared}
+use Rattle.types.specs.declared.Cleared.the-variants as cleared
+use Rattle.types.specs.declared.Judged.{Judged}
+use Rattle.types.specs.declared.Judged.the-variants as judged
+use Rattle.types.specs.declared.Rejudged.{Rejudged}
+use Rattle.types.specs.declared.Rejudged.the-variants as rejudged
+use Rattle.types.specs.Numbers.{groundNumber, refusalNumber}
+use Rattle.text.specs.Ascii.{ascii}
+use Rattle.text.specs.Numbers.{decimalOf, signedOf}
+
+-- ---- verdicts
+
+abbrev pub placesText : ℕ → ℕ → List ℕ
+placesText a b = decimalOf a ++ (ascii " " ++ decimalOf b)
+
+abbrev pub causeText : Cause → List ℕ
+causeText (ByGround g) = ascii "Invalid ground " ++ decimalOf (groundNumber g)
+causeText (ByHops a b) = ascii "Invalid " ++ placesText a b
+
+abbrev pub verdictText : Verdict → List ℕ
+verdictText Valid = ascii "Valid"
+verdictText (Invalid c) = causeText c
+verdictText (Unknown a b) = ascii "Unknown " ++ placesText a b
+
+abbrev pub answerText : Answer → List ℕ
+answerText (Plain v) = verdictText v
+answerText (WithGap v g) = verdictText v ++ (ascii " gap " ++ signedOf g)
+
+-- ---- refusals: rows 12 to 16 have a place
+
+abbrev pub placeText : Refusal → List ℕ
+placeText TableLength = []
+placeText RegisterMalformed = []
+placeText RoutesMalformed = []
+placeText SourceNumber = []
+placeText CustomerZero = []
+placeText ProviderList = []
+placeText NoRecord = []
+placeText RegisterFull = []
+placeText RoleNumber = []
+placeText NeighbourZero = []
+placeText AttributeLength = []
+placeText (Attribute f p) = ascii " at " ++ decimalOf p
+placeText PathLength = []
+placeText RouteTaken = []
+placeText NoRoute = []
+placeText RoutesFull = []
+
+abbrev pub refusalText : Refusal → List ℕ
+refusalText r = (ascii "refused " ++ decimalOf (refusalNumber r)) ++ placeText r
+
+-- ---- the answers of the calls
+
+abbrev pub judgedText : Judged → List ℕ
+judgedText (judged.Answered a) = answerText a
+judgedText (judged.Refused r) = refusalText r
+
+abbrev pub filedText : Filed → List ℕ
+filedText filed.New = ascii "new"
+filedText filed.Replaced = ascii "replaced"
+filedText (filed.Refused r) = refusalText r
+
+abbrev pub removalText : Removal → List ℕ
+removalText removal.Done = ascii "done"
+removalText (removal.Refused r) = refusalText r
+
+abbrev pub clearedText : Cleared → List ℕ
+clearedText (cleared.Gone n) = ascii "cleared " ++ decimalOf n
+clearedText (cleared.Refused r) = refusalText r
+
+abbrev pub rejudgedText : Rejudged → List ℕ
+rejudgedText (rejudged.Changed n) = ascii "changed " ++ decimalOf n
+rejudgedText (rejudged.Refused r) = refusalText r
+
+-- ---- words of a table
+
+-- Each with a space before it.
+unfoldable pub eachText : List ℕ → List ℕ
+eachText [] = []
+eachText (x ∷ xs) = 32 ∷ (decimalOf x ++ eachText xs)
+
+-- Separated by spaces.
+abbrev pub spacedText : List ℕ → List ℕ
+spacedText [] = []
+spacedText (x ∷ xs) = decimalOf x ++ eachText xs

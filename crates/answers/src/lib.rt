@@ -1,0 +1,152 @@
+// Answers as text: each goes into a buffer from index at on, and the index after it is the result.
+use types::Answer;
+use types::Cause;
+use types::Cleared;
+use types::Filed;
+use types::Judged;
+use types::Refusal;
+use types::Rejudged;
+use types::Removal;
+use types::Verdict;
+ghost use mathlib.Core.Path.{_≡_};
+ghost use mathlib.Core.List.{_++_};
+ghost use Prim.Native.Nat.{_+_, _*_, _≤_};
+ghost use lib.ListN.{length};
+ghost use lib.Seq.{sets};
+ghost use Rattle.text.specs.Numbers.{decimalOf};
+ghost use Rattle.answers.specs.Texts.{placesText, causeText, verdictText, answerText, refusalText, judgedText, filedText, removalText, clearedText, rejudgedText, eachText};
+
+// A word and the number after it.
+fn put_with(out: &mut [u8], at: usize, word: &[u8], n: u64) -> usize
+    requires { ⌜ at + length (now word) + 20 ≤ length (now out) ⌝ }
+    ensures { λ r. ⌜ (r ≡ at + length (now (word .entry) ++ decimalOf n)) × (now (out .exit) ≡ sets (now (out .entry)) at (now (word .entry) ++ decimalOf n)) × (r ≤ at + length (now (word .entry)) + 20) ⌝ }
+{
+    let next = text::put(word, out, at);
+    text::put_decimal(n, out, next)
+}
+
+// A word and the two places after it.
+fn put_places(out: &mut [u8], at: usize, word: &[u8], a: u32, b: u32) -> usize
+    requires { ⌜ at + length (now word) + 41 ≤ length (now out) ⌝ }
+    ensures { λ r. ⌜ (r ≡ at + length (now (word .entry) ++ placesText a b)) × (now (out .exit) ≡ sets (now (out .entry)) at (now (word .entry) ++ placesText a b)) × (r ≤ at + length (now (word .entry)) + 41) ⌝ }
+{
+    let next = put_with(out, at, word, a as u64);
+    put_with(out, next, b" ", b as u64)
+}
+
+fn put_cause(out: &mut [u8], at: usize, cause: Cause) -> usize
+    requires { ⌜ at + 64 ≤ length (now out) ⌝ }
+    ensures { λ r. ⌜ (r ≡ at + length (causeText cause)) × (now (out .exit) ≡ sets (now (out .entry)) at (causeText cause)) × (r ≤ at + 64) ⌝ }
+{
+    match cause {
+        Cause::ByGround(g) => put_with(out, at, b"Invalid ground ", g.number() as u64),
+        Cause::ByHops(a, b) => put_places(out, at, b"Invalid ", a, b),
+    }
+}
+
+fn put_verdict(out: &mut [u8], at: usize, verdict: Verdict) -> usize
+    requires { ⌜ at + 64 ≤ length (now out) ⌝ }
+    ensures { λ r. ⌜ (r ≡ at + length (verdictText verdict)) × (now (out .exit) ≡ sets (now (out .entry)) at (verdictText verdict)) × (r ≤ at + 64) ⌝ }
+{
+    match verdict {
+        Verdict::Valid => text::put(b"Valid", out, at),
+        Verdict::Invalid(c) => put_cause(out, at, c),
+        Verdict::Unknown(a, b) => put_places(out, at, b"Unknown ", a, b),
+    }
+}
+
+fn put_answer(out: &mut [u8], at: usize, answer: Answer) -> usize
+    requires { ⌜ at + 128 ≤ length (now out) ⌝ }
+    ensures { λ r. ⌜ (r ≡ at + length (answerText answer)) × (now (out .exit) ≡ sets (now (out .entry)) at (answerText answer)) × (r ≤ at + 128) ⌝ }
+{
+    match answer {
+        Answer::Plain(v) => put_verdict(out, at, v),
+        Answer::WithGap(v, gap) => {
+            let next = put_verdict(out, at, v);
+            let last = text::put(b" gap ", out, next);
+            text::put_signed(gap, out, last)
+        }
+    }
+}
+
+fn put_refusal(out: &mut [u8], at: usize, refusal: Refusal) -> usize
+    requires { ⌜ at + 128 ≤ length (now out) ⌝ }
+    ensures { λ r. ⌜ (r ≡ at + length (refusalText refusal)) × (now (out .exit) ≡ sets (now (out .entry)) at (refusalText refusal)) × (r ≤ at + 128) ⌝ }
+{
+    let next = put_with(out, at, b"refused ", refusal.number() as u64);
+    let Refusal::Attribute(_, place) = refusal else {
+        return next;
+    };
+    put_with(out, next, b" at ", place as u64)
+}
+
+pub fn put_judged(out: &mut [u8], at: usize, judged: Judged) -> usize
+    requires { ⌜ at + 128 ≤ length (now out) ⌝ }
+    ensures { λ r. ⌜ (r ≡ at + length (judgedText judged)) × (now (out .exit) ≡ sets (now (out .entry)) at (judgedText judged)) × (r ≤ at + 128) ⌝ }
+{
+    match judged {
+        Judged::Answered(a) => put_answer(out, at, a),
+        Judged::Refused(r) => put_refusal(out, at, r),
+    }
+}
+
+pub fn put_filed(out: &mut [u8], at: usize, filed: Filed) -> usize
+    requires { ⌜ at + 128 ≤ length (now out) ⌝ }
+    ensures { λ r. ⌜ (r ≡ at + length (filedText filed)) × (now (out .exit) ≡ sets (now (out .entry)) at (filedText filed)) × (r ≤ at + 128) ⌝ }
+{
+    match filed {
+        Filed::New => text::put(b"new", out, at),
+        Filed::Replaced => text::put(b"replaced", out, at),
+        Filed::Refused(r) => put_refusal(out, at, r),
+    }
+}
+
+pub fn put_removal(out: &mut [u8], at: usize, removal: Removal) -> usize
+    requires { ⌜ at + 128 ≤ length (now out) ⌝ }
+    ensures { λ r. ⌜ (r ≡ at + length (removalText removal)) × (now (out .exit) ≡ sets (now (out .entry)) at (removalText removal)) × (r ≤ at + 128) ⌝ }
+{
+    match removal {
+        Removal::Done => text::put(b"done", out, at),
+        Removal::Refused(r) => put_refusal(out, at, r),
+    }
+}
+
+pub fn put_cleared(out: &mut [u8], at: usize, cleared: Cleared) -> usize
+    requires { ⌜ at + 128 ≤ length (now out) ⌝ }
+    ensures { λ r. ⌜ (r ≡ at + length (clearedText cleared)) × (now (out .exit) ≡ sets (now (out .entry)) at (clearedText cleared)) × (r ≤ at + 128) ⌝ }
+{
+    match cleared {
+        Cleared::Gone(n) => put_with(out, at, b"cleared ", n as u64),
+        Cleared::Refused(r) => put_refusal(out, at, r),
+    }
+}
+
+pub fn put_rejudged(out: &mut [u8], at: usize, rejudged: Rejudged) -> usize
+    requires { ⌜ at + 128 ≤ length (now out) ⌝ }
+    ensures { λ r. ⌜ (r ≡ at + length (rejudgedText rejudged)) × (now (out .exit) ≡ sets (now (out .entry)) at (rejudgedText rejudged)) × (r ≤ at + 128) ⌝ }
+{
+    match rejudged {
+        Rejudged::Changed(n) => put_with(out, at, b"changed ", n as u64),
+        Rejudged::Refused(r) => put_refusal(out, at, r),
+    }
+}
+
+fn wide(x: u32) -> u64
+    ensures { λ r. ⌜ r ≡ x ⌝ }
+{
+    x as u64
+}
+
+// Words of a table, a space before each.
+pub fn put_each(out: &mut [u8], at: usize, words: &[u32]) -> usize
+    requires { ⌜ at + 21 * length (now words) ≤ length (now out) ⌝ }
+    ensures { λ r. ⌜ (r ≡ at + length (eachText (now (words .entry)))) × (now (out .exit) ≡ sets (now (out .entry)) at (eachText (now (words .entry)))) × (r ≤ at + 21 * length (now (words .entry))) ⌝ }
+{
+    let mut next = at;
+    let mut i = 0;
+    while i < words.len() {
+        next = put_with(out, next, b" ", wide(words[i]));
+        i += 1;
+    }
+    next
+}
