@@ -1,0 +1,63 @@
+-- Bytes added to a line. Assumes nothing.
+use Prim.Native.Nat.{ℕ, _+_, _-_, _≤_, _<_}
+use mathlib.Core.Path.{_≡_, refl, sym, ap, _∙_}
+use mathlib.Core.List.{List, _++_}
+use mathlib.Core.Option.{Option, none, some}
+use native.Mathlib.Omega.{arith}
+use borrow.Author.Tests.{lt-ltb, le-ltb}
+use lib.ListN.{length, take, drop, length-append}
+use lib.Seq.{sets, sets-eq, length-take-le, take-at}
+use Rattle.protocol.specs.Feeding.{mostBytes, joined, commandIn, lineIn, lineStored}
+use Rattle.lines.specs.Words.{wordsOf}
+use Rattle.protocol.specs.Commands.{bad, commandOf}
+
+pub line-too-long : (n : ℕ) (line : List ℕ) → mostBytes < n → lineIn n line ≡ none
+unfolding lineIn
+line-too-long n line h = rw (lt-ltb mostBytes n h) refl
+
+pub line-is : (n : ℕ) (line : List ℕ) → n ≤ mostBytes → lineIn n line ≡ some (take n line)
+unfolding lineIn
+line-is n line h = rw (le-ltb mostBytes n h) refl
+
+stays : (n : ℕ) (line part : List ℕ) → mostBytes < n + length part → line ≡ lineStored n line part
+unfolding lineStored
+stays n line part h = rw (lt-ltb mostBytes (n + length part) h) refl
+
+module _ (n : ℕ) (line part : List ℕ) (size : length line ≡ mostBytes) where
+  pub joins-none : length line < n → (lineIn n line ≡ joined (lineIn n line) part) × (line ≡ lineStored n line part)
+  unfolding joined
+  joins-none h =
+      let e : lineIn n line ≡ none = line-too-long n line (omega arith) in
+      (rw e refl, stays n line part (omega arith))
+
+  pub joins-too-long : n ≤ length line → length line - n < length part
+      → (lineIn (length line + 1) line ≡ joined (lineIn n line) part) × (line ≡ lineStored n line part)
+  unfolding joined
+  joins-too-long l h =
+      let e : lineIn (length line + 1) line ≡ none = line-too-long (length line + 1) line (omega arith) in
+      let f : lineIn n line ≡ some (take n line) = line-is n line (omega arith) in
+      let g : mostBytes < length (take n line) + length part = omega (arith, length-take-le n line l) in
+      (rw (e, f, lt-ltb mostBytes (length (take n line) + length part) g) refl, stays n line part (omega arith))
+
+  pub joins : {r : ℕ} {line' : List ℕ} → n ≤ length line → length part ≤ length line - n → r ≡ n + length part → line' ≡ sets line n part
+      → (lineIn r line' ≡ joined (lineIn n line) part) × (line' ≡ lineStored n line part)
+  unfolding joined lineStored
+  joins {r = r} {line' = line'} l h e f =
+      let k : length (take n line) ≡ n = length-take-le n line l in
+      let g : length (take n line) + length part ≤ mostBytes = omega arith in
+      let taken : take r line' ≡ take n line ++ part =
+      ap (take r) (f ∙ sets-eq part line n (omega arith)) ∙ take-at (take n line ++ part) (drop (n + length part) line) r (omega (arith, length-append (take n line) part)) in (
+        line-is r line' (omega arith) ∙ ap some taken
+            ∙ sym (rw (line-is n line (omega arith), le-ltb mostBytes (length (take n line) + length part) g) refl),
+        f ∙ sym (rw (le-ltb mostBytes (n + length part) (omega arith)) refl),
+      )
+
+-- ---- the command of a line
+
+pub command-too-long : (n : ℕ) (line : List ℕ) → mostBytes < n → commandIn (lineIn n line) ≡ bad
+unfolding commandIn
+command-too-long n line h = rw (line-too-long n line h) refl
+
+pub command-is : (n : ℕ) (line : List ℕ) → n ≤ mostBytes → commandIn (lineIn n line) ≡ commandOf (wordsOf (take n line))
+unfolding commandIn
+command-is n line h = rw (line-is n line h) refl

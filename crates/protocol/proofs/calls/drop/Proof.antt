@@ -1,0 +1,47 @@
+-- `protocol::calls::drop` meets its contract. Assumes nothing.
+use mathlib.Core.Path.{refl, sym, ap, _∙_}
+use Rattle.protocol.proofs.Parsing.{other-count, right-count, number-is, no-number, does, does-nothing}
+use Rattle.protocol.specs.declared.Reply.the-variants as reply
+use Rattle.protocol.specs.Replies.{outcome}
+use borrow.Author.Needs.{needs}
+use Rattle.protocol.proofs.calls.drop.Statement.{statement}
+use Rattle.protocol.proofs.calls.drop.Tie as tie
+use Rattle.filter.proofs.drop.Reads as drop-reads
+use Rattle.lines.proofs.number.Reads as number-reads
+
+returns : tie.Need-returns
+returns c = does-nothing (c .before .before .before .before .args .reg .now) (c .before .before .before .before .args .led .now) _ (other-count _ 2 _ (λ e. c .if1 .taken (c .before .before .before .before .pre ∙ e)))
+
+number-requires : tie.Need-number-requires
+number-requires c κs = search needs
+
+enum-known-number : tie.Need-enum-known-number
+enum-known-number c = search needs
+
+enum-told : tie.Need-enum-told
+enum-told c = search needs
+
+returns-2 : tie.Need-returns-2
+returns-2 c = does-nothing (c .before .before .before .before .before .before .before .args .reg .now) (c .before .before .before .before .before .before .before .args .led .now) _ (right-count _ 2 _ (sym (c .before .before .before .before .before .before .before .pre) ∙ c .before .before .before .if1 .left) ∙ no-number _ 1 _ (sym (c .before .before .number .ensures) ∙ c .enum-told .given .1))
+
+drop-requires : tie.Need-drop-requires
+drop-requires c κs = search needs
+
+same-length : tie.Need-same-length
+same-length c = search needs
+
+returns-3 : tie.Need-returns-3
+returns-3 c = does (c .before .before .before .before .before .before .before .before .before .before .before .before .args .reg .now) (c .before .before .before .before .before .before .before .before .before .before .before .before .args .led .now) _ (right-count _ 2 _ (sym (c .before .before .before .before .before .before .before .before .before .before .before .before .pre) ∙ c .before .before .before .before .before .before .before .before .if1 .left) ∙ number-is _ 1 _ (sym (c .before .before .before .before .before .before .before .number .ensures) ∙ c .before .before .before .before .before .number2 .given .1)) (λ i. outcome (reply.Removed (c .before .before .drop .ensures .0 i)) (c .before .before .before .before .before .before .before .before .before .before .before .before .args .reg .now) (c .before .before .drop .ensures .1 i))
+
+pub drop-spec : {M : Type 1} → statement M
+drop-spec =
+    tie.close
+    (tie.spec
+    returns
+    number-requires
+    enum-known-number
+    enum-told
+    returns-2
+    drop-requires
+    same-length
+    returns-3)

@@ -1,0 +1,95 @@
+-- `protocol::calls::file` meets its contract. Assumes nothing.
+use borrow.Author.Needs.{needs}
+use mathlib.Core.Path.{sym, ap, _∙_}
+use native.Mathlib.Omega.{arith}
+use lib.Seq.{length-take-le}
+use Rattle.lines.specs.Words.{wordsOf, listCount}
+use Rattle.lines.proofs.Readings.{read-none}
+use Rattle.protocol.proofs.Parsing.{too-few, enough-words, number-is, no-number, no-numbers, does-nothing, files}
+use Rattle.protocol.proofs.calls.file.Statement.{statement}
+use Rattle.protocol.proofs.calls.file.Tie as tie
+
+returns : tie.Need-returns
+returns c = does-nothing (c .before .before .before .before .args .reg .now) (c .before .before .before .before .args .led .now) _ (too-few (wordsOf (c .before .before .before .before .args .line .now)) _ (omega (arith, c .before .before .before .before .pre .1, c .if1 .taken)))
+
+number-requires : tie.Need-number-requires
+number-requires c κs = search needs
+
+enum-known-source : tie.Need-enum-known-source
+enum-known-source c = search needs
+
+enum-told : tie.Need-enum-told
+enum-told c = search needs
+
+returns-2 : tie.Need-returns-2
+returns-2 c = does-nothing (c .before .before .before .before .before .before .before .args .reg .now) (c .before .before .before .before .before .before .before .args .led .now) _ (enough-words (wordsOf (c .before .before .before .before .before .before .before .args .line .now)) _ (omega (arith, c .before .before .before .before .before .before .before .pre .1, c .before .before .before .if1 .left)) ∙ no-number _ 1 _ (sym (c .before .before .number .ensures) ∙ c .enum-told .given .1))
+
+number-requires-2 : tie.Need-number-requires-2
+number-requires-2 c κs = search needs
+
+enum-known-customer : tie.Need-enum-known-customer
+enum-known-customer c = search needs
+
+enum-told-2 : tie.Need-enum-told-2
+enum-told-2 c = search needs
+
+returns-3 : tie.Need-returns-3
+returns-3 c = does-nothing (c .before .before .before .before .before .before .before .before .before .before .before .args .reg .now) (c .before .before .before .before .before .before .before .before .before .before .before .args .led .now) _ (enough-words (wordsOf (c .before .before .before .before .before .before .before .before .before .before .before .args .line .now)) _ (omega (arith, c .before .before .before .before .before .before .before .before .before .before .before .pre .1, c .before .before .before .before .before .before .before .if1 .left)) ∙ number-is _ 1 _ (sym (c .before .before .before .before .before .before .number .ensures) ∙ c .before .before .before .before .source .given .1) ∙ no-number _ 2 _ (sym (c .before .before .number2 .ensures) ∙ c .enum-told2 .given .1))
+
+no-numbers-requires : tie.Need-no-numbers-requires
+no-numbers-requires c κs = search needs
+
+slice-aggregate-numbers : tie.Need-slice-aggregate-numbers
+slice-aggregate-numbers c = search needs
+
+numbers-requires : tie.Need-numbers-requires
+numbers-requires c κs = search needs
+
+enum-known-k : tie.Need-enum-known-k
+enum-known-k c = search needs
+
+enum-told-3 : tie.Need-enum-told-3
+enum-told-3 c = search needs
+
+returns-4 : tie.Need-returns-4
+returns-4 c = does-nothing (c .before .before .before .before .before .before .before .before .before .before .before .before .before .before .before .before .before .before .args .reg .now) (c .before .before .before .before .before .before .before .before .before .before .before .before .before .before .before .before .before .before .args .led .now) _ (enough-words (wordsOf (c .before .before .before .before .before .before .before .before .before .before .before .before .before .before .before .before .before .before .args .line .now)) _ (omega (arith, c .before .before .before .before .before .before .before .before .before .before .before .before .before .before .before .before .before .before .pre .1, c .before .before .before .before .before .before .before .before .before .before .before .before .before .before .if1 .left)) ∙ number-is _ 1 _ (sym (c .before .before .before .before .before .before .before .before .before .before .before .before .before .number .ensures) ∙ c .before .before .before .before .before .before .before .before .before .before .before .source .given .1) ∙ number-is _ 2 _ (sym (c .before .before .before .before .before .before .before .before .before .number2 .ensures) ∙ c .before .before .before .before .before .before .before .customer .given .1) ∙ no-numbers (wordsOf (c .before .before .before .before .before .before .before .before .before .before .before .before .before .before .before .before .before .before .args .line .now)) 3 _ (read-none _ (sym (c .before .before .before .numbers .ensures .0) ∙ c .enum-told3 .given .1)))
+
+array-share-prefix-providers : tie.Need-array-share-prefix-providers
+array-share-prefix-providers c = omega (arith, ap listCount (c .before .before .k .given .1), c .before .before .before .before .before .numbers .ensures .2, c .before .before .before .before .before .numbers .kept .1 .1 .0)
+
+slice-aggregate-file : tie.Need-slice-aggregate-file
+slice-aggregate-file c = sym (length-take-le _ _ (omega (arith, ap listCount (c .before .before .before .k .given .1), c .before .before .before .before .before .before .numbers .ensures .2, c .before .before .before .before .before .before .numbers .kept .1 .1 .0)))
+
+file-requires : tie.Need-file-requires
+file-requires c κs = search needs
+
+same-length : tie.Need-same-length
+same-length c = search needs
+
+returns-5 : tie.Need-returns-5
+returns-5 c = files (c .before .before .before .before .before .before .before .before .before .before .before .before .before .before .before .before .before .before .before .before .before .before .before .before .args .reg .now) (c .before .before .before .before .before .before .before .before .before .before .before .before .before .before .before .before .before .before .before .before .before .before .before .before .args .led .now) (wordsOf (c .before .before .before .before .before .before .before .before .before .before .before .before .before .before .before .before .before .before .before .before .before .before .before .before .args .line .now)) (c .before .before .before .before .before .before .before .before .before .before .before .no-numbers .result) (omega (arith, c .before .before .before .before .before .before .before .before .before .before .before .before .before .before .before .before .before .before .before .before .before .before .before .before .pre .1, c .before .before .before .before .before .before .before .before .before .before .before .before .before .before .before .before .before .before .before .before .if1 .left)) (sym (c .before .before .before .before .before .before .before .before .before .before .before .before .before .before .before .before .before .before .before .number .ensures) ∙ c .before .before .before .before .before .before .before .before .before .before .before .before .before .before .before .before .before .source .given .1) (sym (c .before .before .before .before .before .before .before .before .before .before .before .before .before .before .before .number2 .ensures) ∙ c .before .before .before .before .before .before .before .before .before .before .before .before .before .customer .given .1) (c .before .before .before .before .before .before .before .before .before .numbers .ensures .0) (c .before .before .before .before .before .before .before .before .before .numbers .ensures .1) (c .before .before .before .before .before .before .before .before .before .numbers .ensures .2) (c .before .before .before .before .before .before .k .given .1) (c .before .before .file .ensures .0) (c .before .before .file .ensures .1)
+
+pub file-spec : {M : Type 1} → statement M
+file-spec =
+    tie.close
+    (tie.spec
+    returns
+    number-requires
+    enum-known-source
+    enum-told
+    returns-2
+    number-requires-2
+    enum-known-customer
+    enum-told-2
+    returns-3
+    no-numbers-requires
+    slice-aggregate-numbers
+    numbers-requires
+    enum-known-k
+    enum-told-3
+    returns-4
+    array-share-prefix-providers
+    slice-aggregate-file
+    file-requires
+    same-length
+    returns-5)

@@ -1,0 +1,27 @@
+-- `protocol::calls::rejudge` meets its contract. Assumes nothing.
+use mathlib.Core.Path.{refl, sym, ap, _∙_}
+use Rattle.protocol.proofs.Parsing.{other-count, right-count, does, does-nothing}
+use Rattle.protocol.specs.declared.Reply.the-variants as reply
+use Rattle.protocol.specs.Replies.{outcome}
+use borrow.Author.Needs.{needs}
+use Rattle.protocol.proofs.calls.rejudge.Statement.{statement}
+use Rattle.protocol.proofs.calls.rejudge.Tie as tie
+use Rattle.filter.proofs.rejudge.Reads as rejudge-reads
+
+returns : tie.Need-returns
+returns c = does-nothing (c .before .before .before .before .args .reg .now) (c .before .before .before .before .args .led .now) _ (other-count _ 1 _ (λ e. c .if1 .taken (c .before .before .before .before .pre ∙ e)))
+
+rejudge-requires : tie.Need-rejudge-requires
+rejudge-requires c κs = search needs
+
+same-length : tie.Need-same-length
+same-length c = search needs
+
+same-length-2 : tie.Need-same-length-2
+same-length-2 c = search needs
+
+returns-2 : tie.Need-returns-2
+returns-2 c = does (c .before .before .before .before .before .before .before .before .before .args .reg .now) (c .before .before .before .before .before .before .before .before .before .args .led .now) _ (right-count _ 1 _ (sym (c .before .before .before .before .before .before .before .before .before .pre) ∙ c .before .before .before .before .before .if1 .left)) (λ i. outcome (reply.Rejudged (c .before .before .rejudge .ensures .0 i)) (c .before .before .before .before .before .before .before .before .before .args .reg .now) (c .before .before .rejudge .ensures .1 i))
+
+pub rejudge-spec : {M : Type 1} → statement M
+rejudge-spec = tie.close (tie.spec returns rejudge-requires same-length same-length-2 returns-2)

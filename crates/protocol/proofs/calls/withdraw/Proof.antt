@@ -1,0 +1,63 @@
+-- `protocol::calls::withdraw` meets its contract. Assumes nothing.
+use mathlib.Core.Path.{refl, sym, ap, _∙_}
+use Rattle.protocol.proofs.Parsing.{other-count, right-count, number-is, no-number, does, does-nothing}
+use Rattle.protocol.specs.declared.Reply.the-variants as reply
+use Rattle.protocol.specs.Replies.{outcome}
+use borrow.Author.Needs.{needs}
+use Rattle.protocol.proofs.calls.withdraw.Statement.{statement}
+use Rattle.protocol.proofs.calls.withdraw.Tie as tie
+use Rattle.filter.proofs.withdraw.Reads as withdraw-reads
+use Rattle.lines.proofs.number.Reads as number-reads
+
+returns : tie.Need-returns
+returns c = does-nothing (c .before .before .before .before .args .reg .now) (c .before .before .before .before .args .led .now) _ (other-count _ 3 _ (λ e. c .if1 .taken (c .before .before .before .before .pre ∙ e)))
+
+number-requires : tie.Need-number-requires
+number-requires c κs = search needs
+
+enum-known-source : tie.Need-enum-known-source
+enum-known-source c = search needs
+
+enum-told : tie.Need-enum-told
+enum-told c = search needs
+
+returns-2 : tie.Need-returns-2
+returns-2 c = does-nothing (c .before .before .before .before .before .before .before .args .reg .now) (c .before .before .before .before .before .before .before .args .led .now) _ (right-count _ 3 _ (sym (c .before .before .before .before .before .before .before .pre) ∙ c .before .before .before .if1 .left) ∙ no-number _ 1 _ (sym (c .before .before .number .ensures) ∙ c .enum-told .given .1))
+
+number-requires-2 : tie.Need-number-requires-2
+number-requires-2 c κs = search needs
+
+enum-known-customer : tie.Need-enum-known-customer
+enum-known-customer c = search needs
+
+enum-told-2 : tie.Need-enum-told-2
+enum-told-2 c = search needs
+
+returns-3 : tie.Need-returns-3
+returns-3 c = does-nothing (c .before .before .before .before .before .before .before .before .before .before .before .args .reg .now) (c .before .before .before .before .before .before .before .before .before .before .before .args .led .now) _ (right-count _ 3 _ (sym (c .before .before .before .before .before .before .before .before .before .before .before .pre) ∙ c .before .before .before .before .before .before .before .if1 .left) ∙ number-is _ 1 _ (sym (c .before .before .before .before .before .before .number .ensures) ∙ c .before .before .before .before .source .given .1) ∙ no-number _ 2 _ (sym (c .before .before .number2 .ensures) ∙ c .enum-told2 .given .1))
+
+withdraw-requires : tie.Need-withdraw-requires
+withdraw-requires c κs = search needs
+
+same-length : tie.Need-same-length
+same-length c = search needs
+
+returns-4 : tie.Need-returns-4
+returns-4 c = does (c .before .before .before .before .before .before .before .before .before .before .before .before .before .before .before .before .args .reg .now) (c .before .before .before .before .before .before .before .before .before .before .before .before .before .before .before .before .args .led .now) _ (right-count _ 3 _ (sym (c .before .before .before .before .before .before .before .before .before .before .before .before .before .before .before .before .pre) ∙ c .before .before .before .before .before .before .before .before .before .before .before .before .if1 .left) ∙ number-is _ 1 _ (sym (c .before .before .before .before .before .before .before .before .before .before .before .number .ensures) ∙ c .before .before .before .before .before .before .before .before .before .source .given .1) ∙ number-is _ 2 _ (sym (c .before .before .before .before .before .before .before .number2 .ensures) ∙ c .before .before .before .before .before .customer .given .1)) (λ i. outcome (reply.Removed (c .before .before .withdraw .ensures .0 i)) (c .before .before .withdraw .ensures .1 i) (c .before .before .before .before .before .before .before .before .before .before .before .before .before .before .before .before .args .led .now))
+
+pub withdraw-spec : {M : Type 1} → statement M
+withdraw-spec =
+    tie.close
+    (tie.spec
+    returns
+    number-requires
+    enum-known-source
+    enum-told
+    returns-2
+    number-requires-2
+    enum-known-customer
+    enum-told-2
+    returns-3
+    withdraw-requires
+    same-length
+    returns-4)

@@ -1,0 +1,81 @@
+-- `protocol::commands::look` meets its contract. Assumes nothing.
+use mathlib.Core.Path.{sym, _∙_}
+use Rattle.lines.specs.Words.{wordsOf}
+use Rattle.protocol.proofs.Parsing.{does}
+use Rattle.protocol.proofs.Choosing.{is-poke, is-words, is-show}
+use borrow.Author.Needs.{needs}
+use Rattle.protocol.proofs.commands.look.Statement.{statement}
+use Rattle.protocol.proofs.commands.look.Tie as tie
+use Rattle.lines.proofs.is_word.Reads as is-word-reads
+use Rattle.protocol.proofs.commands.poke.Reads as poke-reads
+use Rattle.protocol.proofs.commands.show.Reads as show-reads
+use Rattle.protocol.proofs.commands.words.Reads as words-reads
+
+slice-aggregate-is-word : tie.Need-slice-aggregate-is-word
+slice-aggregate-is-word c = search needs
+
+is-word-requires : tie.Need-is-word-requires
+is-word-requires c κs = search needs
+
+poke-requires : tie.Need-poke-requires
+poke-requires c κs = search needs
+
+same-length : tie.Need-same-length
+same-length c = search needs
+
+same-length-2 : tie.Need-same-length-2
+same-length-2 c = search needs
+
+returns : tie.Need-returns
+returns c = does (c .before .before .before .before .before .before .before .before .before .before .before .before .before .args .reg .now) (c .before .before .before .before .before .before .before .before .before .before .before .before .before .args .led .now) _ (is-poke (wordsOf (c .before .before .before .before .before .before .before .before .before .before .before .before .before .args .line .now)) (sym (c .before .before .before .before .before .before .before .before .is-word .ensures) ∙ c .before .before .before .before .before .before .before .if1 .taken)) (c .before .before .before .before .poke .ensures)
+
+slice-aggregate-is-word-2 : tie.Need-slice-aggregate-is-word-2
+slice-aggregate-is-word-2 c = search needs
+
+is-word-requires-2 : tie.Need-is-word-requires-2
+is-word-requires-2 c κs = search needs
+
+words-requires : tie.Need-words-requires
+words-requires c κs = search needs
+
+same-length-3 : tie.Need-same-length-3
+same-length-3 c = search needs
+
+same-length-4 : tie.Need-same-length-4
+same-length-4 c = search needs
+
+returns-2 : tie.Need-returns-2
+returns-2 c = does (c .before .before .before .before .before .before .before .before .before .before .before .before .before .before .before .before .args .reg .now) (c .before .before .before .before .before .before .before .before .before .before .before .before .before .before .before .before .args .led .now) _ (is-words (wordsOf (c .before .before .before .before .before .before .before .before .before .before .before .before .before .before .before .before .args .line .now)) (sym (c .before .before .before .before .before .before .before .before .before .before .before .is-word .ensures) ∙ c .before .before .before .before .before .before .before .before .before .before .if1 .left) (sym (c .before .before .before .before .before .before .before .before .is-word2 .ensures) ∙ c .before .before .before .before .before .before .before .if2 .taken)) (c .before .before .before .before .words .ensures)
+
+show-requires : tie.Need-show-requires
+show-requires c κs = search needs
+
+same-length-5 : tie.Need-same-length-5
+same-length-5 c = search needs
+
+same-length-6 : tie.Need-same-length-6
+same-length-6 c = search needs
+
+returns-3 : tie.Need-returns-3
+returns-3 c = does (c .before .before .before .before .before .before .before .before .before .before .before .before .before .before .before .before .args .reg .now) (c .before .before .before .before .before .before .before .before .before .before .before .before .before .before .before .before .args .led .now) _ (is-show (wordsOf (c .before .before .before .before .before .before .before .before .before .before .before .before .before .before .before .before .args .line .now)) (sym (c .before .before .before .before .before .before .before .before .before .before .before .is-word .ensures) ∙ c .before .before .before .before .before .before .before .before .before .before .if1 .left) (sym (c .before .before .before .before .before .before .before .before .is-word2 .ensures) ∙ c .before .before .before .before .before .before .before .if2 .left)) (c .before .before .before .before .show .ensures)
+
+pub look-spec : {M : Type 1} → statement M
+look-spec =
+    tie.close
+    (tie.spec
+    slice-aggregate-is-word
+    is-word-requires
+    poke-requires
+    same-length
+    same-length-2
+    returns
+    slice-aggregate-is-word-2
+    is-word-requires-2
+    words-requires
+    same-length-3
+    same-length-4
+    returns-2
+    show-requires
+    same-length-5
+    same-length-6
+    returns-3)

@@ -1,0 +1,63 @@
+-- `protocol::end_line` meets its contract. Assumes nothing.
+use borrow.Author.Needs.{needs}
+use mathlib.Core.Path.{refl, ap}
+use native.Mathlib.Omega.{arith}
+use Rattle.protocol.specs.Replies.{Outcome}
+use Rattle.protocol.specs.Feeding.{commandIn, lentTables, lineIn}
+use Rattle.protocol.proofs.Feedings.{answers}
+use Rattle.protocol.proofs.Holding.{lent-length, lent-within}
+use Rattle.protocol.proofs.end_line.Statement.{statement}
+use Rattle.protocol.proofs.end_line.Tie as tie
+
+perform-line-requires : tie.Need-perform-line-requires
+perform-line-requires c κs = search needs
+
+slice-reshare-prefix-put : tie.Need-slice-reshare-prefix-put
+slice-reshare-prefix-put c = search needs
+
+slice-aggregate-put : tie.Need-slice-aggregate-put
+slice-aggregate-put c = lent-length (c .before .before .before .before .before .before .before .perform-line .ensures .1 .register-held)
+
+slice-reshare-prefix-put-2 : tie.Need-slice-reshare-prefix-put-2
+slice-reshare-prefix-put-2 c = search needs
+
+slice-aggregate-put-2 : tie.Need-slice-aggregate-put-2
+slice-aggregate-put-2 c = lent-length (c .before .before .before .before .before .before .before .before .perform-line .ensures .1 .ledger-held)
+
+put-requires : tie.Need-put-requires
+put-requires c κs = (lent-within (c .before .before .before .before .before .before .before .before .perform-line .ensures .1 .register-held), lent-within (c .before .before .before .before .before .before .before .before .perform-line .ensures .1 .ledger-held), omega (arith, c .before .before .before .before .before .before .before .before .before .before .before .before .before .before .before .before .pre .room))
+
+slice-aggregate-put-3 : tie.Need-slice-aggregate-put-3
+slice-aggregate-put-3 c = search needs
+
+put-requires-2 : tie.Need-put-requires-2
+put-requires-2 c κs = search needs
+
+same-length : tie.Need-same-length
+same-length c = search needs
+
+same-length-2 : tie.Need-same-length-2
+same-length-2 c = search needs
+
+same-length-3 : tie.Need-same-length-3
+same-length-3 c = search needs
+
+returns : tie.Need-returns
+returns c = let p = c .before .before .before .before .before .before .before .before .before .before .before .before .before .before .before .before .perform-line .ensures in let w = answers (lentTables (c .before .before .before .before .before .before .before .before .before .before .before .before .before .before .before .before .before .before .before .before .before .before .before .before .args .s .lent) (c .before .before .before .before .before .before .before .before .before .before .before .before .before .before .before .before .before .before .before .before .before .before .before .before .args .reg .now) (c .before .before .before .before .before .before .before .before .before .before .before .before .before .before .before .before .before .before .before .before .before .before .before .before .args .led .now)) (commandIn (lineIn (c .before .before .before .before .before .before .before .before .before .before .before .before .before .before .before .before .before .before .before .before .before .before .before .before .args .s .line) (c .before .before .before .before .before .before .before .before .before .before .before .before .before .before .before .before .before .before .before .before .before .before .before .before .args .line .now))) (c .before .before .before .before .before .before .before .before .before .before .before .before .before .before .before .before .before .before .before .before .before .before .before .before .args .out .now) (c .before .before .before .before .before .before .before .before .before .before .before .before .before .before .before .before .before .before .before .before .before .before .before .before .args .s .out) _ _ (p .0) (c .before .before .before .before .before .before .before .put .ensures) (c .before .before .put2 .ensures) in (ap (λ (x : Outcome). x .tables) (p .0), refl, w .0, w .1, w .2, p .1)
+
+pub end-line-spec : {M : Type 1} → statement M
+end-line-spec =
+    tie.close
+    (tie.spec
+    perform-line-requires
+    slice-reshare-prefix-put
+    slice-aggregate-put
+    slice-reshare-prefix-put-2
+    slice-aggregate-put-2
+    put-requires
+    slice-aggregate-put-3
+    put-requires-2
+    same-length
+    same-length-2
+    same-length-3
+    returns)

@@ -1,0 +1,66 @@
+-- `protocol::replies::put_all` meets its contract. Assumes nothing.
+use native.Mathlib.Omega.{arith}
+use Rattle.answers.proofs.Writing.{matched}
+use Rattle.protocol.specs.Replies.{both, sizedIn}
+use borrow.Author.Needs.{needs}
+use Rattle.protocol.proofs.replies.put_all.Statement.{statement}
+use Rattle.protocol.proofs.replies.put_all.Tie as tie
+use Rattle.protocol.proofs.replies.put_sized.Reads as put-sized-reads
+use Rattle.text.proofs.put.Reads as put-reads
+
+enum-told : tie.Need-enum-told
+enum-told c = search needs
+
+put-sized-requires : tie.Need-put-sized-requires
+put-sized-requires c κs = search needs
+
+enum-told-2 : tie.Need-enum-told-2
+enum-told-2 c = search needs
+
+put-sized-requires-2 : tie.Need-put-sized-requires-2
+put-sized-requires-2 c κs = search needs
+
+enum-told-3 : tie.Need-enum-told-3
+enum-told-3 c = search needs
+
+slice-aggregate-put : tie.Need-slice-aggregate-put
+slice-aggregate-put c = search needs
+
+put-requires : tie.Need-put-requires
+put-requires c κs = search needs
+
+same-length : tie.Need-same-length
+same-length c = search needs
+
+returns : tie.Need-returns
+returns c = matched (sizedIn (both (c .before .before .before .before .before .before .before .before .before .args .reg .now) (c .before .before .before .before .before .before .before .before .before .args .led .now))) (c .before .before .before .before .before .before .before .before .before .args .out .now) (c .before .before .before .before .before .before .before .before .before .args .at) 344085 (c .before .before .before .before .enum-told .given .1) (c .before .before .put-sized .ensures .0) (c .before .before .put-sized .ensures .1) (omega (arith, c .before .before .put-sized .ensures .2))
+
+same-length-2 : tie.Need-same-length-2
+same-length-2 c = search needs
+
+returns-2 : tie.Need-returns-2
+returns-2 c = matched (sizedIn (both (c .before .before .before .before .before .before .before .before .before .args .reg .now) (c .before .before .before .before .before .before .before .before .before .args .led .now))) (c .before .before .before .before .before .before .before .before .before .args .out .now) (c .before .before .before .before .before .before .before .before .before .args .at) 344085 (c .before .before .before .before .enum-told2 .given .1) (c .before .before .put-sized2 .ensures .0) (c .before .before .put-sized2 .ensures .1) (omega (arith, c .before .before .put-sized2 .ensures .2))
+
+same-length-3 : tie.Need-same-length-3
+same-length-3 c = search needs
+
+returns-3 : tie.Need-returns-3
+returns-3 c = matched (sizedIn (both (c .before .before .before .before .before .before .before .before .before .before .args .reg .now) (c .before .before .before .before .before .before .before .before .before .before .args .led .now))) (c .before .before .before .before .before .before .before .before .before .before .args .out .now) (c .before .before .before .before .before .before .before .before .before .before .args .at) 344085 (c .before .before .before .before .before .enum-told3 .given .1) (c .before .before .put .ensures .0) (c .before .before .put .ensures .1) (omega (arith, c .before .before .put .ensures .0))
+
+pub put-all-spec : {M : Type 1} → statement M
+put-all-spec =
+    tie.close
+    (tie.spec
+    enum-told
+    put-sized-requires
+    enum-told-2
+    put-sized-requires-2
+    enum-told-3
+    slice-aggregate-put
+    put-requires
+    same-length
+    returns
+    same-length-2
+    returns-2
+    same-length-3
+    returns-3)

@@ -1,0 +1,88 @@
+-- `protocol::replies::put_shown` meets its contract. Assumes nothing.
+use native.Mathlib.Omega.{arith}
+use Rattle.answers.proofs.Writing.{matched}
+use Prim.Native.Nat.{_+_}
+use mathlib.Core.Path.{sym, ap, _∙_}
+use lib.ListN.{length, take}
+use lib.Seq.{sets, length-take-le}
+use Rattle.answers.specs.Texts.{spacedText}
+use Rattle.protocol.specs.Replies.{both, shownText}
+use borrow.Author.Needs.{needs}
+use Rattle.protocol.proofs.replies.put_shown.Statement.{statement}
+use Rattle.protocol.proofs.replies.put_shown.Tie as tie
+use Rattle.protocol.proofs.replies.put_spaced.Reads as put-spaced-reads
+use Rattle.protocol.proofs.tables.used.Reads as used-reads
+use Rattle.text.proofs.put.Reads as put-reads
+
+enum-told : tie.Need-enum-told
+enum-told c = search needs
+
+used-requires : tie.Need-used-requires
+used-requires c κs = search needs
+
+slice-aggregate-put-spaced : tie.Need-slice-aggregate-put-spaced
+slice-aggregate-put-spaced c = sym (length-take-le (c .before .before .used .result) (c .before .before .before .before .before .before .before .before .args .reg .now) (c .before .before .used .ensures .1))
+
+put-spaced-requires : tie.Need-put-spaced-requires
+put-spaced-requires c κs = (omega (arith, length-take-le (c .before .before .used .result) (c .before .before .before .before .before .before .before .before .args .reg .now) (c .before .before .used .ensures .1), c .before .before .used .ensures .1, c .before .before .before .before .before .before .before .before .pre .0), c .before .before .before .before .before .before .before .before .pre .2)
+
+enum-told-2 : tie.Need-enum-told-2
+enum-told-2 c = search needs
+
+used-requires-2 : tie.Need-used-requires-2
+used-requires-2 c κs = search needs
+
+slice-aggregate-put-spaced-2 : tie.Need-slice-aggregate-put-spaced-2
+slice-aggregate-put-spaced-2 c = sym (length-take-le (c .before .before .used2 .result) (c .before .before .before .before .before .before .before .before .args .led .now) (c .before .before .used2 .ensures .1))
+
+put-spaced-requires-2 : tie.Need-put-spaced-requires-2
+put-spaced-requires-2 c κs = (omega (arith, length-take-le (c .before .before .used2 .result) (c .before .before .before .before .before .before .before .before .args .led .now) (c .before .before .used2 .ensures .1), c .before .before .used2 .ensures .1, c .before .before .before .before .before .before .before .before .pre .1), c .before .before .before .before .before .before .before .before .pre .2)
+
+enum-told-3 : tie.Need-enum-told-3
+enum-told-3 c = search needs
+
+slice-aggregate-put : tie.Need-slice-aggregate-put
+slice-aggregate-put c = search needs
+
+put-requires : tie.Need-put-requires
+put-requires c κs = search needs
+
+same-length : tie.Need-same-length
+same-length c = search needs
+
+returns : tie.Need-returns
+returns c = matched (shownText (both (c .before .before .before .before .before .before .before .before .before .before .before .args .reg .now) (c .before .before .before .before .before .before .before .before .before .before .before .args .led .now))) (c .before .before .before .before .before .before .before .before .before .before .before .args .out .now) (c .before .before .before .before .before .before .before .before .before .before .before .args .at) 344085 (c .before .before .before .before .before .before .enum-told .given .1) (c .before .before .put-spaced .ensures .0 ∙ ap (λ n. c .before .before .before .before .before .before .before .before .before .before .before .args .at + length (spacedText (take n (c .before .before .before .before .before .before .before .before .before .before .before .args .reg .now)))) (c .before .before .before .before .before .used .ensures .0)) (c .before .before .put-spaced .ensures .1 ∙ ap (λ n. sets (c .before .before .before .before .before .before .before .before .before .before .before .args .out .now) (c .before .before .before .before .before .before .before .before .before .before .before .args .at) (spacedText (take n (c .before .before .before .before .before .before .before .before .before .before .before .args .reg .now)))) (c .before .before .before .before .before .used .ensures .0)) (c .before .before .put-spaced .ensures .2)
+
+same-length-2 : tie.Need-same-length-2
+same-length-2 c = search needs
+
+returns-2 : tie.Need-returns-2
+returns-2 c = matched (shownText (both (c .before .before .before .before .before .before .before .before .before .before .before .args .reg .now) (c .before .before .before .before .before .before .before .before .before .before .before .args .led .now))) (c .before .before .before .before .before .before .before .before .before .before .before .args .out .now) (c .before .before .before .before .before .before .before .before .before .before .before .args .at) 344085 (c .before .before .before .before .before .before .enum-told2 .given .1) (c .before .before .put-spaced2 .ensures .0 ∙ ap (λ n. c .before .before .before .before .before .before .before .before .before .before .before .args .at + length (spacedText (take n (c .before .before .before .before .before .before .before .before .before .before .before .args .led .now)))) (c .before .before .before .before .before .used2 .ensures .0)) (c .before .before .put-spaced2 .ensures .1 ∙ ap (λ n. sets (c .before .before .before .before .before .before .before .before .before .before .before .args .out .now) (c .before .before .before .before .before .before .before .before .before .before .before .args .at) (spacedText (take n (c .before .before .before .before .before .before .before .before .before .before .before .args .led .now)))) (c .before .before .before .before .before .used2 .ensures .0)) (c .before .before .put-spaced2 .ensures .2)
+
+same-length-3 : tie.Need-same-length-3
+same-length-3 c = search needs
+
+returns-3 : tie.Need-returns-3
+returns-3 c = matched (shownText (both (c .before .before .before .before .before .before .before .before .before .before .args .reg .now) (c .before .before .before .before .before .before .before .before .before .before .args .led .now))) (c .before .before .before .before .before .before .before .before .before .before .args .out .now) (c .before .before .before .before .before .before .before .before .before .before .args .at) 344085 (c .before .before .before .before .before .enum-told3 .given .1) (c .before .before .put .ensures .0) (c .before .before .put .ensures .1) (omega (arith, c .before .before .put .ensures .0))
+
+pub put-shown-spec : {M : Type 1} → statement M
+put-shown-spec =
+    tie.close
+    (tie.spec
+    enum-told
+    used-requires
+    slice-aggregate-put-spaced
+    put-spaced-requires
+    enum-told-2
+    used-requires-2
+    slice-aggregate-put-spaced-2
+    put-spaced-requires-2
+    enum-told-3
+    slice-aggregate-put
+    put-requires
+    same-length
+    returns
+    same-length-2
+    returns-2
+    same-length-3
+    returns-3)

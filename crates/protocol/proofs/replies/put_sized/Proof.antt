@@ -1,0 +1,42 @@
+-- `protocol::replies::put_sized` meets its contract. Assumes nothing.
+use native.Mathlib.Omega.{arith}
+use mathlib.Core.Path.{refl, sym}
+use lib.ListN.{length, take}
+use lib.Seq.{length-take-le}
+use Rattle.protocol.specs.Replies.{withoutZeros}
+use Rattle.protocol.proofs.Spacing.{writes-spaced}
+use borrow.Author.Needs.{needs}
+use Rattle.protocol.proofs.replies.put_sized.Statement.{statement}
+use Rattle.protocol.proofs.replies.put_sized.Tie as tie
+use Rattle.answers.proofs.put_each.Reads as put-each-reads
+use Rattle.protocol.proofs.tables.nonzero.Reads as nonzero-reads
+use Rattle.text.proofs.put_decimal.Reads as put-decimal-reads
+
+put-decimal-requires : tie.Need-put-decimal-requires
+put-decimal-requires c κs = search needs
+
+nonzero-requires : tie.Need-nonzero-requires
+nonzero-requires c κs = search needs
+
+slice-aggregate-put-each : tie.Need-slice-aggregate-put-each
+slice-aggregate-put-each c = sym (length-take-le (c .before .before .nonzero .result) (c .before .before .before .before .before .before .before .before .before .args .table .now) (c .before .before .nonzero .ensures .1))
+
+put-each-requires : tie.Need-put-each-requires
+put-each-requires c κs = omega (arith, c .before .before .before .before .before .put-decimal .ensures .2, length-take-le (c .before .before .nonzero .result) (c .before .before .before .before .before .before .before .before .before .args .table .now) (c .before .before .nonzero .ensures .1), c .before .before .nonzero .ensures .1, c .before .before .before .before .before .before .before .before .before .pre .0, c .before .before .before .before .before .before .before .before .before .pre .1)
+
+same-length : tie.Need-same-length
+same-length c = search needs
+
+returns : tie.Need-returns
+returns c = writes-spaced _ (length (c .before .before .before .before .before .before .before .before .before .before .before .before .args .table .now)) (take (c .before .before .before .before .before .nonzero .result) (c .before .before .before .before .before .before .before .before .before .before .before .before .args .table .now)) (withoutZeros (c .before .before .before .before .before .before .before .before .before .before .before .before .args .table .now)) (c .before .before .before .before .before .before .before .before .before .before .before .before .args .out .now) (c .before .before .before .before .before .before .before .before .before .before .before .before .args .at) refl (c .before .before .before .before .before .nonzero .ensures .0) (omega (arith, length-take-le (c .before .before .before .before .before .nonzero .result) (c .before .before .before .before .before .before .before .before .before .before .before .before .args .table .now) (c .before .before .before .before .before .nonzero .ensures .1), c .before .before .before .before .before .nonzero .ensures .1, c .before .before .before .before .before .before .before .before .before .before .before .before .pre .0)) (c .before .before .before .before .before .before .before .before .put-decimal .ensures) (c .before .before .put-each .ensures)
+
+pub put-sized-spec : {M : Type 1} → statement M
+put-sized-spec =
+    tie.close
+    (tie.spec
+    put-decimal-requires
+    nonzero-requires
+    slice-aggregate-put-each
+    put-each-requires
+    same-length
+    returns)

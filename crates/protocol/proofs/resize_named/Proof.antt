@@ -1,0 +1,55 @@
+-- `protocol::resize_named` meets its contract. Assumes nothing.
+use mathlib.Core.Path.{refl, sym, ap, _∙_}
+use lib.ListN.{take}
+use Rattle.protocol.proofs.Holding.{lends-resized}
+use Rattle.protocol.proofs.Performing.{performs, lends-same}
+use Rattle.protocol.specs.Commands.{resize}
+use borrow.Author.Needs.{needs}
+use Rattle.protocol.proofs.resize_named.Statement.{statement}
+use Rattle.protocol.proofs.resize_named.Tie as tie
+use Rattle.protocol.proofs.tables.cut.Reads as cut-reads
+
+enum-told : tie.Need-enum-told
+enum-told c = search needs
+
+cut-requires : tie.Need-cut-requires
+cut-requires c κs = search needs
+
+enum-told-2 : tie.Need-enum-told-2
+enum-told-2 c = search needs
+
+cut-requires-2 : tie.Need-cut-requires-2
+cut-requires-2 c κs = search needs
+
+enum-told-3 : tie.Need-enum-told-3
+enum-told-3 c = search needs
+
+same-length : tie.Need-same-length
+same-length c = search needs
+
+returns : tie.Need-returns
+returns c = performs (record { register = c .before .before .before .before .before .before .before .before .args .to; ledger = c .before .before .before .before .before .before .before .before .args .s .ledger }) _ _ _ _ _ (take (c .before .before .before .before .before .before .before .before .args .s .register) (c .before .before .before .before .before .before .before .before .args .reg .now)) (take (c .before .before .before .before .before .before .before .before .args .s .ledger) (c .before .before .before .before .before .before .before .before .args .led .now)) _ (lends-resized _ _ _ (c .before .before .before .before .before .before .before .before .pre .1 .register-held) (c .before .before .before .before .before .before .before .before .pre .0) (c .before .before .cut .ensures)) (lends-same _ _ (c .before .before .before .before .before .before .before .before .pre .1 .ledger-held)) (ap (λ t. resize t (c .before .before .before .before .before .before .before .before .args .to)) (c .before .before .before .before .enum-told .given .1)) refl
+
+same-length-2 : tie.Need-same-length-2
+same-length-2 c = search needs
+
+returns-2 : tie.Need-returns-2
+returns-2 c = performs (record { register = c .before .before .before .before .before .before .before .before .args .s .register; ledger = c .before .before .before .before .before .before .before .before .args .to }) _ _ _ _ _ (take (c .before .before .before .before .before .before .before .before .args .s .register) (c .before .before .before .before .before .before .before .before .args .reg .now)) (take (c .before .before .before .before .before .before .before .before .args .s .ledger) (c .before .before .before .before .before .before .before .before .args .led .now)) _ (lends-same _ _ (c .before .before .before .before .before .before .before .before .pre .1 .register-held)) (lends-resized _ _ _ (c .before .before .before .before .before .before .before .before .pre .1 .ledger-held) (c .before .before .before .before .before .before .before .before .pre .0) (c .before .before .cut2 .ensures)) (ap (λ t. resize t (c .before .before .before .before .before .before .before .before .args .to)) (c .before .before .before .before .enum-told2 .given .1)) refl
+
+returns-3 : tie.Need-returns-3
+returns-3 c = performs (c .before .before .before .before .args .s) _ _ _ _ _ (take (c .before .before .before .before .args .s .register) (c .before .before .before .before .args .reg .now)) (take (c .before .before .before .before .args .s .ledger) (c .before .before .before .before .args .led .now)) _ (lends-same _ _ (c .before .before .before .before .pre .1 .register-held)) (lends-same _ _ (c .before .before .before .before .pre .1 .ledger-held)) (ap (λ t. resize t (c .before .before .before .before .args .to)) (c .enum-told3 .given .1)) refl
+
+pub resize-named-spec : {M : Type 1} → statement M
+resize-named-spec =
+    tie.close
+    (tie.spec
+    enum-told
+    cut-requires
+    enum-told-2
+    cut-requires-2
+    enum-told-3
+    same-length
+    returns
+    same-length-2
+    returns-2
+    returns-3)
