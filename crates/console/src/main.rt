@@ -1,97 +1,121 @@
-// The console: reads commands from standard input, a line each, and answers each with a line.
+// The console: reads commands from standard input, a line each, and answers each with a line. `protocol` does the work.
 use libc::STDIN_FILENO;
-
-mod answers;
-mod calls;
-mod commands;
-mod line;
-mod tables;
-
+use libc::STDOUT_FILENO;
+use protocol::Lent;
+use protocol::State;
 ghost use mathlib.Core.Path.{_≡_};
-ghost use lib.ListN.{length};
-ghost use Rattle.console.specs.States.{Fits, Sizes};
+ghost use Prim.Native.Nat.{_+_, _≤_, _<_};
+ghost use lib.ListN.{length, replicate};
+ghost use Rattle.protocol.specs.Feeding.{Ready};
 
-// How many words each table is lent with, and how many bytes stand in the line and in the output. More bytes than a line may have mark one that is too long.
-pub struct State {
-    pub register: usize,
-    pub ledger: usize,
-    pub line: usize,
-    pub out: usize,
+// The room that an answer takes at most.
+const MOST_TEXT: usize = 344086;
+
+// A state, and whether there may be more to do: not where the input ended, or the output cannot be written.
+pub struct Served {
+    pub state: State,
+    pub more: bool,
 }
 
-// The line is answered, and the next begins.
-fn end_line(s: State, line: &[u8], reg: &mut [u32], led: &mut [u32], out: &mut [u8]) -> State
-    requires { ⌜ (length (now line) ≡ 16384) × (Fits s) × (Sizes (length (now reg)) (length (now led)) (length (now out))) ⌝ }
-    ensures { λ r. ⌜ Fits r ⌝ }
+// The same, and where the rest of a piece begins.
+pub struct Step {
+    pub state: State,
+    pub more: bool,
+    pub to: usize,
+}
+
+// False where not all could be written.
+fn flush(out: &[u8], at: usize) -> bool
+    requires { ⌜ at ≤ length (now out) ⌝ }
 {
-    let n = s.line;
+    io::write_all(STDOUT_FILENO, &out[..at])
+}
+
+// Whoever types a line waits for its answer, so the output is written before the next read.
+fn written(s: State, out: &[u8]) -> Served
+    requires { ⌜ (s .out ≤ length (now out)) × (344086 ≤ length (now out)) ⌝ }
+    ensures { λ r. ⌜ (r .state .lent ≡ s .lent) × (r .state .out + 344086 ≤ length (now (out .entry))) ⌝ }
+{
+    let lent = s.lent;
     let at = s.out;
-    if line.len() < n {
-        let next = answers::error_line(out, at);
-        return State {
-            register: s.register,
-            ledger: s.ledger,
-            line: 0,
-            out: next,
-        };
+    Served {
+        state: State {
+            lent,
+            line: s.line,
+            out: 0,
+        },
+        more: flush(out, at),
     }
-    commands::run(&line[..n], s, reg, led, out)
 }
 
-// A byte of the input: one more of the line, or its end.
-fn take_byte(
-    b: u8,
-    s: State,
-    line: &mut [u8],
-    reg: &mut [u32],
-    led: &mut [u32],
-    out: &mut [u8],
-) -> State
-    requires { ⌜ (length (now line) ≡ 16384) × (Fits s) × (Sizes (length (now reg)) (length (now led)) (length (now out))) ⌝ }
-    ensures { λ r. ⌜ Fits r ⌝ }
+// Writes the output where it has no room for another answer.
+fn with_room(s: State, out: &[u8]) -> Served
+    requires { ⌜ (s .out ≤ length (now out)) × (344086 ≤ length (now out)) ⌝ }
+    ensures { λ r. ⌜ (r .state .lent ≡ s .lent) × (r .state .out + 344086 ≤ length (now (out .entry))) ⌝ }
 {
-    if b == b'\n' {
-        return end_line(s, line, reg, led, out);
-    }
-    let n = s.line;
-    if n < line.len() {
-        line[n] = b;
-        return State {
-            register: s.register,
-            ledger: s.ledger,
-            line: n + 1,
-            out: s.out,
+    let at = s.out;
+    if MOST_TEXT <= out.len() - at {
+        return Served {
+            state: s,
+            more: true,
         };
     }
-    State {
-        register: s.register,
-        ledger: s.ledger,
-        line: line.len() + 1,
-        out: s.out,
-    }
+    written(s, out)
 }
 
-fn take_piece(
+// The bytes of a piece from index from on, up to the first newline.
+fn serve_line(
     piece: &[u8],
+    from: usize,
     s: State,
     line: &mut [u8],
     reg: &mut [u32],
     led: &mut [u32],
     out: &mut [u8],
-) -> State
-    requires { ⌜ (length (now line) ≡ 16384) × (Fits s) × (Sizes (length (now reg)) (length (now led)) (length (now out))) ⌝ }
-    ensures { λ r. ⌜ Fits r ⌝ }
+) -> Step
+    requires { ⌜ (Ready s (now line) (now reg) (now led) (now out)) × (from < length (now piece)) ⌝ }
+    ensures { λ r. ⌜ (Ready (r .state) (now (line .exit)) (now (reg .exit)) (now (led .exit)) (now (out .exit))) × (from < r .to) × (r .to ≤ length (now (piece .entry))) ⌝ }
 {
-    let mut now = s;
-    let mut i = 0;
-    while i < piece.len() {
-        now = take_byte(piece[i], now, line, reg, led, out);
-        i += 1;
+    let fed = protocol::feed(&piece[from..], s, line, reg, led, out);
+    let next = fed.state;
+    let served = with_room(next, out);
+    let state = served.state;
+    Step {
+        state,
+        more: served.more,
+        to: from + fed.used,
     }
-    now
 }
 
-// Answers what one read brings. Whoever types a line waits for its answer, so the output is written before the next read. What a read that failed or found the end brings has no bytes.
+// Answers the lines of a piece.
+fn serve_piece(
+    piece: &[u8],
+    first: State,
+    line: &mut [u8],
+    reg: &mut [u32],
+    led: &mut [u32],
+    out: &mut [u8],
+) -> Served
+    requires { ⌜ Ready first (now line) (now reg) (now led) (now out) ⌝ }
+    ensures { λ r. ⌜ Ready (r .state) (now (line .exit)) (now (reg .exit)) (now (led .exit)) (now (out .exit)) ⌝ }
+{
+    let mut s = first;
+    let mut from = 0;
+    while from < piece.len() {
+        let step = serve_line(piece, from, s, line, reg, led, out);
+        s = step.state;
+        if !step.more {
+            return Served {
+                state: s,
+                more: false,
+            };
+        }
+        from = step.to;
+    }
+    written(s, out)
+}
+
+// What a read that failed or found the end brings has no bytes.
 fn serve_some(
     s: State,
     input: &mut [u8],
@@ -100,28 +124,18 @@ fn serve_some(
     led: &mut [u32],
     out: &mut [u8],
 ) -> Served
-    requires { ⌜ (length (now line) ≡ 16384) × (Fits s) × (Sizes (length (now reg)) (length (now led)) (length (now out))) ⌝ }
-    ensures { λ r. ⌜ Fits (r .state) ⌝ }
+    requires { ⌜ Ready s (now line) (now reg) (now led) (now out) ⌝ }
+    ensures { λ r. ⌜ Ready (r .state) (now (line .exit)) (now (reg .exit)) (now (led .exit)) (now (out .exit)) ⌝ }
 {
     let got = libc::read(STDIN_FILENO, input);
     let n = io::count(got, input);
-    let next = take_piece(&input[..n], s, line, reg, led, out);
-    let at = next.out;
-    answers::flush(out, at);
-    Served {
-        state: State {
-            register: next.register,
-            ledger: next.ledger,
-            line: next.line,
-            out: 0,
-        },
-        more: 0 < n,
+    if n == 0 {
+        return Served {
+            state: s,
+            more: false,
+        };
     }
-}
-
-pub struct Served {
-    pub state: State,
-    pub more: bool,
+    serve_piece(&input[..n], s, line, reg, led, out)
 }
 
 // A proved loop has to end, and nothing says that the input does: so its turns are counted down from a number that no run uses up.
@@ -133,8 +147,8 @@ fn serve(
     led: &mut [u32],
     out: &mut [u8],
 ) -> State
-    requires { ⌜ (length (now line) ≡ 16384) × (Fits first) × (Sizes (length (now reg)) (length (now led)) (length (now out))) ⌝ }
-    ensures { λ r. ⌜ Fits r ⌝ }
+    requires { ⌜ Ready first (now line) (now reg) (now led) (now out) ⌝ }
+    ensures { λ r. ⌜ Ready r (now (line .exit)) (now (reg .exit)) (now (led .exit)) (now (out .exit)) ⌝ }
 {
     let mut s = first;
     let mut turns = u64::MAX;
@@ -149,41 +163,41 @@ fn serve(
     s
 }
 
-// A last line without a newline counts.
-fn serve_last(s: State, line: &[u8], reg: &mut [u32], led: &mut [u32], out: &mut [u8])
-    requires { ⌜ (length (now line) ≡ 16384) × (Fits s) × (Sizes (length (now reg)) (length (now led)) (length (now out))) ⌝ }
-{
-    if 0 < s.line {
-        let last = end_line(s, line, reg, led, out);
-        let at = last.out;
-        answers::flush(out, at);
-    }
-}
-
-fn empty_line() -> [u8; 16384]
+// Arrays are made in functions of their own, so that no proof has to look at their elements.
+fn no_line() -> [u8; 16384]
     ensures { λ r. ⌜ 16384 ≡ length r ⌝ }
 {
     [0; 16384]
 }
 
 fn empty_table() -> [u32; 16384]
-    ensures { λ r. ⌜ 16384 ≡ length r ⌝ }
+    ensures { λ r. ⌜ r ≡ replicate 16384 0 ⌝ }
 {
     [0; 16384]
 }
 
+fn no_output() -> [u8; 393216]
+    ensures { λ r. ⌜ 393216 ≡ length r ⌝ }
+{
+    [0; 393216]
+}
+
 fn main() {
     let mut input = io::large_buffer();
-    let mut line = empty_line();
+    let mut line = no_line();
     let mut reg = empty_table();
     let mut led = empty_table();
-    let mut out = io::large_buffer();
+    let mut out = no_output();
     let first = State {
-        register: register::WORDS,
-        ledger: routes::WORDS,
+        lent: Lent {
+            register: register::WORDS,
+            ledger: routes::WORDS,
+        },
         line: 0,
         out: 0,
     };
     let s = serve(first, &mut input, &mut line, &mut reg, &mut led, &mut out);
-    serve_last(s, &line, &mut reg, &mut led, &mut out);
+    let last = protocol::finish(s, &line, &mut reg, &mut led, &mut out);
+    let at = last.out;
+    flush(&out, at);
 }

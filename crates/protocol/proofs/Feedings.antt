@@ -76,6 +76,19 @@ module _ (s : Session) (piece : List ℕ) (to : ℕ) (line : Option (List ℕ)) 
     unfolding fedBytes
     all-bytes l = rw goes-on (omega arith)
 
+-- A piece that has bytes loses some.
+pub some-used : (piece : List ℕ) → 0 < length piece → (0 < fedBytes piece) × (fedBytes piece ≤ length piece)
+unfolding fedBytes
+some-used piece h = go (ltb (length (before 10 piece)) (length piece)) refl
+  where
+    go :
+        (b : Bool) → ltb (length (before 10 piece)) (length piece) ≡ b
+        → (0 < cond b (length (before 10 piece) + 1) (length piece)) × (cond b (length (before 10 piece) + 1) (length piece) ≤ length piece)
+    go true e =
+        let l : length (before 10 piece) < length piece = ltb-true _ _ e in
+        (omega arith, omega arith)
+    go false e = (h, omega arith)
+
 -- ---- the end
 
 pub no-line : (n : ℕ) (line : List ℕ) → n ≡ 0 → lineIn n line ≡ some []

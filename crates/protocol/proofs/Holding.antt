@@ -54,13 +54,16 @@ lends-resized n to table {cut = cut} h l e =
     (e ∙ (λ i. pad (h .size i) (take to (h .rest i))))
 
 -- All zeros.
-pub lends-zeros : (n m : ℕ) (table : List ℕ) {cut : List ℕ} → Held m table → n ≤ mostWords → cut ≡ pad (length table) (take 0 table) → Lends n cut (replicate n 0)
+pub lends-zeros : (n : ℕ) (table : List ℕ) → n ≤ mostWords → table ≡ replicate mostWords 0 → Lends n table (replicate n 0)
 unfolding pad
-lends-zeros n m table {cut = cut} h l e =
+lends-zeros n table l e =
     let z : n + (mostWords - n) ≡ mostWords = omega arith in
-    lends n cut (replicate n 0) (length-replicate n 0) l
+    lends n table (replicate n 0) (length-replicate n 0) l
     (e
-    ∙ ap (λ k. replicate (k - 0) 0) (h .size)
     ∙ ap (λ k. replicate k 0) (sym z)
     ∙ sym (replicate-append-replicate n (mostWords - n) 0)
     ∙ ap (λ k. replicate n 0 ++ replicate (mostWords - k) 0) (sym (length-replicate n 0)))
+
+pub all-cut : (m : ℕ) (table : List ℕ) {cut : List ℕ} → Held m table → cut ≡ pad (length table) (take 0 table) → cut ≡ replicate mostWords 0
+unfolding pad
+all-cut m table h e = e ∙ ap (λ k. replicate (k - 0) 0) (h .size)

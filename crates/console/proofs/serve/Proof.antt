@@ -1,22 +1,24 @@
 -- `console::serve` meets its contract. Assumes nothing.
+use mathlib.Core.Path.{_≡_, refl, _∙_}
 use borrow.Author.Needs.{needs}
-use mathlib.Core.Path.{_≡_}
+use mathlib.Core.Path.{_≡_, refl}
 use lib.ListN.{length}
-use Rattle.console.specs.States.{Fits}
+use Rattle.protocol.specs.Feeding.{Ready}
 use Rattle.console.proofs.serve.Statement.{statement}
 use Rattle.console.proofs.serve.Tie as tie
+use Rattle.console.proofs.serve_some.Reads as serve-some-reads
 
 abbrev Inv-loop : tie.InvT-loop
-Inv-loop input₀ line₀ reg₀ led₀ out₀ s₀ turns₀ input line reg led out s turns = (length input ≡ length input₀) × (length line ≡ length line₀) × (length reg ≡ length reg₀) × (length led ≡ length led₀) × (length out ≡ length out₀) × Fits s
+Inv-loop input₀ line₀ reg₀ led₀ out₀ s₀ turns₀ input line reg led out s turns = (length input ≡ length input₀) × (length line ≡ length line₀) × (length reg ≡ length reg₀) × (length led ≡ length led₀) × (length out ≡ length out₀) × Ready s line reg led out
 
 abbrev μ-loop : tie.MeasureT-loop
 μ-loop input₀ line₀ reg₀ led₀ out₀ s₀ turns₀ input line reg led out s turns = turns
 
 loop-holds : tie.Need-loop-holds Inv-loop μ-loop
-loop-holds c = search needs
+loop-holds c = (refl, refl, refl, refl, refl, c .before .before .before .before .before .pre)
 
 serve-some-requires : tie.Need-serve-some-requires Inv-loop μ-loop
-serve-some-requires c κs = search needs
+serve-some-requires c κs = c .before .before .before .before .before .before .loop .inv .5
 
 same-length : tie.Need-same-length Inv-loop μ-loop
 same-length c = search needs
@@ -34,7 +36,7 @@ same-length-5 : tie.Need-same-length-5 Inv-loop μ-loop
 same-length-5 c = search needs
 
 returns : tie.Need-returns Inv-loop μ-loop
-returns c = search needs
+returns c = c .before .before .before .before .before .before .before .before .before .before .before .before .before .serve-some .ensures
 
 sub-turns : tie.Need-sub-turns Inv-loop μ-loop
 sub-turns c = search needs
@@ -43,7 +45,7 @@ loop-less : tie.Need-loop-less Inv-loop μ-loop
 loop-less c = search needs
 
 loop-again : tie.Need-loop-again Inv-loop μ-loop
-loop-again c = search needs
+loop-again c = (c .before .before .before .before .before .before .before .before .before .before .before .before .before .serve-some .kept .1 .0 ∙ c .before .before .before .before .before .before .before .before .before .before .before .before .before .before .before .before .before .before .before .before .loop .inv .0, c .before .before .before .before .before .before .before .before .before .before .before .before .before .serve-some .kept .1 .1 .0 ∙ c .before .before .before .before .before .before .before .before .before .before .before .before .before .before .before .before .before .before .before .before .loop .inv .1, c .before .before .before .before .before .before .before .before .before .before .before .before .before .serve-some .kept .1 .1 .1 .0 ∙ c .before .before .before .before .before .before .before .before .before .before .before .before .before .before .before .before .before .before .before .before .loop .inv .2, c .before .before .before .before .before .before .before .before .before .before .before .before .before .serve-some .kept .1 .1 .1 .1 .0 ∙ c .before .before .before .before .before .before .before .before .before .before .before .before .before .before .before .before .before .before .before .before .loop .inv .3, c .before .before .before .before .before .before .before .before .before .before .before .before .before .serve-some .kept .1 .1 .1 .1 .1 .0 ∙ c .before .before .before .before .before .before .before .before .before .before .before .before .before .before .before .before .before .before .before .before .loop .inv .4, c .before .before .before .before .before .before .before .before .before .before .before .before .before .serve-some .ensures)
 
 same-length-6 : tie.Need-same-length-6 Inv-loop μ-loop
 same-length-6 c = search needs
@@ -61,7 +63,7 @@ same-length-10 : tie.Need-same-length-10 Inv-loop μ-loop
 same-length-10 c = search needs
 
 returns-2 : tie.Need-returns-2 Inv-loop μ-loop
-returns-2 c = search needs
+returns-2 c = c .before .loop .inv .5
 
 pub serve-spec : {M : Type 1} → statement M
 serve-spec =

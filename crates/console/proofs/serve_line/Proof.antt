@@ -1,0 +1,58 @@
+-- `console::serve_line` meets its contract. Assumes nothing.
+use mathlib.Core.Path.{_∙_}
+use native.Mathlib.Omega.{arith}
+use Rattle.console.proofs.Serving.{ready, rest-used}
+use borrow.Author.Needs.{needs}
+use Rattle.console.proofs.serve_line.Statement.{statement}
+use Rattle.console.proofs.serve_line.Tie as tie
+use Rattle.console.proofs.with_room.Reads as with-room-reads
+use Rattle.protocol.proofs.feed.Reads as feed-reads
+
+sub-feed : tie.Need-sub-feed
+sub-feed c = search needs
+
+part-feed-start : tie.Need-part-feed-start
+part-feed-start c = search needs
+
+part-feed-end : tie.Need-part-feed-end
+part-feed-end c = search needs
+
+feed-requires : tie.Need-feed-requires
+feed-requires c κs = search needs
+
+with-room-requires : tie.Need-with-room-requires
+with-room-requires c κs = search needs
+
+add-t13 : tie.Need-add-t13
+add-t13 c = let u = rest-used (c .before .before .before .before .before .before .before .before .before .before .before .before .before .before .before .before .before .before .before .before .before .before .before .before .args .piece .now) (c .before .before .before .before .before .before .before .before .before .before .before .before .before .before .before .before .before .before .before .before .before .before .before .before .args .from) (c .before .before .before .before .before .before .before .before .before .before .before .before .before .feed .result .used) (c .before .before .before .before .before .before .before .before .before .before .before .before .before .before .before .before .before .before .before .before .before .before .before .before .pre .1) (c .before .before .before .before .before .before .before .before .before .before .before .before .before .feed .ensures .1) in omega (arith, u .1, c .before .before .before .before .before .before .before .before .before .before .before .before .before .before .before .before .before .before .before .before .before .before .before .before .good .0)
+
+same-length : tie.Need-same-length
+same-length c = search needs
+
+same-length-2 : tie.Need-same-length-2
+same-length-2 c = search needs
+
+same-length-3 : tie.Need-same-length-3
+same-length-3 c = search needs
+
+same-length-4 : tie.Need-same-length-4
+same-length-4 c = search needs
+
+returns : tie.Need-returns
+returns c = let u = rest-used (c .before .before .before .before .before .before .before .before .before .before .before .before .before .before .before .before .before .before .before .before .before .before .before .before .args .piece .now) (c .before .before .before .before .before .before .before .before .before .before .before .before .before .before .before .before .before .before .before .before .before .before .before .before .args .from) (c .before .before .before .before .before .before .before .before .before .before .before .before .before .feed .result .used) (c .before .before .before .before .before .before .before .before .before .before .before .before .before .before .before .before .before .before .before .before .before .before .before .before .pre .1) (c .before .before .before .before .before .before .before .before .before .before .before .before .before .feed .ensures .1) in (ready _ _ _ _ _ (c .before .before .before .before .before .before .before .before .before .before .before .before .before .feed .kept .1 .1 .0 ∙ c .before .before .before .before .before .before .before .before .before .before .before .before .before .before .before .before .before .before .before .before .before .before .before .before .pre .0 .line-size) (c .before .before .before .before .before .before .before .before .before .before .before .before .before .feed .ensures .6) (c .before .before .with-room .ensures .0) (c .before .before .with-room .ensures .1), u .0, u .1)
+
+pub serve-line-spec : {M : Type 1} → statement M
+serve-line-spec =
+    tie.close
+    (tie.spec
+    sub-feed
+    part-feed-start
+    part-feed-end
+    feed-requires
+    with-room-requires
+    add-t13
+    same-length
+    same-length-2
+    same-length-3
+    same-length-4
+    returns)

@@ -1,0 +1,85 @@
+-- `console::serve_piece` meets its contract. Assumes nothing.
+use borrow.Author.Needs.{needs}
+use Prim.Native.Nat.{_-_, _≤_}
+use mathlib.Core.Path.{_≡_, refl, _∙_}
+use native.Mathlib.Omega.{arith}
+use lib.ListN.{length}
+use Rattle.protocol.specs.Feeding.{Ready}
+use Rattle.console.proofs.Serving.{ready}
+use Rattle.console.proofs.serve_piece.Statement.{statement}
+use Rattle.console.proofs.serve_piece.Tie as tie
+use Rattle.console.proofs.serve_line.Reads as serve-line-reads
+use Rattle.console.proofs.written.Reads as written-reads
+
+abbrev Inv-loop : tie.InvT-loop
+Inv-loop piece line₀ reg₀ led₀ out₀ s₀ from₀ line reg led out s from = (from ≤ length piece) × (length line ≡ length line₀) × (length reg ≡ length reg₀) × (length led ≡ length led₀) × (length out ≡ length out₀) × Ready s line reg led out
+
+abbrev μ-loop : tie.MeasureT-loop
+μ-loop piece line₀ reg₀ led₀ out₀ s₀ from₀ line reg led out s from = length piece - from
+
+loop-holds : tie.Need-loop-holds Inv-loop μ-loop
+loop-holds c = (omega arith, refl, refl, refl, refl, c .before .before .before .before .before .pre)
+
+serve-line-requires : tie.Need-serve-line-requires Inv-loop μ-loop
+serve-line-requires c κs = (c .before .before .before .before .before .loop .inv .5, c .before .before .before .before .loop-test .taken)
+
+same-length : tie.Need-same-length Inv-loop μ-loop
+same-length c = c .before .before .before .before .before .before .before .before .before .before .before .serve-line .kept .1 .1 .1 .0 ∙ c .before .before .before .before .before .before .before .before .before .before .before .before .before .before .before .before .before .loop .inv .1
+
+same-length-2 : tie.Need-same-length-2 Inv-loop μ-loop
+same-length-2 c = c .before .before .before .before .before .before .before .before .before .before .before .serve-line .kept .1 .1 .1 .1 .0 ∙ c .before .before .before .before .before .before .before .before .before .before .before .before .before .before .before .before .before .loop .inv .2
+
+same-length-3 : tie.Need-same-length-3 Inv-loop μ-loop
+same-length-3 c = c .before .before .before .before .before .before .before .before .before .before .before .serve-line .kept .1 .1 .1 .1 .1 .0 ∙ c .before .before .before .before .before .before .before .before .before .before .before .before .before .before .before .before .before .loop .inv .3
+
+same-length-4 : tie.Need-same-length-4 Inv-loop μ-loop
+same-length-4 c = c .before .before .before .before .before .before .before .before .before .before .before .serve-line .kept .1 .1 .1 .1 .1 .1 .0 ∙ c .before .before .before .before .before .before .before .before .before .before .before .before .before .before .before .before .before .loop .inv .4
+
+returns : tie.Need-returns Inv-loop μ-loop
+returns c = c .before .before .before .before .before .before .before .before .before .before .before .serve-line .ensures .0
+
+loop-less : tie.Need-loop-less Inv-loop μ-loop
+loop-less c = omega (arith, c .before .before .before .before .before .before .before .before .before .before .before .serve-line .ensures .1, c .before .before .before .before .before .before .before .before .before .before .before .serve-line .ensures .2)
+
+loop-again : tie.Need-loop-again Inv-loop μ-loop
+loop-again c = (c .before .before .before .before .before .before .before .before .before .before .before .serve-line .ensures .2, c .before .before .before .before .before .before .before .before .before .before .before .serve-line .kept .1 .1 .1 .0 ∙ c .before .before .before .before .before .before .before .before .before .before .before .before .before .before .before .before .before .loop .inv .1, c .before .before .before .before .before .before .before .before .before .before .before .serve-line .kept .1 .1 .1 .1 .0 ∙ c .before .before .before .before .before .before .before .before .before .before .before .before .before .before .before .before .before .loop .inv .2, c .before .before .before .before .before .before .before .before .before .before .before .serve-line .kept .1 .1 .1 .1 .1 .0 ∙ c .before .before .before .before .before .before .before .before .before .before .before .before .before .before .before .before .before .loop .inv .3, c .before .before .before .before .before .before .before .before .before .before .before .serve-line .kept .1 .1 .1 .1 .1 .1 .0 ∙ c .before .before .before .before .before .before .before .before .before .before .before .before .before .before .before .before .before .loop .inv .4, c .before .before .before .before .before .before .before .before .before .before .before .serve-line .ensures .0)
+
+written-requires : tie.Need-written-requires Inv-loop μ-loop
+written-requires c κs = (omega (arith, c .before .before .loop .inv .5 .room), omega (arith, c .before .before .loop .inv .5 .room))
+
+same-length-5 : tie.Need-same-length-5 Inv-loop μ-loop
+same-length-5 c = search needs
+
+same-length-6 : tie.Need-same-length-6 Inv-loop μ-loop
+same-length-6 c = search needs
+
+same-length-7 : tie.Need-same-length-7 Inv-loop μ-loop
+same-length-7 c = search needs
+
+same-length-8 : tie.Need-same-length-8 Inv-loop μ-loop
+same-length-8 c = search needs
+
+returns-2 : tie.Need-returns-2 Inv-loop μ-loop
+returns-2 c = ready _ _ _ _ _ (c .before .before .before .loop .inv .5 .line-size) (c .before .before .before .loop .inv .5 .held) (c .written .ensures .0) (c .written .ensures .1)
+
+pub serve-piece-spec : {M : Type 1} → statement M
+serve-piece-spec =
+    tie.close
+    (tie.spec
+    Inv-loop
+    μ-loop
+    loop-holds
+    serve-line-requires
+    same-length
+    same-length-2
+    same-length-3
+    same-length-4
+    returns
+    loop-less
+    loop-again
+    written-requires
+    same-length-5
+    same-length-6
+    same-length-7
+    same-length-8
+    returns-2)
