@@ -48,33 +48,26 @@ module _ (s : Session) (piece : List ℕ) (to : ℕ) (line : Option (List ℕ)) 
     ends : ltb (length (before 10 piece)) (length piece) ≡ true
     ends = lt-ltb (length (before 10 piece)) (length piece) (omega arith)
 
-    pub ends-line : {tables : Tables} {next : Option (List ℕ)} → tables ≡ after (s .tables) (commandIn line) → next ≡ some [] → record { tables = tables; line = next } ≡ fed s piece
-    unfolding fed
-    ends-line a b = rw ends (λ i. record { tables = (a ∙ ap (λ l. after (s .tables) (commandIn l)) grown-is) i; line = b i })
-
-    pub line-text : answerLine (s .tables) (commandIn line) ≡ fedText s piece
-    unfolding fedText
-    line-text = rw ends (ap (λ l. answerLine (s .tables) (commandIn l)) grown-is)
-
-    pub line-bytes : to + 1 ≡ fedBytes piece
-    unfolding fedBytes
-    line-bytes = rw ends (omega arith)
+    -- The line ends, and is answered.
+    pub line-ends :
+        {tables : Tables} {next : Option (List ℕ)} → tables ≡ after (s .tables) (commandIn line) → next ≡ some []
+        → (record { tables = tables; line = next } ≡ fed s piece) × (answerLine (s .tables) (commandIn line) ≡ fedText s piece) × (to + 1 ≡ fedBytes piece)
+    unfolding fed fedText fedBytes
+    line-ends a b =
+        rw ends (
+          (λ i. record { tables = (a ∙ ap (λ l. after (s .tables) (commandIn l)) grown-is) i; line = b i }),
+          ap (λ l. answerLine (s .tables) (commandIn l)) grown-is,
+          omega arith,
+        )
 
   module _ (h : length piece ≤ to) where
     goes-on : ltb (length (before 10 piece)) (length piece) ≡ false
     goes-on = le-ltb (length (before 10 piece)) (length piece) (omega arith)
 
-    pub line-goes-on : record { tables = s .tables; line = line } ≡ fed s piece
-    unfolding fed
-    line-goes-on = rw goes-on (λ i. record { tables = s .tables; line = grown-is i })
-
-    pub no-text : [] ≡ fedText s piece
-    unfolding fedText
-    no-text = rw goes-on refl
-
-    pub all-bytes : to ≤ length piece → to ≡ fedBytes piece
-    unfolding fedBytes
-    all-bytes l = rw goes-on (omega arith)
+    -- The line goes on, and nothing is answered.
+    pub line-goes-on : to ≤ length piece → (record { tables = s .tables; line = line } ≡ fed s piece) × ([] ≡ fedText s piece) × (to ≡ fedBytes piece)
+    unfolding fed fedText fedBytes
+    line-goes-on l = rw goes-on ((λ i. record { tables = s .tables; line = grown-is i }), refl, omega arith)
 
 -- A piece that has bytes loses some.
 pub some-used : (piece : List ℕ) → 0 < length piece → (0 < fedBytes piece) × (fedBytes piece ≤ length piece)

@@ -1,3 +1,4 @@
 pub mod Commands
 pub mod Replies
 pub mod Feeding
+pub mod Sessions

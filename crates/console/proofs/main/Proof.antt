@@ -44,7 +44,12 @@ slice-aggregate-serve-5 : tie.Need-slice-aggregate-serve-5
 slice-aggregate-serve-5 c = search needs
 
 serve-requires : tie.Need-serve-requires
-serve-requires c κs = starts _ _ _ _ (sym (c .before .before .before .before .before .before .before .before .no-line .ensures)) (c .before .before .before .before .before .before .before .empty-table .ensures) (c .before .before .before .before .before .before .empty-table2 .ensures) (omega (arith, c .before .before .before .before .before .no-output .ensures))
+serve-requires c κs =
+    let no-line = c .before .before .before .before .before .before .before .before .no-line in
+    let empty-table = c .before .before .before .before .before .before .before .empty-table in
+    let empty-table2 = c .before .before .before .before .before .before .empty-table2 in
+    let no-output = c .before .before .before .before .before .no-output in
+    starts _ _ _ _ (sym (no-line .ensures)) (empty-table .ensures) (empty-table2 .ensures) (omega (arith, no-output .ensures))
 
 slice-aggregate-finish : tie.Need-slice-aggregate-finish
 slice-aggregate-finish c = search needs

@@ -24,7 +24,12 @@ with-room-requires : tie.Need-with-room-requires
 with-room-requires c κs = search needs
 
 add-t13 : tie.Need-add-t13
-add-t13 c = let u = rest-used (c .before .before .before .before .before .before .before .before .before .before .before .before .before .before .before .before .before .before .before .before .before .before .before .before .args .piece .now) (c .before .before .before .before .before .before .before .before .before .before .before .before .before .before .before .before .before .before .before .before .before .before .before .before .args .from) (c .before .before .before .before .before .before .before .before .before .before .before .before .before .feed .result .used) (c .before .before .before .before .before .before .before .before .before .before .before .before .before .before .before .before .before .before .before .before .before .before .before .before .pre .1) (c .before .before .before .before .before .before .before .before .before .before .before .before .before .feed .ensures .1) in omega (arith, u .1, c .before .before .before .before .before .before .before .before .before .before .before .before .before .before .before .before .before .before .before .before .before .before .before .before .good .0)
+add-t13 c =
+    let a = c .before .before .before .before .before .before .before .before .before .before .before .before .before .before .before .before .before .before .before .before .before .before .before .before .args in
+    let pre = c .before .before .before .before .before .before .before .before .before .before .before .before .before .before .before .before .before .before .before .before .before .before .before .before .pre in
+    let good = c .before .before .before .before .before .before .before .before .before .before .before .before .before .before .before .before .before .before .before .before .before .before .before .before .good in
+    let feed = c .before .before .before .before .before .before .before .before .before .before .before .before .before .feed in
+    let u = rest-used (a .piece .now) (a .from) (feed .result .used) (pre .1) (feed .ensures .1) in omega (arith, u .1, good .0)
 
 same-length : tie.Need-same-length
 same-length c = search needs
@@ -39,7 +44,13 @@ same-length-4 : tie.Need-same-length-4
 same-length-4 c = search needs
 
 returns : tie.Need-returns
-returns c = let u = rest-used (c .before .before .before .before .before .before .before .before .before .before .before .before .before .before .before .before .before .before .before .before .before .before .before .before .args .piece .now) (c .before .before .before .before .before .before .before .before .before .before .before .before .before .before .before .before .before .before .before .before .before .before .before .before .args .from) (c .before .before .before .before .before .before .before .before .before .before .before .before .before .feed .result .used) (c .before .before .before .before .before .before .before .before .before .before .before .before .before .before .before .before .before .before .before .before .before .before .before .before .pre .1) (c .before .before .before .before .before .before .before .before .before .before .before .before .before .feed .ensures .1) in (ready _ _ _ _ _ (c .before .before .before .before .before .before .before .before .before .before .before .before .before .feed .kept .1 .1 .0 ∙ c .before .before .before .before .before .before .before .before .before .before .before .before .before .before .before .before .before .before .before .before .before .before .before .before .pre .0 .line-size) (c .before .before .before .before .before .before .before .before .before .before .before .before .before .feed .ensures .6) (c .before .before .with-room .ensures .0) (c .before .before .with-room .ensures .1), u .0, u .1)
+returns c =
+    let a = c .before .before .before .before .before .before .before .before .before .before .before .before .before .before .before .before .before .before .before .before .before .before .before .before .args in
+    let pre = c .before .before .before .before .before .before .before .before .before .before .before .before .before .before .before .before .before .before .before .before .before .before .before .before .pre in
+    let feed = c .before .before .before .before .before .before .before .before .before .before .before .before .before .feed in
+    let with-room = c .before .before .with-room in
+    let u = rest-used (a .piece .now) (a .from) (feed .result .used) (pre .1) (feed .ensures .1) in
+    (ready _ _ _ _ _ (feed .kept .1 .1 .0 ∙ pre .0 .line-size) (feed .ensures .6) (with-room .ensures .0) (with-room .ensures .1), u .0, u .1)
 
 pub serve-line-spec : {M : Type 1} → statement M
 serve-line-spec =

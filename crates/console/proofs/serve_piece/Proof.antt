@@ -24,25 +24,48 @@ serve-line-requires : tie.Need-serve-line-requires Inv-loop μ-loop
 serve-line-requires c κs = (c .before .before .before .before .before .loop .inv .5, c .before .before .before .before .loop-test .taken)
 
 same-length : tie.Need-same-length Inv-loop μ-loop
-same-length c = c .before .before .before .before .before .before .before .before .before .before .before .serve-line .kept .1 .1 .1 .0 ∙ c .before .before .before .before .before .before .before .before .before .before .before .before .before .before .before .before .before .loop .inv .1
+same-length c =
+    let loop = c .before .before .before .before .before .before .before .before .before .before .before .before .before .before .before .before .before .loop in
+    let serve-line = c .before .before .before .before .before .before .before .before .before .before .before .serve-line in
+    serve-line .kept .1 .1 .1 .0 ∙ loop .inv .1
 
 same-length-2 : tie.Need-same-length-2 Inv-loop μ-loop
-same-length-2 c = c .before .before .before .before .before .before .before .before .before .before .before .serve-line .kept .1 .1 .1 .1 .0 ∙ c .before .before .before .before .before .before .before .before .before .before .before .before .before .before .before .before .before .loop .inv .2
+same-length-2 c =
+    let loop = c .before .before .before .before .before .before .before .before .before .before .before .before .before .before .before .before .before .loop in
+    let serve-line = c .before .before .before .before .before .before .before .before .before .before .before .serve-line in
+    serve-line .kept .1 .1 .1 .1 .0 ∙ loop .inv .2
 
 same-length-3 : tie.Need-same-length-3 Inv-loop μ-loop
-same-length-3 c = c .before .before .before .before .before .before .before .before .before .before .before .serve-line .kept .1 .1 .1 .1 .1 .0 ∙ c .before .before .before .before .before .before .before .before .before .before .before .before .before .before .before .before .before .loop .inv .3
+same-length-3 c =
+    let loop = c .before .before .before .before .before .before .before .before .before .before .before .before .before .before .before .before .before .loop in
+    let serve-line = c .before .before .before .before .before .before .before .before .before .before .before .serve-line in
+    serve-line .kept .1 .1 .1 .1 .1 .0 ∙ loop .inv .3
 
 same-length-4 : tie.Need-same-length-4 Inv-loop μ-loop
-same-length-4 c = c .before .before .before .before .before .before .before .before .before .before .before .serve-line .kept .1 .1 .1 .1 .1 .1 .0 ∙ c .before .before .before .before .before .before .before .before .before .before .before .before .before .before .before .before .before .loop .inv .4
+same-length-4 c =
+    let loop = c .before .before .before .before .before .before .before .before .before .before .before .before .before .before .before .before .before .loop in
+    let serve-line = c .before .before .before .before .before .before .before .before .before .before .before .serve-line in
+    serve-line .kept .1 .1 .1 .1 .1 .1 .0 ∙ loop .inv .4
 
 returns : tie.Need-returns Inv-loop μ-loop
 returns c = c .before .before .before .before .before .before .before .before .before .before .before .serve-line .ensures .0
 
 loop-less : tie.Need-loop-less Inv-loop μ-loop
-loop-less c = omega (arith, c .before .before .before .before .before .before .before .before .before .before .before .serve-line .ensures .1, c .before .before .before .before .before .before .before .before .before .before .before .serve-line .ensures .2)
+loop-less c =
+    let serve-line = c .before .before .before .before .before .before .before .before .before .before .before .serve-line in
+    omega (arith, serve-line .ensures .1, serve-line .ensures .2)
 
 loop-again : tie.Need-loop-again Inv-loop μ-loop
-loop-again c = (c .before .before .before .before .before .before .before .before .before .before .before .serve-line .ensures .2, c .before .before .before .before .before .before .before .before .before .before .before .serve-line .kept .1 .1 .1 .0 ∙ c .before .before .before .before .before .before .before .before .before .before .before .before .before .before .before .before .before .loop .inv .1, c .before .before .before .before .before .before .before .before .before .before .before .serve-line .kept .1 .1 .1 .1 .0 ∙ c .before .before .before .before .before .before .before .before .before .before .before .before .before .before .before .before .before .loop .inv .2, c .before .before .before .before .before .before .before .before .before .before .before .serve-line .kept .1 .1 .1 .1 .1 .0 ∙ c .before .before .before .before .before .before .before .before .before .before .before .before .before .before .before .before .before .loop .inv .3, c .before .before .before .before .before .before .before .before .before .before .before .serve-line .kept .1 .1 .1 .1 .1 .1 .0 ∙ c .before .before .before .before .before .before .before .before .before .before .before .before .before .before .before .before .before .loop .inv .4, c .before .before .before .before .before .before .before .before .before .before .before .serve-line .ensures .0)
+loop-again c =
+    let loop = c .before .before .before .before .before .before .before .before .before .before .before .before .before .before .before .before .before .loop in
+    let serve-line = c .before .before .before .before .before .before .before .before .before .before .before .serve-line in (
+      serve-line .ensures .2,
+      serve-line .kept .1 .1 .1 .0 ∙ loop .inv .1,
+      serve-line .kept .1 .1 .1 .1 .0 ∙ loop .inv .2,
+      serve-line .kept .1 .1 .1 .1 .1 .0 ∙ loop .inv .3,
+      serve-line .kept .1 .1 .1 .1 .1 .1 .0 ∙ loop .inv .4,
+      serve-line .ensures .0,
+    )
 
 written-requires : tie.Need-written-requires Inv-loop μ-loop
 written-requires c κs = (omega (arith, c .before .before .loop .inv .5 .room), omega (arith, c .before .before .loop .inv .5 .room))
@@ -60,7 +83,10 @@ same-length-8 : tie.Need-same-length-8 Inv-loop μ-loop
 same-length-8 c = search needs
 
 returns-2 : tie.Need-returns-2 Inv-loop μ-loop
-returns-2 c = ready _ _ _ _ _ (c .before .before .before .loop .inv .5 .line-size) (c .before .before .before .loop .inv .5 .held) (c .written .ensures .0) (c .written .ensures .1)
+returns-2 c =
+    let loop = c .before .before .before .loop in
+    let written = c .written in
+    ready _ _ _ _ _ (loop .inv .5 .line-size) (loop .inv .5 .held) (written .ensures .0) (written .ensures .1)
 
 pub serve-piece-spec : {M : Type 1} → statement M
 serve-piece-spec =

@@ -13,7 +13,12 @@ use Rattle.protocol.proofs.empty.Tie as tie
 use Rattle.protocol.proofs.tables.cut.Reads as cut-reads
 
 returns : tie.Need-returns
-returns c = (does-nothing (take (c .before .before .before .before .args .s .register) (c .before .before .before .before .args .reg .now)) (take (c .before .before .before .before .args .s .ledger) (c .before .before .before .before .args .led .now)) _ (other-count _ 1 _ (λ e. c .if1 .taken (c .before .before .before .before .pre .0 ∙ e))), c .before .before .before .before .pre .1)
+returns c =
+    let a = c .before .before .before .before .args in
+    let pre = c .before .before .before .before .pre in (
+      does-nothing (take (a .s .register) (a .reg .now)) (take (a .s .ledger) (a .led .now)) _ (other-count _ 1 _ (λ e. c .if1 .taken (pre .0 ∙ e))),
+      pre .1,
+    )
 
 cut-requires : tie.Need-cut-requires
 cut-requires c κs = search needs
@@ -28,7 +33,17 @@ same-length-2 : tie.Need-same-length-2
 same-length-2 c = search needs
 
 returns-2 : tie.Need-returns-2
-returns-2 c = performs (record { register = registerWords; ledger = ledgerWords }) _ _ _ _ _ (take (c .before .before .before .before .before .before .before .before .before .before .before .before .args .s .register) (c .before .before .before .before .before .before .before .before .before .before .before .before .args .reg .now)) (take (c .before .before .before .before .before .before .before .before .before .before .before .before .args .s .ledger) (c .before .before .before .before .before .before .before .before .before .before .before .before .args .led .now)) _ (lends-zeros registerWords _ (omega arith) (all-cut _ _ (c .before .before .before .before .before .before .before .before .before .before .before .before .pre .1 .register-held) (c .before .before .before .before .before .before .cut .ensures))) (lends-zeros ledgerWords _ (omega arith) (all-cut _ _ (c .before .before .before .before .before .before .before .before .before .before .before .before .pre .1 .ledger-held) (c .before .before .cut2 .ensures))) (right-count _ 1 _ (sym (c .before .before .before .before .before .before .before .before .before .before .before .before .pre .0) ∙ c .before .before .before .before .before .before .before .before .if1 .left)) (empties (take (c .before .before .before .before .before .before .before .before .before .before .before .before .args .s .register) (c .before .before .before .before .before .before .before .before .before .before .before .before .args .reg .now)) (take (c .before .before .before .before .before .before .before .before .before .before .before .before .args .s .ledger) (c .before .before .before .before .before .before .before .before .before .before .before .before .args .led .now)))
+returns-2 c =
+    let a = c .before .before .before .before .before .before .before .before .before .before .before .before .args in
+    let pre = c .before .before .before .before .before .before .before .before .before .before .before .before .pre in
+    let if1 = c .before .before .before .before .before .before .before .before .if1 in
+    let cut = c .before .before .before .before .before .before .cut in
+    performs (record { register = registerWords; ledger = ledgerWords }) _ _ _ _ _ (take (a .s .register) (a .reg .now))
+    (take (a .s .ledger) (a .led .now)) _
+    (lends-zeros registerWords _ (omega arith) (all-cut _ _ (pre .1 .register-held) (cut .ensures)))
+    (lends-zeros ledgerWords _ (omega arith) (all-cut _ _ (pre .1 .ledger-held) (c .before .before .cut2 .ensures)))
+    (right-count _ 1 _ (sym (pre .0) ∙ if1 .left))
+    (empties (take (a .s .register) (a .reg .now)) (take (a .s .ledger) (a .led .now)))
 
 pub empty-spec : {M : Type 1} → statement M
 empty-spec =

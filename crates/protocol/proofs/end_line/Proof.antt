@@ -25,7 +25,10 @@ slice-aggregate-put-2 : tie.Need-slice-aggregate-put-2
 slice-aggregate-put-2 c = lent-length (c .before .before .before .before .before .before .before .before .perform-line .ensures .1 .ledger-held)
 
 put-requires : tie.Need-put-requires
-put-requires c κs = (lent-within (c .before .before .before .before .before .before .before .before .perform-line .ensures .1 .register-held), lent-within (c .before .before .before .before .before .before .before .before .perform-line .ensures .1 .ledger-held), omega (arith, c .before .before .before .before .before .before .before .before .before .before .before .before .before .before .before .before .pre .room))
+put-requires c κs =
+    let pre = c .before .before .before .before .before .before .before .before .before .before .before .before .before .before .before .before .pre in
+    let perform-line = c .before .before .before .before .before .before .before .before .perform-line in
+    (lent-within (perform-line .ensures .1 .register-held), lent-within (perform-line .ensures .1 .ledger-held), omega (arith, pre .room))
 
 slice-aggregate-put-3 : tie.Need-slice-aggregate-put-3
 slice-aggregate-put-3 c = search needs
@@ -43,7 +46,15 @@ same-length-3 : tie.Need-same-length-3
 same-length-3 c = search needs
 
 returns : tie.Need-returns
-returns c = let p = c .before .before .before .before .before .before .before .before .before .before .before .before .before .before .before .before .perform-line .ensures in let w = answers (lentTables (c .before .before .before .before .before .before .before .before .before .before .before .before .before .before .before .before .before .before .before .before .before .before .before .before .args .s .lent) (c .before .before .before .before .before .before .before .before .before .before .before .before .before .before .before .before .before .before .before .before .before .before .before .before .args .reg .now) (c .before .before .before .before .before .before .before .before .before .before .before .before .before .before .before .before .before .before .before .before .before .before .before .before .args .led .now)) (commandIn (lineIn (c .before .before .before .before .before .before .before .before .before .before .before .before .before .before .before .before .before .before .before .before .before .before .before .before .args .s .line) (c .before .before .before .before .before .before .before .before .before .before .before .before .before .before .before .before .before .before .before .before .before .before .before .before .args .line .now))) (c .before .before .before .before .before .before .before .before .before .before .before .before .before .before .before .before .before .before .before .before .before .before .before .before .args .out .now) (c .before .before .before .before .before .before .before .before .before .before .before .before .before .before .before .before .before .before .before .before .before .before .before .before .args .s .out) _ _ (p .0) (c .before .before .before .before .before .before .before .put .ensures) (c .before .before .put2 .ensures) in (ap (λ (x : Outcome). x .tables) (p .0), refl, w .0, w .1, w .2, p .1)
+returns c =
+    let a = c .before .before .before .before .before .before .before .before .before .before .before .before .before .before .before .before .before .before .before .before .before .before .before .before .args in
+    let perform-line = c .before .before .before .before .before .before .before .before .before .before .before .before .before .before .before .before .perform-line in
+    let put = c .before .before .before .before .before .before .before .put in
+    let p = perform-line .ensures in
+    let w =
+    answers (lentTables (a .s .lent) (a .reg .now) (a .led .now)) (commandIn (lineIn (a .s .line) (a .line .now))) (a .out .now) (a .s .out) _ _
+    (p .0) (put .ensures) (c .before .before .put2 .ensures) in
+    (ap (λ (x : Outcome). x .tables) (p .0), refl, w .0, w .1, w .2, p .1)
 
 pub end-line-spec : {M : Type 1} → statement M
 end-line-spec =

@@ -6,7 +6,7 @@ use native.Mathlib.Omega.{arith}
 use lib.ListN.{length}
 use lib.Seq.{sets, length-take-le}
 use Rattle.protocol.specs.Feeding.{sessionIn, lineStored}
-use Rattle.protocol.proofs.Feedings.{part-is, ends-line, line-text, line-bytes, line-goes-on, no-text, all-bytes, no-line}
+use Rattle.protocol.proofs.Feedings.{part-is, line-ends, line-goes-on, no-line}
 use Rattle.protocol.proofs.feed.Statement.{statement}
 use Rattle.protocol.proofs.feed.Tie as tie
 
@@ -14,7 +14,10 @@ find-requires : tie.Need-find-requires
 find-requires c κs = search needs
 
 slice-aggregate-join : tie.Need-slice-aggregate-join
-slice-aggregate-join c = sym (length-take-le (c .before .before .find .result) (c .before .before .before .before .before .before .before .before .before .args .piece .now) (c .before .before .find .ensures .1))
+slice-aggregate-join c =
+    let a = c .before .before .before .before .before .before .before .before .before .args in
+    let find = c .before .before .find in
+    sym (length-take-le (find .result) (a .piece .now) (find .ensures .1))
 
 join-requires : tie.Need-join-requires
 join-requires c κs = search needs
@@ -38,13 +41,46 @@ same-length-4 : tie.Need-same-length-4
 same-length-4 c = search needs
 
 returns : tie.Need-returns
-returns c = let p = c .before .before .before .before .before .before .end-line .ensures in let text = line-text (sessionIn (c .before .before .before .before .before .before .before .before .before .before .before .before .before .before .before .before .before .before .before .before .before .before .before .before .args .s) (c .before .before .before .before .before .before .before .before .before .before .before .before .before .before .before .before .before .before .before .before .before .before .before .before .args .line .now) (c .before .before .before .before .before .before .before .before .before .before .before .before .before .before .before .before .before .before .before .before .before .before .before .before .args .reg .now) (c .before .before .before .before .before .before .before .before .before .before .before .before .before .before .before .before .before .before .before .before .before .before .before .before .args .led .now)) (c .before .before .before .before .before .before .before .before .before .before .before .before .before .before .before .before .before .before .before .before .before .before .before .before .args .piece .now) (c .before .before .before .before .before .before .before .before .before .before .before .before .before .before .before .before .before .find .result) _ (c .before .before .before .before .before .before .before .before .before .before .before .before .before .before .before .before .before .find .ensures .0) (c .before .before .before .before .before .before .before .before .before .before .before .before .before .before .join .ensures .0) (c .before .before .before .before .before .before .before .before .before .before .before .if1 .taken) in (ends-line (sessionIn (c .before .before .before .before .before .before .before .before .before .before .before .before .before .before .before .before .before .before .before .before .before .before .before .before .args .s) (c .before .before .before .before .before .before .before .before .before .before .before .before .before .before .before .before .before .before .before .before .before .before .before .before .args .line .now) (c .before .before .before .before .before .before .before .before .before .before .before .before .before .before .before .before .before .before .before .before .before .before .before .before .args .reg .now) (c .before .before .before .before .before .before .before .before .before .before .before .before .before .before .before .before .before .before .before .before .before .before .before .before .args .led .now)) (c .before .before .before .before .before .before .before .before .before .before .before .before .before .before .before .before .before .before .before .before .before .before .before .before .args .piece .now) (c .before .before .before .before .before .before .before .before .before .before .before .before .before .before .before .before .before .find .result) _ (c .before .before .before .before .before .before .before .before .before .before .before .before .before .before .before .before .before .find .ensures .0) (c .before .before .before .before .before .before .before .before .before .before .before .before .before .before .join .ensures .0) (c .before .before .before .before .before .before .before .before .before .before .before .if1 .taken) (p .0) (no-line (c .before .before .before .before .before .before .end-line .result .line) _ (p .1)), line-bytes (sessionIn (c .before .before .before .before .before .before .before .before .before .before .before .before .before .before .before .before .before .before .before .before .before .before .before .before .args .s) (c .before .before .before .before .before .before .before .before .before .before .before .before .before .before .before .before .before .before .before .before .before .before .before .before .args .line .now) (c .before .before .before .before .before .before .before .before .before .before .before .before .before .before .before .before .before .before .before .before .before .before .before .before .args .reg .now) (c .before .before .before .before .before .before .before .before .before .before .before .before .before .before .before .before .before .before .before .before .before .before .before .before .args .led .now)) (c .before .before .before .before .before .before .before .before .before .before .before .before .before .before .before .before .before .before .before .before .before .before .before .before .args .piece .now) (c .before .before .before .before .before .before .before .before .before .before .before .before .before .before .before .before .before .find .result) _ (c .before .before .before .before .before .before .before .before .before .before .before .before .before .before .before .before .before .find .ensures .0) (c .before .before .before .before .before .before .before .before .before .before .before .before .before .before .join .ensures .0) (c .before .before .before .before .before .before .before .before .before .before .before .if1 .taken), c .before .before .before .before .before .before .before .before .before .before .before .before .before .before .join .ensures .1 ∙ ap (lineStored (c .before .before .before .before .before .before .before .before .before .before .before .before .before .before .before .before .before .before .before .before .before .before .before .before .args .s .line) (c .before .before .before .before .before .before .before .before .before .before .before .before .before .before .before .before .before .before .before .before .before .before .before .before .args .line .now)) (part-is (c .before .before .before .before .before .before .before .before .before .before .before .before .before .before .before .before .before .before .before .before .before .before .before .before .args .piece .now) (c .before .before .before .before .before .before .before .before .before .before .before .before .before .before .before .before .before .find .result) (c .before .before .before .before .before .before .before .before .before .before .before .before .before .before .before .before .before .find .ensures .0)), p .2 ∙ ap (λ t. c .before .before .before .before .before .before .before .before .before .before .before .before .before .before .before .before .before .before .before .before .before .before .before .before .args .s .out + length t) text, p .3 ∙ ap (sets (c .before .before .before .before .before .before .before .before .before .before .before .before .before .before .before .before .before .before .before .before .before .before .before .before .args .out .now) (c .before .before .before .before .before .before .before .before .before .before .before .before .before .before .before .before .before .before .before .before .before .before .before .before .args .s .out)) text, p .4, p .5)
+returns c =
+    let a = c .before .before .before .before .before .before .before .before .before .before .before .before .before .before .before .before .before .before .before .before .before .before .before .before .args in
+    let find = c .before .before .before .before .before .before .before .before .before .before .before .before .before .before .before .before .before .find in
+    let join = c .before .before .before .before .before .before .before .before .before .before .before .before .before .before .join in
+    let if1 = c .before .before .before .before .before .before .before .before .before .before .before .if1 in
+    let end-line = c .before .before .before .before .before .before .end-line in
+    let p = end-line .ensures in
+    let w =
+    line-ends (sessionIn (a .s) (a .line .now) (a .reg .now) (a .led .now)) (a .piece .now) (find .result) _ (find .ensures .0) (join .ensures .0)
+    (if1 .taken) (p .0) (no-line (end-line .result .line) _ (p .1)) in (
+      w .0,
+      w .2,
+      join .ensures .1 ∙ ap (lineStored (a .s .line) (a .line .now)) (part-is (a .piece .now) (find .result) (find .ensures .0)),
+      p .2 ∙ ap (λ t. a .s .out + length t) (w .1),
+      p .3 ∙ ap (sets (a .out .now) (a .s .out)) (w .1),
+      p .4,
+      p .5,
+    )
 
 same-length-5 : tie.Need-same-length-5
 same-length-5 c = search needs
 
 returns-2 : tie.Need-returns-2
-returns-2 c = let text = no-text (sessionIn (c .before .before .before .before .before .before .before .before .before .before .before .before .before .args .s) (c .before .before .before .before .before .before .before .before .before .before .before .before .before .args .line .now) (c .before .before .before .before .before .before .before .before .before .before .before .before .before .args .reg .now) (c .before .before .before .before .before .before .before .before .before .before .before .before .before .args .led .now)) (c .before .before .before .before .before .before .before .before .before .before .before .before .before .args .piece .now) (c .before .before .before .before .before .before .find .result) _ (c .before .before .before .before .before .before .find .ensures .0) (c .before .before .before .join .ensures .0) (c .if1 .left) in (line-goes-on (sessionIn (c .before .before .before .before .before .before .before .before .before .before .before .before .before .args .s) (c .before .before .before .before .before .before .before .before .before .before .before .before .before .args .line .now) (c .before .before .before .before .before .before .before .before .before .before .before .before .before .args .reg .now) (c .before .before .before .before .before .before .before .before .before .before .before .before .before .args .led .now)) (c .before .before .before .before .before .before .before .before .before .before .before .before .before .args .piece .now) (c .before .before .before .before .before .before .find .result) _ (c .before .before .before .before .before .before .find .ensures .0) (c .before .before .before .join .ensures .0) (c .if1 .left), all-bytes (sessionIn (c .before .before .before .before .before .before .before .before .before .before .before .before .before .args .s) (c .before .before .before .before .before .before .before .before .before .before .before .before .before .args .line .now) (c .before .before .before .before .before .before .before .before .before .before .before .before .before .args .reg .now) (c .before .before .before .before .before .before .before .before .before .before .before .before .before .args .led .now)) (c .before .before .before .before .before .before .before .before .before .before .before .before .before .args .piece .now) (c .before .before .before .before .before .before .find .result) _ (c .before .before .before .before .before .before .find .ensures .0) (c .before .before .before .join .ensures .0) (c .if1 .left) (c .before .before .before .before .before .before .find .ensures .1), c .before .before .before .join .ensures .1 ∙ ap (lineStored (c .before .before .before .before .before .before .before .before .before .before .before .before .before .args .s .line) (c .before .before .before .before .before .before .before .before .before .before .before .before .before .args .line .now)) (part-is (c .before .before .before .before .before .before .before .before .before .before .before .before .before .args .piece .now) (c .before .before .before .before .before .before .find .result) (c .before .before .before .before .before .before .find .ensures .0)), rw (← text) (omega arith), ap (sets (c .before .before .before .before .before .before .before .before .before .before .before .before .before .args .out .now) (c .before .before .before .before .before .before .before .before .before .before .before .before .before .args .s .out)) text, omega arith, c .before .before .before .before .before .before .before .before .before .before .before .before .before .pre .held)
+returns-2 c =
+    let a = c .before .before .before .before .before .before .before .before .before .before .before .before .before .args in
+    let pre = c .before .before .before .before .before .before .before .before .before .before .before .before .before .pre in
+    let find = c .before .before .before .before .before .before .find in
+    let join = c .before .before .before .join in
+    let if1 = c .if1 in
+    let w =
+    line-goes-on (sessionIn (a .s) (a .line .now) (a .reg .now) (a .led .now)) (a .piece .now) (find .result) _ (find .ensures .0) (join .ensures .0)
+    (if1 .left) (find .ensures .1) in (
+      w .0,
+      w .2,
+      join .ensures .1 ∙ ap (lineStored (a .s .line) (a .line .now)) (part-is (a .piece .now) (find .result) (find .ensures .0)),
+      rw (← w .1) (omega arith),
+      ap (sets (a .out .now) (a .s .out)) (w .1),
+      omega arith,
+      pre .held,
+    )
 
 pub feed-spec : {M : Type 1} → statement M
 feed-spec =

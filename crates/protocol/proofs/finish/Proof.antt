@@ -12,7 +12,10 @@ use Rattle.protocol.proofs.finish.Tie as tie
 use Rattle.protocol.proofs.end_line.Reads as end-line-reads
 
 returns : tie.Need-returns
-returns c = let f = finishes-blank (sessionIn (c .before .before .before .before .before .before .args .s) (c .before .before .before .before .before .before .args .line .now) (c .before .before .before .before .before .before .args .reg .now) (c .before .before .before .before .before .before .args .led .now)) (blank-line (c .before .before .before .before .before .before .args .s .line) (c .before .before .before .before .before .before .args .line .now) (c .if1 .taken)) in (f .0, rw (← f .1) (omega arith), ap (sets (c .before .before .before .before .before .before .args .out .now) (c .before .before .before .before .before .before .args .s .out)) (f .1), omega arith)
+returns c =
+    let a = c .before .before .before .before .before .before .args in
+    let f = finishes-blank (sessionIn (a .s) (a .line .now) (a .reg .now) (a .led .now)) (blank-line (a .s .line) (a .line .now) (c .if1 .taken)) in
+    (f .0, rw (← f .1) (omega arith), ap (sets (a .out .now) (a .s .out)) (f .1), omega arith)
 
 end-line-requires : tie.Need-end-line-requires
 end-line-requires c κs = search needs
@@ -27,7 +30,19 @@ same-length-3 : tie.Need-same-length-3
 same-length-3 c = search needs
 
 returns-2 : tie.Need-returns-2
-returns-2 c = let p = c .before .before .before .before .before .before .end-line .ensures in let f = finishes (sessionIn (c .before .before .before .before .before .before .before .before .before .before .before .before .before .before .before .before .args .s) (c .before .before .before .before .before .before .before .before .before .before .before .before .before .before .before .before .args .line .now) (c .before .before .before .before .before .before .before .before .before .before .before .before .before .before .before .before .args .reg .now) (c .before .before .before .before .before .before .before .before .before .before .before .before .before .before .before .before .args .led .now)) (not-blank (c .before .before .before .before .before .before .before .before .before .before .before .before .before .before .before .before .args .s .line) (c .before .before .before .before .before .before .before .before .before .before .before .before .before .before .before .before .args .line .now) (c .before .before .before .before .before .before .before .before .before .before .before .before .before .before .before .before .pre .line-size) (c .before .before .before .before .before .before .before .before .before .before .if1 .left)) in ((λ i. record { tables = p .0 i; line = no-line (c .before .before .before .before .before .before .end-line .result .line) (c .before .before .before .before .before .before .before .before .before .before .before .before .before .before .before .before .args .line .now) (p .1) i }) ∙ f .0, p .2 ∙ ap (λ t. c .before .before .before .before .before .before .before .before .before .before .before .before .before .before .before .before .args .s .out + length t) (f .1), p .3 ∙ ap (sets (c .before .before .before .before .before .before .before .before .before .before .before .before .before .before .before .before .args .out .now) (c .before .before .before .before .before .before .before .before .before .before .before .before .before .before .before .before .args .s .out)) (f .1), p .4)
+returns-2 c =
+    let a = c .before .before .before .before .before .before .before .before .before .before .before .before .before .before .before .before .args in
+    let pre = c .before .before .before .before .before .before .before .before .before .before .before .before .before .before .before .before .pre in
+    let if1 = c .before .before .before .before .before .before .before .before .before .before .if1 in
+    let end-line = c .before .before .before .before .before .before .end-line in
+    let p = end-line .ensures in
+    let f =
+    finishes (sessionIn (a .s) (a .line .now) (a .reg .now) (a .led .now)) (not-blank (a .s .line) (a .line .now) (pre .line-size) (if1 .left)) in (
+      (λ i. record { tables = p .0 i; line = no-line (end-line .result .line) (a .line .now) (p .1) i }) ∙ f .0,
+      p .2 ∙ ap (λ t. a .s .out + length t) (f .1),
+      p .3 ∙ ap (sets (a .out .now) (a .s .out)) (f .1),
+      p .4,
+    )
 
 pub finish-spec : {M : Type 1} → statement M
 finish-spec =

@@ -6,7 +6,9 @@ use Rattle.protocol.proofs.join.Tie as tie
 use Rattle.text.proofs.put.Reads as put-reads
 
 returns : tie.Need-returns
-returns c = joins-none (c .before .before .before .args .n) (c .before .before .before .args .line .now) (c .before .before .before .args .part .now) (c .before .before .before .pre) (c .if1 .taken)
+returns c =
+    let a = c .before .before .before .args in
+    joins-none (a .n) (a .line .now) (a .part .now) (c .before .before .before .pre) (c .if1 .taken)
 
 sub-if2 : tie.Need-sub-if2
 sub-if2 c = search needs
@@ -15,7 +17,10 @@ add-result : tie.Need-add-result
 add-result c = search needs
 
 returns-2 : tie.Need-returns-2
-returns-2 c = joins-too-long (c .before .before .before .before .args .n) (c .before .before .before .before .args .line .now) (c .before .before .before .before .args .part .now) (c .before .before .before .before .pre) (c .before .if1 .left) (c .if2 .taken)
+returns-2 c =
+    let a = c .before .before .before .before .args in
+    let pre = c .before .before .before .before .pre in
+    joins-too-long (a .n) (a .line .now) (a .part .now) (pre) (c .before .if1 .left) (c .if2 .taken)
 
 put-requires : tie.Need-put-requires
 put-requires c κs = search needs
@@ -24,7 +29,13 @@ same-length : tie.Need-same-length
 same-length c = search needs
 
 returns-3 : tie.Need-returns-3
-returns-3 c = joins (c .before .before .before .before .before .before .before .before .args .n) (c .before .before .before .before .before .before .before .before .args .line .now) (c .before .before .before .before .before .before .before .before .args .part .now) (c .before .before .before .before .before .before .before .before .pre) (c .before .before .before .before .before .if1 .left) (c .before .before .before .before .if2 .left) (c .before .before .put .ensures .0) (c .before .before .put .ensures .1)
+returns-3 c =
+    let a = c .before .before .before .before .before .before .before .before .args in
+    let pre = c .before .before .before .before .before .before .before .before .pre in
+    let if1 = c .before .before .before .before .before .if1 in
+    let if2 = c .before .before .before .before .if2 in
+    let put = c .before .before .put in
+    joins (a .n) (a .line .now) (a .part .now) (pre) (if1 .left) (if2 .left) (put .ensures .0) (put .ensures .1)
 
 pub join-spec : {M : Type 1} → statement M
 join-spec =

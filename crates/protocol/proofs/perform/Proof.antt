@@ -29,7 +29,15 @@ same-length-2 : tie.Need-same-length-2
 same-length-2 c = search needs
 
 returns : tie.Need-returns
-returns c = (does (take (c .before .before .before .before .before .before .before .before .before .before .before .before .before .before .args .s .register) (c .before .before .before .before .before .before .before .before .before .before .before .before .before .before .args .reg .now)) (take (c .before .before .before .before .before .before .before .before .before .before .before .before .before .before .args .s .ledger) (c .before .before .before .before .before .before .before .before .before .before .before .before .before .before .args .led .now)) _ (is-resize (wordsOf (c .before .before .before .before .before .before .before .before .before .before .before .before .before .before .args .line .now)) (sym (c .before .before .before .before .before .before .before .before .is-word .ensures) ∙ c .before .before .before .before .before .before .before .if1 .taken)) (c .before .before .before .before .resize .ensures .0), c .before .before .before .before .resize .ensures .1)
+returns c =
+    let a = c .before .before .before .before .before .before .before .before .before .before .before .before .before .before .args in
+    let is-word = c .before .before .before .before .before .before .before .before .is-word in
+    let if1 = c .before .before .before .before .before .before .before .if1 in
+    let resize = c .before .before .before .before .resize in (
+      does (take (a .s .register) (a .reg .now)) (take (a .s .ledger) (a .led .now)) _
+          (is-resize (wordsOf (a .line .now)) (sym (is-word .ensures) ∙ if1 .taken)) (resize .ensures .0),
+      resize .ensures .1,
+    )
 
 slice-aggregate-is-word-2 : tie.Need-slice-aggregate-is-word-2
 slice-aggregate-is-word-2 c = search needs
@@ -47,7 +55,17 @@ same-length-4 : tie.Need-same-length-4
 same-length-4 c = search needs
 
 returns-2 : tie.Need-returns-2
-returns-2 c = (does (take (c .before .before .before .before .before .before .before .before .before .before .before .before .before .before .before .before .before .args .s .register) (c .before .before .before .before .before .before .before .before .before .before .before .before .before .before .before .before .before .args .reg .now)) (take (c .before .before .before .before .before .before .before .before .before .before .before .before .before .before .before .before .before .args .s .ledger) (c .before .before .before .before .before .before .before .before .before .before .before .before .before .before .before .before .before .args .led .now)) _ (is-empty (wordsOf (c .before .before .before .before .before .before .before .before .before .before .before .before .before .before .before .before .before .args .line .now)) (sym (c .before .before .before .before .before .before .before .before .before .before .before .is-word .ensures) ∙ c .before .before .before .before .before .before .before .before .before .before .if1 .left) (sym (c .before .before .before .before .before .before .before .before .is-word2 .ensures) ∙ c .before .before .before .before .before .before .before .if2 .taken)) (c .before .before .before .before .empty .ensures .0), c .before .before .before .before .empty .ensures .1)
+returns-2 c =
+    let a = c .before .before .before .before .before .before .before .before .before .before .before .before .before .before .before .before .before .args in
+    let is-word = c .before .before .before .before .before .before .before .before .before .before .before .is-word in
+    let if1 = c .before .before .before .before .before .before .before .before .before .before .if1 in
+    let is-word2 = c .before .before .before .before .before .before .before .before .is-word2 in
+    let if2 = c .before .before .before .before .before .before .before .if2 in
+    let empty = c .before .before .before .before .empty in (
+      does (take (a .s .register) (a .reg .now)) (take (a .s .ledger) (a .led .now)) _
+          (is-empty (wordsOf (a .line .now)) (sym (is-word .ensures) ∙ if1 .left) (sym (is-word2 .ensures) ∙ if2 .taken)) (empty .ensures .0),
+      empty .ensures .1,
+    )
 
 slice-relend-prefix-run : tie.Need-slice-relend-prefix-run
 slice-relend-prefix-run c = search needs
@@ -59,7 +77,9 @@ slice-relend-prefix-run-2 : tie.Need-slice-relend-prefix-run-2
 slice-relend-prefix-run-2 c = search needs
 
 slice-aggregate-run-2 : tie.Need-slice-aggregate-run-2
-slice-aggregate-run-2 c = lent-length (c .before .before .before .before .before .before .before .before .before .before .before .before .pre .1 .ledger-held)
+slice-aggregate-run-2 c =
+    let pre = c .before .before .before .before .before .before .before .before .before .before .before .before .pre in
+    lent-length (pre .1 .ledger-held)
 
 run-requires : tie.Need-run-requires
 run-requires c κs = search needs
@@ -71,7 +91,18 @@ same-length-6 : tie.Need-same-length-6
 same-length-6 c = search needs
 
 returns-3 : tie.Need-returns-3
-returns-3 c = performs (c .before .before .before .before .before .before .before .before .before .before .before .before .before .before .before .before .before .args .s) _ _ _ _ _ (take (c .before .before .before .before .before .before .before .before .before .before .before .before .before .before .before .before .before .args .s .register) (c .before .before .before .before .before .before .before .before .before .before .before .before .before .before .before .before .before .args .reg .now)) (take (c .before .before .before .before .before .before .before .before .before .before .before .before .before .before .before .before .before .args .s .ledger) (c .before .before .before .before .before .before .before .before .before .before .before .before .before .before .before .before .before .args .led .now)) _ (lends-changed _ _ _ (c .before .before .before .before .before .before .before .before .before .before .before .before .before .before .before .before .before .pre .1 .register-held) (c .before .before .before .before .run .kept .1 .1 .0 ∙ sym (lent-length (c .before .before .before .before .before .before .before .before .before .before .before .before .before .before .before .before .before .pre .1 .register-held)))) (lends-changed _ _ _ (c .before .before .before .before .before .before .before .before .before .before .before .before .before .before .before .before .before .pre .1 .ledger-held) (c .before .before .before .before .run .kept .1 .1 .1 .0 ∙ sym (lent-length (c .before .before .before .before .before .before .before .before .before .before .before .before .before .before .before .before .before .pre .1 .ledger-held)))) (is-lent (wordsOf (c .before .before .before .before .before .before .before .before .before .before .before .before .before .before .before .before .before .args .line .now)) (sym (c .before .before .before .before .before .before .before .before .before .before .before .is-word .ensures) ∙ c .before .before .before .before .before .before .before .before .before .before .if1 .left) (sym (c .before .before .before .before .before .before .before .before .is-word2 .ensures) ∙ c .before .before .before .before .before .before .before .if2 .left)) (c .before .before .before .before .run .ensures)
+returns-3 c =
+    let a = c .before .before .before .before .before .before .before .before .before .before .before .before .before .before .before .before .before .args in
+    let pre = c .before .before .before .before .before .before .before .before .before .before .before .before .before .before .before .before .before .pre in
+    let is-word = c .before .before .before .before .before .before .before .before .before .before .before .is-word in
+    let if1 = c .before .before .before .before .before .before .before .before .before .before .if1 in
+    let is-word2 = c .before .before .before .before .before .before .before .before .is-word2 in
+    let if2 = c .before .before .before .before .before .before .before .if2 in
+    let run = c .before .before .before .before .run in
+    performs (a .s) _ _ _ _ _ (take (a .s .register) (a .reg .now)) (take (a .s .ledger) (a .led .now)) _
+    (lends-changed _ _ _ (pre .1 .register-held) (run .kept .1 .1 .0 ∙ sym (lent-length (pre .1 .register-held))))
+    (lends-changed _ _ _ (pre .1 .ledger-held) (run .kept .1 .1 .1 .0 ∙ sym (lent-length (pre .1 .ledger-held))))
+    (is-lent (wordsOf (a .line .now)) (sym (is-word .ensures) ∙ if1 .left) (sym (is-word2 .ensures) ∙ if2 .left)) (run .ensures)
 
 pub perform-spec : {M : Type 1} → statement M
 perform-spec =

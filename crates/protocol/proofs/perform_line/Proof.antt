@@ -11,13 +11,25 @@ use Rattle.protocol.proofs.perform_line.Tie as tie
 use Rattle.protocol.proofs.perform.Reads as perform-reads
 
 returns : tie.Need-returns
-returns c = (does-nothing (take (c .before .before .before .before .args .s .register) (c .before .before .before .before .args .reg .now)) (take (c .before .before .before .before .args .s .ledger) (c .before .before .before .before .args .led .now)) _ (command-too-long (c .before .before .before .before .args .n) (c .before .before .before .before .args .line .now) (omega (arith, c .before .before .before .before .pre .0, c .if1 .taken))), c .before .before .before .before .pre .1)
+returns c =
+    let a = c .before .before .before .before .args in
+    let pre = c .before .before .before .before .pre in (
+      does-nothing (take (a .s .register) (a .reg .now)) (take (a .s .ledger) (a .led .now)) _
+          (command-too-long (a .n) (a .line .now) (omega (arith, pre .0, c .if1 .taken))),
+      pre .1,
+    )
 
 slice-aggregate-perform : tie.Need-slice-aggregate-perform
-slice-aggregate-perform c = sym (length-take-le (c .before .before .before .before .before .args .n) (c .before .before .before .before .before .args .line .now) (c .before .if1 .left))
+slice-aggregate-perform c =
+    let a = c .before .before .before .before .before .args in
+    sym (length-take-le (a .n) (a .line .now) (c .before .if1 .left))
 
 perform-requires : tie.Need-perform-requires
-perform-requires c κs = (omega (arith, length-take-le (c .before .before .before .before .before .before .before .args .n) (c .before .before .before .before .before .before .before .args .line .now) (c .before .before .before .if1 .left), c .before .before .before .before .before .before .before .pre .0, c .before .before .before .if1 .left), c .before .before .before .before .before .before .before .pre .1)
+perform-requires c κs =
+    let a = c .before .before .before .before .before .before .before .args in
+    let pre = c .before .before .before .before .before .before .before .pre in
+    let if1 = c .before .before .before .if1 in
+    (omega (arith, length-take-le (a .n) (a .line .now) (if1 .left), pre .0, if1 .left), pre .1)
 
 same-length : tie.Need-same-length
 same-length c = search needs
@@ -26,7 +38,15 @@ same-length-2 : tie.Need-same-length-2
 same-length-2 c = search needs
 
 returns-2 : tie.Need-returns-2
-returns-2 c = (does (take (c .before .before .before .before .before .before .before .before .before .before .before .before .args .s .register) (c .before .before .before .before .before .before .before .before .before .before .before .before .args .reg .now)) (take (c .before .before .before .before .before .before .before .before .before .before .before .before .args .s .ledger) (c .before .before .before .before .before .before .before .before .before .before .before .before .args .led .now)) _ (command-is (c .before .before .before .before .before .before .before .before .before .before .before .before .args .n) (c .before .before .before .before .before .before .before .before .before .before .before .before .args .line .now) (omega (arith, c .before .before .before .before .before .before .before .before .before .before .before .before .pre .0, c .before .before .before .before .before .before .before .before .if1 .left))) (c .before .before .before .before .perform .ensures .0), c .before .before .before .before .perform .ensures .1)
+returns-2 c =
+    let a = c .before .before .before .before .before .before .before .before .before .before .before .before .args in
+    let pre = c .before .before .before .before .before .before .before .before .before .before .before .before .pre in
+    let if1 = c .before .before .before .before .before .before .before .before .if1 in
+    let perform = c .before .before .before .before .perform in (
+      does (take (a .s .register) (a .reg .now)) (take (a .s .ledger) (a .led .now)) _
+          (command-is (a .n) (a .line .now) (omega (arith, pre .0, if1 .left))) (perform .ensures .0),
+      perform .ensures .1,
+    )
 
 pub perform-line-spec : {M : Type 1} → statement M
 perform-line-spec =

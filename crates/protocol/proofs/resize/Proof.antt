@@ -11,7 +11,12 @@ use Rattle.protocol.proofs.commands.named.Reads as named-reads
 use Rattle.protocol.proofs.resize_named.Reads as resize-named-reads
 
 returns : tie.Need-returns
-returns c = (does-nothing (take (c .before .before .before .before .args .s .register) (c .before .before .before .before .args .reg .now)) (take (c .before .before .before .before .args .s .ledger) (c .before .before .before .before .args .led .now)) _ (other-count _ 3 _ (λ e. c .if1 .taken (c .before .before .before .before .pre .0 ∙ e))), c .before .before .before .before .pre .1)
+returns c =
+    let a = c .before .before .before .before .args in
+    let pre = c .before .before .before .before .pre in (
+      does-nothing (take (a .s .register) (a .reg .now)) (take (a .s .ledger) (a .led .now)) _ (other-count _ 3 _ (λ e. c .if1 .taken (pre .0 ∙ e))),
+      pre .1,
+    )
 
 number-requires : tie.Need-number-requires
 number-requires c κs = search needs
@@ -23,13 +28,30 @@ enum-told : tie.Need-enum-told
 enum-told c = search needs
 
 returns-2 : tie.Need-returns-2
-returns-2 c = (does-nothing (take (c .before .before .before .before .before .before .before .args .s .register) (c .before .before .before .before .before .before .before .args .reg .now)) (take (c .before .before .before .before .before .before .before .args .s .ledger) (c .before .before .before .before .before .before .before .args .led .now)) _ (right-count _ 3 _ (sym (c .before .before .before .before .before .before .before .pre .0) ∙ c .before .before .before .if1 .left) ∙ no-number _ 2 _ (sym (c .before .before .number .ensures) ∙ c .enum-told .given .1)), c .before .before .before .before .before .before .before .pre .1)
+returns-2 c =
+    let a = c .before .before .before .before .before .before .before .args in
+    let pre = c .before .before .before .before .before .before .before .pre in (
+      does-nothing (take (a .s .register) (a .reg .now)) (take (a .s .ledger) (a .led .now)) _
+          (right-count _ 3 _ (sym (pre .0) ∙ c .before .before .before .if1 .left)
+          ∙ no-number _ 2 _ (sym (c .before .before .number .ensures) ∙ c .enum-told .given .1)),
+      pre .1,
+    )
 
 cast-to : tie.Need-cast-to
 cast-to c = search needs
 
 returns-3 : tie.Need-returns-3
-returns-3 c = (does-nothing (take (c .before .before .before .before .before .before .before .before .before .args .s .register) (c .before .before .before .before .before .before .before .before .before .args .reg .now)) (take (c .before .before .before .before .before .before .before .before .before .args .s .ledger) (c .before .before .before .before .before .before .before .before .before .args .led .now)) _ (right-count _ 3 _ (sym (c .before .before .before .before .before .before .before .before .before .pre .0) ∙ c .before .before .before .before .before .if1 .left) ∙ number-is _ 2 _ (sym (c .before .before .before .before .number .ensures) ∙ c .before .before .length .given .1) ∙ too-many _ _ _ (c .if2 .taken)), c .before .before .before .before .before .before .before .before .before .pre .1)
+returns-3 c =
+    let a = c .before .before .before .before .before .before .before .before .before .args in
+    let pre = c .before .before .before .before .before .before .before .before .before .pre in
+    let if1 = c .before .before .before .before .before .if1 in
+    let number = c .before .before .before .before .number in (
+      does-nothing (take (a .s .register) (a .reg .now)) (take (a .s .ledger) (a .led .now)) _
+          (right-count _ 3 _ (sym (pre .0) ∙ if1 .left)
+          ∙ number-is _ 2 _ (sym (number .ensures) ∙ c .before .before .length .given .1)
+          ∙ too-many _ _ _ (c .if2 .taken)),
+      pre .1,
+    )
 
 named-requires : tie.Need-named-requires
 named-requires c κs = search needs
@@ -44,7 +66,23 @@ same-length-2 : tie.Need-same-length-2
 same-length-2 c = search needs
 
 returns-4 : tie.Need-returns-4
-returns-4 c = (does (take (c .before .before .before .before .before .before .before .before .before .before .before .before .before .before .before .before .before .args .s .register) (c .before .before .before .before .before .before .before .before .before .before .before .before .before .before .before .before .before .args .reg .now)) (take (c .before .before .before .before .before .before .before .before .before .before .before .before .before .before .before .before .before .args .s .ledger) (c .before .before .before .before .before .before .before .before .before .before .before .before .before .before .before .before .before .args .led .now)) _ (right-count _ 3 _ (sym (c .before .before .before .before .before .before .before .before .before .before .before .before .before .before .before .before .before .pre .0) ∙ c .before .before .before .before .before .before .before .before .before .before .before .before .before .if1 .left) ∙ number-is _ 2 _ (sym (c .before .before .before .before .before .before .before .before .before .before .before .before .number .ensures) ∙ c .before .before .before .before .before .before .before .before .before .before .length .given .1) ∙ not-too-many _ _ _ (c .before .before .before .before .before .before .before .before .if2 .left) ∙ ap (λ t. resize t (c .before .before .before .before .before .before .before .before .before .before .length .given .0 .0)) (sym (c .before .before .before .before .before .before .before .named .ensures))) (c .before .before .before .before .resize-named .ensures .0), c .before .before .before .before .resize-named .ensures .1)
+returns-4 c =
+    let a = c .before .before .before .before .before .before .before .before .before .before .before .before .before .before .before .before .before .args in
+    let pre = c .before .before .before .before .before .before .before .before .before .before .before .before .before .before .before .before .before .pre in
+    let if1 = c .before .before .before .before .before .before .before .before .before .before .before .before .before .if1 in
+    let number = c .before .before .before .before .before .before .before .before .before .before .before .before .number in
+    let length′ = c .before .before .before .before .before .before .before .before .before .before .length in
+    let if2 = c .before .before .before .before .before .before .before .before .if2 in
+    let named = c .before .before .before .before .before .before .before .named in
+    let resize-named = c .before .before .before .before .resize-named in (
+      does (take (a .s .register) (a .reg .now)) (take (a .s .ledger) (a .led .now)) _
+          (right-count _ 3 _ (sym (pre .0) ∙ if1 .left)
+          ∙ number-is _ 2 _ (sym (number .ensures) ∙ length′ .given .1)
+          ∙ not-too-many _ _ _ (if2 .left)
+          ∙ ap (λ t. resize t (length′ .given .0 .0)) (sym (named .ensures)))
+          (resize-named .ensures .0),
+      resize-named .ensures .1,
+    )
 
 pub resize-spec : {M : Type 1} → statement M
 resize-spec =

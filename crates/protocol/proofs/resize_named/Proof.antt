@@ -28,16 +28,33 @@ same-length : tie.Need-same-length
 same-length c = search needs
 
 returns : tie.Need-returns
-returns c = performs (record { register = c .before .before .before .before .before .before .before .before .args .to; ledger = c .before .before .before .before .before .before .before .before .args .s .ledger }) _ _ _ _ _ (take (c .before .before .before .before .before .before .before .before .args .s .register) (c .before .before .before .before .before .before .before .before .args .reg .now)) (take (c .before .before .before .before .before .before .before .before .args .s .ledger) (c .before .before .before .before .before .before .before .before .args .led .now)) _ (lends-resized _ _ _ (c .before .before .before .before .before .before .before .before .pre .1 .register-held) (c .before .before .before .before .before .before .before .before .pre .0) (c .before .before .cut .ensures)) (lends-same _ _ (c .before .before .before .before .before .before .before .before .pre .1 .ledger-held)) (ap (λ t. resize t (c .before .before .before .before .before .before .before .before .args .to)) (c .before .before .before .before .enum-told .given .1)) refl
+returns c =
+    let a = c .before .before .before .before .before .before .before .before .args in
+    let pre = c .before .before .before .before .before .before .before .before .pre in
+    let enum-told′ = c .before .before .before .before .enum-told in
+    performs (record { register = a .to; ledger = a .s .ledger }) _ _ _ _ _ (take (a .s .register) (a .reg .now)) (take (a .s .ledger) (a .led .now))
+    _
+    (lends-resized _ _ _ (pre .1 .register-held) (pre .0) (c .before .before .cut .ensures)) (lends-same _ _ (pre .1 .ledger-held))
+    (ap (λ t. resize t (a .to)) (enum-told′ .given .1)) refl
 
 same-length-2 : tie.Need-same-length-2
 same-length-2 c = search needs
 
 returns-2 : tie.Need-returns-2
-returns-2 c = performs (record { register = c .before .before .before .before .before .before .before .before .args .s .register; ledger = c .before .before .before .before .before .before .before .before .args .to }) _ _ _ _ _ (take (c .before .before .before .before .before .before .before .before .args .s .register) (c .before .before .before .before .before .before .before .before .args .reg .now)) (take (c .before .before .before .before .before .before .before .before .args .s .ledger) (c .before .before .before .before .before .before .before .before .args .led .now)) _ (lends-same _ _ (c .before .before .before .before .before .before .before .before .pre .1 .register-held)) (lends-resized _ _ _ (c .before .before .before .before .before .before .before .before .pre .1 .ledger-held) (c .before .before .before .before .before .before .before .before .pre .0) (c .before .before .cut2 .ensures)) (ap (λ t. resize t (c .before .before .before .before .before .before .before .before .args .to)) (c .before .before .before .before .enum-told2 .given .1)) refl
+returns-2 c =
+    let a = c .before .before .before .before .before .before .before .before .args in
+    let pre = c .before .before .before .before .before .before .before .before .pre in
+    let enum-told2 = c .before .before .before .before .enum-told2 in
+    performs (record { register = a .s .register; ledger = a .to }) _ _ _ _ _ (take (a .s .register) (a .reg .now))
+    (take (a .s .ledger) (a .led .now)) _ (lends-same _ _ (pre .1 .register-held))
+    (lends-resized _ _ _ (pre .1 .ledger-held) (pre .0) (c .before .before .cut2 .ensures)) (ap (λ t. resize t (a .to)) (enum-told2 .given .1)) refl
 
 returns-3 : tie.Need-returns-3
-returns-3 c = performs (c .before .before .before .before .args .s) _ _ _ _ _ (take (c .before .before .before .before .args .s .register) (c .before .before .before .before .args .reg .now)) (take (c .before .before .before .before .args .s .ledger) (c .before .before .before .before .args .led .now)) _ (lends-same _ _ (c .before .before .before .before .pre .1 .register-held)) (lends-same _ _ (c .before .before .before .before .pre .1 .ledger-held)) (ap (λ t. resize t (c .before .before .before .before .args .to)) (c .enum-told3 .given .1)) refl
+returns-3 c =
+    let a = c .before .before .before .before .args in
+    let pre = c .before .before .before .before .pre in
+    performs (a .s) _ _ _ _ _ (take (a .s .register) (a .reg .now)) (take (a .s .ledger) (a .led .now)) _ (lends-same _ _ (pre .1 .register-held))
+    (lends-same _ _ (pre .1 .ledger-held)) (ap (λ t. resize t (a .to)) (c .enum-told3 .given .1)) refl
 
 pub resize-named-spec : {M : Type 1} → statement M
 resize-named-spec =

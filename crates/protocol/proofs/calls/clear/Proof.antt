@@ -10,7 +10,10 @@ use Rattle.filter.proofs.clear.Reads as clear-reads
 use Rattle.lines.proofs.number.Reads as number-reads
 
 returns : tie.Need-returns
-returns c = does-nothing (c .before .before .before .before .args .reg .now) (c .before .before .before .before .args .led .now) _ (other-count _ 2 _ (λ e. c .if1 .taken (c .before .before .before .before .pre ∙ e)))
+returns c =
+    let a = c .before .before .before .before .args in
+    let pre = c .before .before .before .before .pre in
+    does-nothing (a .reg .now) (a .led .now) _ (other-count _ 2 _ (λ e. c .if1 .taken (pre ∙ e)))
 
 number-requires : tie.Need-number-requires
 number-requires c κs = search needs
@@ -22,7 +25,12 @@ enum-told : tie.Need-enum-told
 enum-told c = search needs
 
 returns-2 : tie.Need-returns-2
-returns-2 c = does-nothing (c .before .before .before .before .before .before .before .args .reg .now) (c .before .before .before .before .before .before .before .args .led .now) _ (right-count _ 2 _ (sym (c .before .before .before .before .before .before .before .pre) ∙ c .before .before .before .if1 .left) ∙ no-number _ 1 _ (sym (c .before .before .number .ensures) ∙ c .enum-told .given .1))
+returns-2 c =
+    let a = c .before .before .before .before .before .before .before .args in
+    let pre = c .before .before .before .before .before .before .before .pre in
+    does-nothing (a .reg .now) (a .led .now) _
+    (right-count _ 2 _ (sym (pre) ∙ c .before .before .before .if1 .left)
+    ∙ no-number _ 1 _ (sym (c .before .before .number .ensures) ∙ c .enum-told .given .1))
 
 clear-requires : tie.Need-clear-requires
 clear-requires c κs = search needs
@@ -31,7 +39,16 @@ same-length : tie.Need-same-length
 same-length c = search needs
 
 returns-3 : tie.Need-returns-3
-returns-3 c = does (c .before .before .before .before .before .before .before .before .before .before .before .before .args .reg .now) (c .before .before .before .before .before .before .before .before .before .before .before .before .args .led .now) _ (right-count _ 2 _ (sym (c .before .before .before .before .before .before .before .before .before .before .before .before .pre) ∙ c .before .before .before .before .before .before .before .before .if1 .left) ∙ number-is _ 1 _ (sym (c .before .before .before .before .before .before .before .number .ensures) ∙ c .before .before .before .before .before .source .given .1)) (λ i. outcome (reply.Cleared (c .before .before .clear .ensures .0 i)) (c .before .before .clear .ensures .1 i) (c .before .before .before .before .before .before .before .before .before .before .before .before .args .led .now))
+returns-3 c =
+    let a = c .before .before .before .before .before .before .before .before .before .before .before .before .args in
+    let pre = c .before .before .before .before .before .before .before .before .before .before .before .before .pre in
+    let if1 = c .before .before .before .before .before .before .before .before .if1 in
+    let number = c .before .before .before .before .before .before .before .number in
+    let source = c .before .before .before .before .before .source in
+    let clear = c .before .before .clear in
+    does (a .reg .now) (a .led .now) _
+    (right-count _ 2 _ (sym (pre) ∙ if1 .left) ∙ number-is _ 1 _ (sym (number .ensures) ∙ source .given .1))
+    (λ i. outcome (reply.Cleared (clear .ensures .0 i)) (clear .ensures .1 i) (a .led .now))
 
 pub clear-spec : {M : Type 1} → statement M
 clear-spec =

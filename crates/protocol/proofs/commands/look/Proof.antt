@@ -27,7 +27,12 @@ same-length-2 : tie.Need-same-length-2
 same-length-2 c = search needs
 
 returns : tie.Need-returns
-returns c = does (c .before .before .before .before .before .before .before .before .before .before .before .before .before .args .reg .now) (c .before .before .before .before .before .before .before .before .before .before .before .before .before .args .led .now) _ (is-poke (wordsOf (c .before .before .before .before .before .before .before .before .before .before .before .before .before .args .line .now)) (sym (c .before .before .before .before .before .before .before .before .is-word .ensures) ∙ c .before .before .before .before .before .before .before .if1 .taken)) (c .before .before .before .before .poke .ensures)
+returns c =
+    let a = c .before .before .before .before .before .before .before .before .before .before .before .before .before .args in
+    let is-word = c .before .before .before .before .before .before .before .before .is-word in
+    let if1 = c .before .before .before .before .before .before .before .if1 in
+    let poke = c .before .before .before .before .poke in
+    does (a .reg .now) (a .led .now) _ (is-poke (wordsOf (a .line .now)) (sym (is-word .ensures) ∙ if1 .taken)) (poke .ensures)
 
 slice-aggregate-is-word-2 : tie.Need-slice-aggregate-is-word-2
 slice-aggregate-is-word-2 c = search needs
@@ -45,7 +50,15 @@ same-length-4 : tie.Need-same-length-4
 same-length-4 c = search needs
 
 returns-2 : tie.Need-returns-2
-returns-2 c = does (c .before .before .before .before .before .before .before .before .before .before .before .before .before .before .before .before .args .reg .now) (c .before .before .before .before .before .before .before .before .before .before .before .before .before .before .before .before .args .led .now) _ (is-words (wordsOf (c .before .before .before .before .before .before .before .before .before .before .before .before .before .before .before .before .args .line .now)) (sym (c .before .before .before .before .before .before .before .before .before .before .before .is-word .ensures) ∙ c .before .before .before .before .before .before .before .before .before .before .if1 .left) (sym (c .before .before .before .before .before .before .before .before .is-word2 .ensures) ∙ c .before .before .before .before .before .before .before .if2 .taken)) (c .before .before .before .before .words .ensures)
+returns-2 c =
+    let a = c .before .before .before .before .before .before .before .before .before .before .before .before .before .before .before .before .args in
+    let is-word = c .before .before .before .before .before .before .before .before .before .before .before .is-word in
+    let if1 = c .before .before .before .before .before .before .before .before .before .before .if1 in
+    let is-word2 = c .before .before .before .before .before .before .before .before .is-word2 in
+    let if2 = c .before .before .before .before .before .before .before .if2 in
+    let words = c .before .before .before .before .words in
+    does (a .reg .now) (a .led .now) _
+    (is-words (wordsOf (a .line .now)) (sym (is-word .ensures) ∙ if1 .left) (sym (is-word2 .ensures) ∙ if2 .taken)) (words .ensures)
 
 show-requires : tie.Need-show-requires
 show-requires c κs = search needs
@@ -57,7 +70,15 @@ same-length-6 : tie.Need-same-length-6
 same-length-6 c = search needs
 
 returns-3 : tie.Need-returns-3
-returns-3 c = does (c .before .before .before .before .before .before .before .before .before .before .before .before .before .before .before .before .args .reg .now) (c .before .before .before .before .before .before .before .before .before .before .before .before .before .before .before .before .args .led .now) _ (is-show (wordsOf (c .before .before .before .before .before .before .before .before .before .before .before .before .before .before .before .before .args .line .now)) (sym (c .before .before .before .before .before .before .before .before .before .before .before .is-word .ensures) ∙ c .before .before .before .before .before .before .before .before .before .before .if1 .left) (sym (c .before .before .before .before .before .before .before .before .is-word2 .ensures) ∙ c .before .before .before .before .before .before .before .if2 .left)) (c .before .before .before .before .show .ensures)
+returns-3 c =
+    let a = c .before .before .before .before .before .before .before .before .before .before .before .before .before .before .before .before .args in
+    let is-word = c .before .before .before .before .before .before .before .before .before .before .before .is-word in
+    let if1 = c .before .before .before .before .before .before .before .before .before .before .if1 in
+    let is-word2 = c .before .before .before .before .before .before .before .before .is-word2 in
+    let if2 = c .before .before .before .before .before .before .before .if2 in
+    let show = c .before .before .before .before .show in
+    does (a .reg .now) (a .led .now) _
+    (is-show (wordsOf (a .line .now)) (sym (is-word .ensures) ∙ if1 .left) (sym (is-word2 .ensures) ∙ if2 .left)) (show .ensures)
 
 pub look-spec : {M : Type 1} → statement M
 look-spec =

@@ -14,7 +14,9 @@ is-word-requires : tie.Need-is-word-requires
 is-word-requires c κs = search needs
 
 returns : tie.Need-returns
-returns c = names-register (wordAt (c .before .before .before .before .args .line .now) (c .before .before .before .before .args .k)) (sym (c .before .is-word .ensures) ∙ c .if1 .taken)
+returns c =
+    let a = c .before .before .before .before .args in
+    names-register (wordAt (a .line .now) (a .k)) (sym (c .before .is-word .ensures) ∙ c .if1 .taken)
 
 slice-aggregate-is-word-2 : tie.Need-slice-aggregate-is-word-2
 slice-aggregate-is-word-2 c = search needs
@@ -23,10 +25,18 @@ is-word-requires-2 : tie.Need-is-word-requires-2
 is-word-requires-2 c κs = search needs
 
 returns-2 : tie.Need-returns-2
-returns-2 c = names-ledger (wordAt (c .before .before .before .before .before .before .before .args .line .now) (c .before .before .before .before .before .before .before .args .k)) (sym (c .before .before .before .before .is-word .ensures) ∙ c .before .before .before .if1 .left) (sym (c .before .is-word2 .ensures) ∙ c .if2 .taken)
+returns-2 c =
+    let a = c .before .before .before .before .before .before .before .args in
+    let is-word = c .before .before .before .before .is-word in
+    names-ledger (wordAt (a .line .now) (a .k))
+    (sym (is-word .ensures) ∙ c .before .before .before .if1 .left) (sym (c .before .is-word2 .ensures) ∙ c .if2 .taken)
 
 returns-3 : tie.Need-returns-3
-returns-3 c = names-neither (wordAt (c .before .before .before .before .before .before .before .args .line .now) (c .before .before .before .before .before .before .before .args .k)) (sym (c .before .before .before .before .is-word .ensures) ∙ c .before .before .before .if1 .left) (sym (c .before .is-word2 .ensures) ∙ c .if2 .left)
+returns-3 c =
+    let a = c .before .before .before .before .before .before .before .args in
+    let is-word = c .before .before .before .before .is-word in
+    names-neither (wordAt (a .line .now) (a .k))
+    (sym (is-word .ensures) ∙ c .before .before .before .if1 .left) (sym (c .before .is-word2 .ensures) ∙ c .if2 .left)
 
 pub named-spec : {M : Type 1} → statement M
 named-spec =

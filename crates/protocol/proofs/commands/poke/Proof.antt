@@ -12,7 +12,10 @@ use Rattle.protocol.proofs.commands.named.Reads as named-reads
 use Rattle.protocol.proofs.tables.poke.Reads as poke-reads
 
 returns : tie.Need-returns
-returns c = does-nothing (c .before .before .before .before .args .reg .now) (c .before .before .before .before .args .led .now) _ (other-count _ 4 _ (λ e. c .if1 .taken (c .before .before .before .before .pre ∙ e)))
+returns c =
+    let a = c .before .before .before .before .args in
+    let pre = c .before .before .before .before .pre in
+    does-nothing (a .reg .now) (a .led .now) _ (other-count _ 4 _ (λ e. c .if1 .taken (pre ∙ e)))
 
 number-requires : tie.Need-number-requires
 number-requires c κs = search needs
@@ -24,7 +27,12 @@ enum-told : tie.Need-enum-told
 enum-told c = search needs
 
 returns-2 : tie.Need-returns-2
-returns-2 c = does-nothing (c .before .before .before .before .before .before .before .args .reg .now) (c .before .before .before .before .before .before .before .args .led .now) _ (right-count _ 4 _ (sym (c .before .before .before .before .before .before .before .pre) ∙ c .before .before .before .if1 .left) ∙ no-number _ 2 _ (sym (c .before .before .number .ensures) ∙ c .enum-told .given .1))
+returns-2 c =
+    let a = c .before .before .before .before .before .before .before .args in
+    let pre = c .before .before .before .before .before .before .before .pre in
+    does-nothing (a .reg .now) (a .led .now) _
+    (right-count _ 4 _ (sym (pre) ∙ c .before .before .before .if1 .left)
+    ∙ no-number _ 2 _ (sym (c .before .before .number .ensures) ∙ c .enum-told .given .1))
 
 number-requires-2 : tie.Need-number-requires-2
 number-requires-2 c κs = search needs
@@ -36,7 +44,16 @@ enum-told-2 : tie.Need-enum-told-2
 enum-told-2 c = search needs
 
 returns-3 : tie.Need-returns-3
-returns-3 c = does-nothing (c .before .before .before .before .before .before .before .before .before .before .before .args .reg .now) (c .before .before .before .before .before .before .before .before .before .before .before .args .led .now) _ (right-count _ 4 _ (sym (c .before .before .before .before .before .before .before .before .before .before .before .pre) ∙ c .before .before .before .before .before .before .before .if1 .left) ∙ number-is _ 2 _ (sym (c .before .before .before .before .before .before .number .ensures) ∙ c .before .before .before .before .index .given .1) ∙ no-number _ 3 _ (sym (c .before .before .number2 .ensures) ∙ c .enum-told2 .given .1))
+returns-3 c =
+    let a = c .before .before .before .before .before .before .before .before .before .before .before .args in
+    let pre = c .before .before .before .before .before .before .before .before .before .before .before .pre in
+    let if1 = c .before .before .before .before .before .before .before .if1 in
+    let number = c .before .before .before .before .before .before .number in
+    let index = c .before .before .before .before .index in
+    does-nothing (a .reg .now) (a .led .now) _
+    (right-count _ 4 _ (sym (pre) ∙ if1 .left)
+    ∙ number-is _ 2 _ (sym (number .ensures) ∙ index .given .1)
+    ∙ no-number _ 3 _ (sym (c .before .before .number2 .ensures) ∙ c .enum-told2 .given .1))
 
 named-requires : tie.Need-named-requires
 named-requires c κs = search needs
@@ -66,16 +83,61 @@ same-length : tie.Need-same-length
 same-length c = search needs
 
 returns-4 : tie.Need-returns-4
-returns-4 c = does (c .before .before .before .before .before .before .before .before .before .before .before .before .before .before .before .before .before .before .before .args .reg .now) (c .before .before .before .before .before .before .before .before .before .before .before .before .before .before .before .before .before .before .before .args .led .now) _ (right-count _ 4 _ (sym (c .before .before .before .before .before .before .before .before .before .before .before .before .before .before .before .before .before .before .before .pre) ∙ c .before .before .before .before .before .before .before .before .before .before .before .before .before .before .before .if1 .left) ∙ number-is _ 2 _ (sym (c .before .before .before .before .before .before .before .before .before .before .before .before .before .before .number .ensures) ∙ c .before .before .before .before .before .before .before .before .before .before .before .before .index .given .1) ∙ number-is _ 3 _ (sym (c .before .before .before .before .before .before .before .before .before .before .number2 .ensures) ∙ c .before .before .before .before .before .before .before .before .value .given .1) ∙ ap (λ t. poke t (c .before .before .before .before .before .before .before .before .before .before .before .before .index .given .0 .0) (c .before .before .before .before .before .before .before .before .value .given .0 .0)) (sym (c .before .before .before .before .before .before .named .ensures) ∙ c .before .before .before .before .enum-told3 .given .1)) (λ i. outcome (c .before .before .poke .ensures .0 i) (c .before .before .poke .ensures .1 i) (c .before .before .before .before .before .before .before .before .before .before .before .before .before .before .before .before .before .before .before .args .led .now))
+returns-4 c =
+    let a = c .before .before .before .before .before .before .before .before .before .before .before .before .before .before .before .before .before .before .before .args in
+    let pre = c .before .before .before .before .before .before .before .before .before .before .before .before .before .before .before .before .before .before .before .pre in
+    let if1 = c .before .before .before .before .before .before .before .before .before .before .before .before .before .before .before .if1 in
+    let number = c .before .before .before .before .before .before .before .before .before .before .before .before .before .before .number in
+    let index = c .before .before .before .before .before .before .before .before .before .before .before .before .index in
+    let number2 = c .before .before .before .before .before .before .before .before .before .before .number2 in
+    let value = c .before .before .before .before .before .before .before .before .value in
+    let named = c .before .before .before .before .before .before .named in
+    let enum-told3 = c .before .before .before .before .enum-told3 in
+    let poke′ = c .before .before .poke in
+    does (a .reg .now) (a .led .now) _
+    (right-count _ 4 _ (sym (pre) ∙ if1 .left)
+    ∙ number-is _ 2 _ (sym (number .ensures) ∙ index .given .1)
+    ∙ number-is _ 3 _ (sym (number2 .ensures) ∙ value .given .1)
+    ∙ ap (λ t. poke t (index .given .0 .0) (value .given .0 .0)) (sym (named .ensures) ∙ enum-told3 .given .1))
+    (λ i. outcome (poke′ .ensures .0 i) (poke′ .ensures .1 i) (a .led .now))
 
 same-length-2 : tie.Need-same-length-2
 same-length-2 c = search needs
 
 returns-5 : tie.Need-returns-5
-returns-5 c = does (c .before .before .before .before .before .before .before .before .before .before .before .before .before .before .before .before .before .before .before .args .reg .now) (c .before .before .before .before .before .before .before .before .before .before .before .before .before .before .before .before .before .before .before .args .led .now) _ (right-count _ 4 _ (sym (c .before .before .before .before .before .before .before .before .before .before .before .before .before .before .before .before .before .before .before .pre) ∙ c .before .before .before .before .before .before .before .before .before .before .before .before .before .before .before .if1 .left) ∙ number-is _ 2 _ (sym (c .before .before .before .before .before .before .before .before .before .before .before .before .before .before .number .ensures) ∙ c .before .before .before .before .before .before .before .before .before .before .before .before .index .given .1) ∙ number-is _ 3 _ (sym (c .before .before .before .before .before .before .before .before .before .before .number2 .ensures) ∙ c .before .before .before .before .before .before .before .before .value .given .1) ∙ ap (λ t. poke t (c .before .before .before .before .before .before .before .before .before .before .before .before .index .given .0 .0) (c .before .before .before .before .before .before .before .before .value .given .0 .0)) (sym (c .before .before .before .before .before .before .named .ensures) ∙ c .before .before .before .before .enum-told4 .given .1)) (λ i. outcome (c .before .before .poke2 .ensures .0 i) (c .before .before .before .before .before .before .before .before .before .before .before .before .before .before .before .before .before .before .before .args .reg .now) (c .before .before .poke2 .ensures .1 i))
+returns-5 c =
+    let a = c .before .before .before .before .before .before .before .before .before .before .before .before .before .before .before .before .before .before .before .args in
+    let pre = c .before .before .before .before .before .before .before .before .before .before .before .before .before .before .before .before .before .before .before .pre in
+    let if1 = c .before .before .before .before .before .before .before .before .before .before .before .before .before .before .before .if1 in
+    let number = c .before .before .before .before .before .before .before .before .before .before .before .before .before .before .number in
+    let index = c .before .before .before .before .before .before .before .before .before .before .before .before .index in
+    let number2 = c .before .before .before .before .before .before .before .before .before .before .number2 in
+    let value = c .before .before .before .before .before .before .before .before .value in
+    let named = c .before .before .before .before .before .before .named in
+    let enum-told4 = c .before .before .before .before .enum-told4 in
+    let poke2 = c .before .before .poke2 in
+    does (a .reg .now) (a .led .now) _
+    (right-count _ 4 _ (sym (pre) ∙ if1 .left)
+    ∙ number-is _ 2 _ (sym (number .ensures) ∙ index .given .1)
+    ∙ number-is _ 3 _ (sym (number2 .ensures) ∙ value .given .1)
+    ∙ ap (λ t. poke t (index .given .0 .0) (value .given .0 .0)) (sym (named .ensures) ∙ enum-told4 .given .1))
+    (λ i. outcome (poke2 .ensures .0 i) (a .reg .now) (poke2 .ensures .1 i))
 
 returns-6 : tie.Need-returns-6
-returns-6 c = does (c .before .before .before .before .before .before .before .before .before .before .before .before .before .before .before .args .reg .now) (c .before .before .before .before .before .before .before .before .before .before .before .before .before .before .before .args .led .now) _ (right-count _ 4 _ (sym (c .before .before .before .before .before .before .before .before .before .before .before .before .before .before .before .pre) ∙ c .before .before .before .before .before .before .before .before .before .before .before .if1 .left) ∙ number-is _ 2 _ (sym (c .before .before .before .before .before .before .before .before .before .before .number .ensures) ∙ c .before .before .before .before .before .before .before .before .index .given .1) ∙ number-is _ 3 _ (sym (c .before .before .before .before .before .before .number2 .ensures) ∙ c .before .before .before .before .value .given .1) ∙ ap (λ t. poke t (c .before .before .before .before .before .before .before .before .index .given .0 .0) (c .before .before .before .before .value .given .0 .0)) (sym (c .before .before .named .ensures) ∙ c .enum-told5 .given .1)) refl
+returns-6 c =
+    let a = c .before .before .before .before .before .before .before .before .before .before .before .before .before .before .before .args in
+    let pre = c .before .before .before .before .before .before .before .before .before .before .before .before .before .before .before .pre in
+    let if1 = c .before .before .before .before .before .before .before .before .before .before .before .if1 in
+    let number = c .before .before .before .before .before .before .before .before .before .before .number in
+    let index = c .before .before .before .before .before .before .before .before .index in
+    let number2 = c .before .before .before .before .before .before .number2 in
+    let value = c .before .before .before .before .value in
+    does (a .reg .now) (a .led .now) _
+    (right-count _ 4 _ (sym (pre) ∙ if1 .left)
+    ∙ number-is _ 2 _ (sym (number .ensures) ∙ index .given .1)
+    ∙ number-is _ 3 _ (sym (number2 .ensures) ∙ value .given .1)
+    ∙ ap (λ t. poke t (index .given .0 .0) (value .given .0 .0)) (sym (c .before .before .named .ensures) ∙ c .enum-told5 .given .1))
+    refl
 
 pub poke-spec : {M : Type 1} → statement M
 poke-spec =

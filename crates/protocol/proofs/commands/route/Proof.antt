@@ -28,7 +28,12 @@ same-length-2 : tie.Need-same-length-2
 same-length-2 c = search needs
 
 returns : tie.Need-returns
-returns c = does (c .before .before .before .before .before .before .before .before .before .before .before .before .before .args .reg .now) (c .before .before .before .before .before .before .before .before .before .before .before .before .before .args .led .now) _ (is-keep (wordsOf (c .before .before .before .before .before .before .before .before .before .before .before .before .before .args .line .now)) (sym (c .before .before .before .before .before .before .before .before .is-word .ensures) ∙ c .before .before .before .before .before .before .before .if1 .taken)) (c .before .before .before .before .keep .ensures)
+returns c =
+    let a = c .before .before .before .before .before .before .before .before .before .before .before .before .before .args in
+    let is-word = c .before .before .before .before .before .before .before .before .is-word in
+    let if1 = c .before .before .before .before .before .before .before .if1 in
+    let keep = c .before .before .before .before .keep in
+    does (a .reg .now) (a .led .now) _ (is-keep (wordsOf (a .line .now)) (sym (is-word .ensures) ∙ if1 .taken)) (keep .ensures)
 
 slice-aggregate-is-word-2 : tie.Need-slice-aggregate-is-word-2
 slice-aggregate-is-word-2 c = search needs
@@ -46,7 +51,15 @@ same-length-4 : tie.Need-same-length-4
 same-length-4 c = search needs
 
 returns-2 : tie.Need-returns-2
-returns-2 c = does (c .before .before .before .before .before .before .before .before .before .before .before .before .before .before .before .before .args .reg .now) (c .before .before .before .before .before .before .before .before .before .before .before .before .before .before .before .before .args .led .now) _ (is-drop (wordsOf (c .before .before .before .before .before .before .before .before .before .before .before .before .before .before .before .before .args .line .now)) (sym (c .before .before .before .before .before .before .before .before .before .before .before .is-word .ensures) ∙ c .before .before .before .before .before .before .before .before .before .before .if1 .left) (sym (c .before .before .before .before .before .before .before .before .is-word2 .ensures) ∙ c .before .before .before .before .before .before .before .if2 .taken)) (c .before .before .before .before .drop .ensures)
+returns-2 c =
+    let a = c .before .before .before .before .before .before .before .before .before .before .before .before .before .before .before .before .args in
+    let is-word = c .before .before .before .before .before .before .before .before .before .before .before .is-word in
+    let if1 = c .before .before .before .before .before .before .before .before .before .before .if1 in
+    let is-word2 = c .before .before .before .before .before .before .before .before .is-word2 in
+    let if2 = c .before .before .before .before .before .before .before .if2 in
+    let drop = c .before .before .before .before .drop in
+    does (a .reg .now) (a .led .now) _
+    (is-drop (wordsOf (a .line .now)) (sym (is-word .ensures) ∙ if1 .left) (sym (is-word2 .ensures) ∙ if2 .taken)) (drop .ensures)
 
 slice-aggregate-is-word-3 : tie.Need-slice-aggregate-is-word-3
 slice-aggregate-is-word-3 c = search needs
@@ -64,7 +77,19 @@ same-length-6 : tie.Need-same-length-6
 same-length-6 c = search needs
 
 returns-3 : tie.Need-returns-3
-returns-3 c = does (c .before .before .before .before .before .before .before .before .before .before .before .before .before .before .before .before .before .before .before .args .reg .now) (c .before .before .before .before .before .before .before .before .before .before .before .before .before .before .before .before .before .before .before .args .led .now) _ (is-rejudge (wordsOf (c .before .before .before .before .before .before .before .before .before .before .before .before .before .before .before .before .before .before .before .args .line .now)) (sym (c .before .before .before .before .before .before .before .before .before .before .before .before .before .before .is-word .ensures) ∙ c .before .before .before .before .before .before .before .before .before .before .before .before .before .if1 .left) (sym (c .before .before .before .before .before .before .before .before .before .before .before .is-word2 .ensures) ∙ c .before .before .before .before .before .before .before .before .before .before .if2 .left) (sym (c .before .before .before .before .before .before .before .before .is-word3 .ensures) ∙ c .before .before .before .before .before .before .before .if3 .taken)) (c .before .before .before .before .rejudge .ensures)
+returns-3 c =
+    let a = c .before .before .before .before .before .before .before .before .before .before .before .before .before .before .before .before .before .before .before .args in
+    let is-word = c .before .before .before .before .before .before .before .before .before .before .before .before .before .before .is-word in
+    let if1 = c .before .before .before .before .before .before .before .before .before .before .before .before .before .if1 in
+    let is-word2 = c .before .before .before .before .before .before .before .before .before .before .before .is-word2 in
+    let if2 = c .before .before .before .before .before .before .before .before .before .before .if2 in
+    let is-word3 = c .before .before .before .before .before .before .before .before .is-word3 in
+    let if3 = c .before .before .before .before .before .before .before .if3 in
+    let rejudge = c .before .before .before .before .rejudge in
+    does (a .reg .now) (a .led .now) _
+    (is-rejudge (wordsOf (a .line .now)) (sym (is-word .ensures) ∙ if1 .left) (sym (is-word2 .ensures) ∙ if2 .left)
+    (sym (is-word3 .ensures) ∙ if3 .taken))
+    (rejudge .ensures)
 
 look-requires : tie.Need-look-requires
 look-requires c κs = search needs
@@ -76,7 +101,18 @@ same-length-8 : tie.Need-same-length-8
 same-length-8 c = search needs
 
 returns-4 : tie.Need-returns-4
-returns-4 c = does (c .before .before .before .before .before .before .before .before .before .before .before .before .before .before .before .before .before .before .before .args .reg .now) (c .before .before .before .before .before .before .before .before .before .before .before .before .before .before .before .before .before .before .before .args .led .now) _ (is-look (wordsOf (c .before .before .before .before .before .before .before .before .before .before .before .before .before .before .before .before .before .before .before .args .line .now)) (sym (c .before .before .before .before .before .before .before .before .before .before .before .before .before .before .is-word .ensures) ∙ c .before .before .before .before .before .before .before .before .before .before .before .before .before .if1 .left) (sym (c .before .before .before .before .before .before .before .before .before .before .before .is-word2 .ensures) ∙ c .before .before .before .before .before .before .before .before .before .before .if2 .left) (sym (c .before .before .before .before .before .before .before .before .is-word3 .ensures) ∙ c .before .before .before .before .before .before .before .if3 .left)) (c .before .before .before .before .look .ensures)
+returns-4 c =
+    let a = c .before .before .before .before .before .before .before .before .before .before .before .before .before .before .before .before .before .before .before .args in
+    let is-word = c .before .before .before .before .before .before .before .before .before .before .before .before .before .before .is-word in
+    let if1 = c .before .before .before .before .before .before .before .before .before .before .before .before .before .if1 in
+    let is-word2 = c .before .before .before .before .before .before .before .before .before .before .before .is-word2 in
+    let if2 = c .before .before .before .before .before .before .before .before .before .before .if2 in
+    let is-word3 = c .before .before .before .before .before .before .before .before .is-word3 in
+    let if3 = c .before .before .before .before .before .before .before .if3 in
+    let look = c .before .before .before .before .look in
+    does (a .reg .now) (a .led .now) _
+    (is-look (wordsOf (a .line .now)) (sym (is-word .ensures) ∙ if1 .left) (sym (is-word2 .ensures) ∙ if2 .left) (sym (is-word3 .ensures) ∙ if3 .left))
+    (look .ensures)
 
 pub route-spec : {M : Type 1} → statement M
 route-spec =

@@ -29,7 +29,12 @@ same-length-2 : tie.Need-same-length-2
 same-length-2 c = search needs
 
 returns : tie.Need-returns
-returns c = does (c .before .before .before .before .before .before .before .before .before .before .before .before .before .args .reg .now) (c .before .before .before .before .before .before .before .before .before .before .before .before .before .args .led .now) _ (is-file (wordsOf (c .before .before .before .before .before .before .before .before .before .before .before .before .before .args .line .now)) (sym (c .before .before .before .before .before .before .before .before .is-word .ensures) ∙ c .before .before .before .before .before .before .before .if1 .taken)) (c .before .before .before .before .file .ensures)
+returns c =
+    let a = c .before .before .before .before .before .before .before .before .before .before .before .before .before .args in
+    let is-word = c .before .before .before .before .before .before .before .before .is-word in
+    let if1 = c .before .before .before .before .before .before .before .if1 in
+    let file = c .before .before .before .before .file in
+    does (a .reg .now) (a .led .now) _ (is-file (wordsOf (a .line .now)) (sym (is-word .ensures) ∙ if1 .taken)) (file .ensures)
 
 slice-aggregate-is-word-2 : tie.Need-slice-aggregate-is-word-2
 slice-aggregate-is-word-2 c = search needs
@@ -47,7 +52,15 @@ same-length-4 : tie.Need-same-length-4
 same-length-4 c = search needs
 
 returns-2 : tie.Need-returns-2
-returns-2 c = does (c .before .before .before .before .before .before .before .before .before .before .before .before .before .before .before .before .args .reg .now) (c .before .before .before .before .before .before .before .before .before .before .before .before .before .before .before .before .args .led .now) _ (is-withdraw (wordsOf (c .before .before .before .before .before .before .before .before .before .before .before .before .before .before .before .before .args .line .now)) (sym (c .before .before .before .before .before .before .before .before .before .before .before .is-word .ensures) ∙ c .before .before .before .before .before .before .before .before .before .before .if1 .left) (sym (c .before .before .before .before .before .before .before .before .is-word2 .ensures) ∙ c .before .before .before .before .before .before .before .if2 .taken)) (c .before .before .before .before .withdraw .ensures)
+returns-2 c =
+    let a = c .before .before .before .before .before .before .before .before .before .before .before .before .before .before .before .before .args in
+    let is-word = c .before .before .before .before .before .before .before .before .before .before .before .is-word in
+    let if1 = c .before .before .before .before .before .before .before .before .before .before .if1 in
+    let is-word2 = c .before .before .before .before .before .before .before .before .is-word2 in
+    let if2 = c .before .before .before .before .before .before .before .if2 in
+    let withdraw = c .before .before .before .before .withdraw in
+    does (a .reg .now) (a .led .now) _
+    (is-withdraw (wordsOf (a .line .now)) (sym (is-word .ensures) ∙ if1 .left) (sym (is-word2 .ensures) ∙ if2 .taken)) (withdraw .ensures)
 
 slice-aggregate-is-word-3 : tie.Need-slice-aggregate-is-word-3
 slice-aggregate-is-word-3 c = search needs
@@ -65,7 +78,19 @@ same-length-6 : tie.Need-same-length-6
 same-length-6 c = search needs
 
 returns-3 : tie.Need-returns-3
-returns-3 c = does (c .before .before .before .before .before .before .before .before .before .before .before .before .before .before .before .before .before .before .before .args .reg .now) (c .before .before .before .before .before .before .before .before .before .before .before .before .before .before .before .before .before .before .before .args .led .now) _ (is-clear (wordsOf (c .before .before .before .before .before .before .before .before .before .before .before .before .before .before .before .before .before .before .before .args .line .now)) (sym (c .before .before .before .before .before .before .before .before .before .before .before .before .before .before .is-word .ensures) ∙ c .before .before .before .before .before .before .before .before .before .before .before .before .before .if1 .left) (sym (c .before .before .before .before .before .before .before .before .before .before .before .is-word2 .ensures) ∙ c .before .before .before .before .before .before .before .before .before .before .if2 .left) (sym (c .before .before .before .before .before .before .before .before .is-word3 .ensures) ∙ c .before .before .before .before .before .before .before .if3 .taken)) (c .before .before .before .before .clear .ensures)
+returns-3 c =
+    let a = c .before .before .before .before .before .before .before .before .before .before .before .before .before .before .before .before .before .before .before .args in
+    let is-word = c .before .before .before .before .before .before .before .before .before .before .before .before .before .before .is-word in
+    let if1 = c .before .before .before .before .before .before .before .before .before .before .before .before .before .if1 in
+    let is-word2 = c .before .before .before .before .before .before .before .before .before .before .before .is-word2 in
+    let if2 = c .before .before .before .before .before .before .before .before .before .before .if2 in
+    let is-word3 = c .before .before .before .before .before .before .before .before .is-word3 in
+    let if3 = c .before .before .before .before .before .before .before .if3 in
+    let clear = c .before .before .before .before .clear in
+    does (a .reg .now) (a .led .now) _
+    (is-clear (wordsOf (a .line .now)) (sym (is-word .ensures) ∙ if1 .left) (sym (is-word2 .ensures) ∙ if2 .left)
+    (sym (is-word3 .ensures) ∙ if3 .taken))
+    (clear .ensures)
 
 slice-aggregate-is-word-4 : tie.Need-slice-aggregate-is-word-4
 slice-aggregate-is-word-4 c = search needs
@@ -83,7 +108,21 @@ same-length-8 : tie.Need-same-length-8
 same-length-8 c = search needs
 
 returns-4 : tie.Need-returns-4
-returns-4 c = does (c .before .before .before .before .before .before .before .before .before .before .before .before .before .before .before .before .before .before .before .before .before .before .args .reg .now) (c .before .before .before .before .before .before .before .before .before .before .before .before .before .before .before .before .before .before .before .before .before .before .args .led .now) _ (is-judge (wordsOf (c .before .before .before .before .before .before .before .before .before .before .before .before .before .before .before .before .before .before .before .before .before .before .args .line .now)) (sym (c .before .before .before .before .before .before .before .before .before .before .before .before .before .before .before .before .before .is-word .ensures) ∙ c .before .before .before .before .before .before .before .before .before .before .before .before .before .before .before .before .if1 .left) (sym (c .before .before .before .before .before .before .before .before .before .before .before .before .before .before .is-word2 .ensures) ∙ c .before .before .before .before .before .before .before .before .before .before .before .before .before .if2 .left) (sym (c .before .before .before .before .before .before .before .before .before .before .before .is-word3 .ensures) ∙ c .before .before .before .before .before .before .before .before .before .before .if3 .left) (sym (c .before .before .before .before .before .before .before .before .is-word4 .ensures) ∙ c .before .before .before .before .before .before .before .if4 .taken)) (c .before .before .before .before .judge .ensures)
+returns-4 c =
+    let a = c .before .before .before .before .before .before .before .before .before .before .before .before .before .before .before .before .before .before .before .before .before .before .args in
+    let is-word = c .before .before .before .before .before .before .before .before .before .before .before .before .before .before .before .before .before .is-word in
+    let if1 = c .before .before .before .before .before .before .before .before .before .before .before .before .before .before .before .before .if1 in
+    let is-word2 = c .before .before .before .before .before .before .before .before .before .before .before .before .before .before .is-word2 in
+    let if2 = c .before .before .before .before .before .before .before .before .before .before .before .before .before .if2 in
+    let is-word3 = c .before .before .before .before .before .before .before .before .before .before .before .is-word3 in
+    let if3 = c .before .before .before .before .before .before .before .before .before .before .if3 in
+    let is-word4 = c .before .before .before .before .before .before .before .before .is-word4 in
+    let if4 = c .before .before .before .before .before .before .before .if4 in
+    let judge = c .before .before .before .before .judge in
+    does (a .reg .now) (a .led .now) _
+    (is-judge (wordsOf (a .line .now)) (sym (is-word .ensures) ∙ if1 .left) (sym (is-word2 .ensures) ∙ if2 .left) (sym (is-word3 .ensures) ∙ if3 .left)
+    (sym (is-word4 .ensures) ∙ if4 .taken))
+    (judge .ensures)
 
 route-requires : tie.Need-route-requires
 route-requires c κs = search needs
@@ -95,7 +134,21 @@ same-length-10 : tie.Need-same-length-10
 same-length-10 c = search needs
 
 returns-5 : tie.Need-returns-5
-returns-5 c = does (c .before .before .before .before .before .before .before .before .before .before .before .before .before .before .before .before .before .before .before .before .before .before .args .reg .now) (c .before .before .before .before .before .before .before .before .before .before .before .before .before .before .before .before .before .before .before .before .before .before .args .led .now) _ (is-route (wordsOf (c .before .before .before .before .before .before .before .before .before .before .before .before .before .before .before .before .before .before .before .before .before .before .args .line .now)) (sym (c .before .before .before .before .before .before .before .before .before .before .before .before .before .before .before .before .before .is-word .ensures) ∙ c .before .before .before .before .before .before .before .before .before .before .before .before .before .before .before .before .if1 .left) (sym (c .before .before .before .before .before .before .before .before .before .before .before .before .before .before .is-word2 .ensures) ∙ c .before .before .before .before .before .before .before .before .before .before .before .before .before .if2 .left) (sym (c .before .before .before .before .before .before .before .before .before .before .before .is-word3 .ensures) ∙ c .before .before .before .before .before .before .before .before .before .before .if3 .left) (sym (c .before .before .before .before .before .before .before .before .is-word4 .ensures) ∙ c .before .before .before .before .before .before .before .if4 .left)) (c .before .before .before .before .route .ensures)
+returns-5 c =
+    let a = c .before .before .before .before .before .before .before .before .before .before .before .before .before .before .before .before .before .before .before .before .before .before .args in
+    let is-word = c .before .before .before .before .before .before .before .before .before .before .before .before .before .before .before .before .before .is-word in
+    let if1 = c .before .before .before .before .before .before .before .before .before .before .before .before .before .before .before .before .if1 in
+    let is-word2 = c .before .before .before .before .before .before .before .before .before .before .before .before .before .before .is-word2 in
+    let if2 = c .before .before .before .before .before .before .before .before .before .before .before .before .before .if2 in
+    let is-word3 = c .before .before .before .before .before .before .before .before .before .before .before .is-word3 in
+    let if3 = c .before .before .before .before .before .before .before .before .before .before .if3 in
+    let is-word4 = c .before .before .before .before .before .before .before .before .is-word4 in
+    let if4 = c .before .before .before .before .before .before .before .if4 in
+    let route = c .before .before .before .before .route in
+    does (a .reg .now) (a .led .now) _
+    (is-route (wordsOf (a .line .now)) (sym (is-word .ensures) ∙ if1 .left) (sym (is-word2 .ensures) ∙ if2 .left) (sym (is-word3 .ensures) ∙ if3 .left)
+    (sym (is-word4 .ensures) ∙ if4 .left))
+    (route .ensures)
 
 pub run-spec : {M : Type 1} → statement M
 run-spec =

@@ -78,55 +78,100 @@ same-length : tie.Need-same-length
 same-length c = search needs
 
 returns : tie.Need-returns
-returns c = matched (replyText (both (c .before .before .before .before .before .before .before .before .before .before .args .reg .now) (c .before .before .before .before .before .before .before .before .before .before .args .led .now))) (c .before .before .before .before .before .before .before .before .before .before .args .out .now) (c .before .before .before .before .before .before .before .before .before .before .args .at) 344085 (c .before .before .before .before .before .enum-told .given .1) (c .before .before .put .ensures .0) (c .before .before .put .ensures .1) (omega (arith, c .before .before .put .ensures .0))
+returns c =
+    let a = c .before .before .before .before .before .before .before .before .before .before .args in
+    let enum-told′ = c .before .before .before .before .before .enum-told in
+    let put = c .before .before .put in
+    matched (replyText (both (a .reg .now) (a .led .now))) (a .out .now) (a .at) 344085 (enum-told′ .given .1) (put .ensures .0) (put .ensures .1)
+    (omega (arith, put .ensures .0))
 
 same-length-2 : tie.Need-same-length-2
 same-length-2 c = search needs
 
 returns-2 : tie.Need-returns-2
-returns-2 c = matched (replyText (both (c .before .before .before .before .before .before .before .before .before .before .args .reg .now) (c .before .before .before .before .before .before .before .before .before .before .args .led .now))) (c .before .before .before .before .before .before .before .before .before .before .args .out .now) (c .before .before .before .before .before .before .before .before .before .before .args .at) 344085 (c .before .before .before .before .before .enum-told2 .given .1) (c .before .before .put2 .ensures .0) (c .before .before .put2 .ensures .1) (omega (arith, c .before .before .put2 .ensures .0))
+returns-2 c =
+    let a = c .before .before .before .before .before .before .before .before .before .before .args in
+    let enum-told2 = c .before .before .before .before .before .enum-told2 in
+    let put2 = c .before .before .put2 in
+    matched (replyText (both (a .reg .now) (a .led .now))) (a .out .now) (a .at) 344085 (enum-told2 .given .1) (put2 .ensures .0) (put2 .ensures .1)
+    (omega (arith, put2 .ensures .0))
 
 same-length-3 : tie.Need-same-length-3
 same-length-3 c = search needs
 
 returns-3 : tie.Need-returns-3
-returns-3 c = matched (replyText (both (c .before .before .before .before .before .before .before .before .before .before .args .reg .now) (c .before .before .before .before .before .before .before .before .before .before .args .led .now))) (c .before .before .before .before .before .before .before .before .before .before .args .out .now) (c .before .before .before .before .before .before .before .before .before .before .args .at) 344085 (c .before .before .before .before .before .reply .given .1) (c .before .before .put-filed .ensures .0) (c .before .before .put-filed .ensures .1) (omega (arith, c .before .before .put-filed .ensures .2))
+returns-3 c =
+    let a = c .before .before .before .before .before .before .before .before .before .before .args in
+    let reply = c .before .before .before .before .before .reply in
+    let put-filed = c .before .before .put-filed in
+    matched (replyText (both (a .reg .now) (a .led .now))) (a .out .now) (a .at) 344085 (reply .given .1) (put-filed .ensures .0)
+    (put-filed .ensures .1) (omega (arith, put-filed .ensures .2))
 
 same-length-4 : tie.Need-same-length-4
 same-length-4 c = search needs
 
 returns-4 : tie.Need-returns-4
-returns-4 c = matched (replyText (both (c .before .before .before .before .before .before .before .before .before .before .args .reg .now) (c .before .before .before .before .before .before .before .before .before .before .args .led .now))) (c .before .before .before .before .before .before .before .before .before .before .args .out .now) (c .before .before .before .before .before .before .before .before .before .before .args .at) 344085 (c .before .before .before .before .before .reply2 .given .1) (c .before .before .put-removal .ensures .0) (c .before .before .put-removal .ensures .1) (omega (arith, c .before .before .put-removal .ensures .2))
+returns-4 c =
+    let a = c .before .before .before .before .before .before .before .before .before .before .args in
+    let reply2 = c .before .before .before .before .before .reply2 in
+    let put-removal = c .before .before .put-removal in
+    matched (replyText (both (a .reg .now) (a .led .now))) (a .out .now) (a .at) 344085 (reply2 .given .1) (put-removal .ensures .0)
+    (put-removal .ensures .1) (omega (arith, put-removal .ensures .2))
 
 same-length-5 : tie.Need-same-length-5
 same-length-5 c = search needs
 
 returns-5 : tie.Need-returns-5
-returns-5 c = matched (replyText (both (c .before .before .before .before .before .before .before .before .before .before .args .reg .now) (c .before .before .before .before .before .before .before .before .before .before .args .led .now))) (c .before .before .before .before .before .before .before .before .before .before .args .out .now) (c .before .before .before .before .before .before .before .before .before .before .args .at) 344085 (c .before .before .before .before .before .reply3 .given .1) (c .before .before .put-cleared .ensures .0) (c .before .before .put-cleared .ensures .1) (omega (arith, c .before .before .put-cleared .ensures .2))
+returns-5 c =
+    let a = c .before .before .before .before .before .before .before .before .before .before .args in
+    let reply3 = c .before .before .before .before .before .reply3 in
+    let put-cleared = c .before .before .put-cleared in
+    matched (replyText (both (a .reg .now) (a .led .now))) (a .out .now) (a .at) 344085 (reply3 .given .1) (put-cleared .ensures .0)
+    (put-cleared .ensures .1) (omega (arith, put-cleared .ensures .2))
 
 same-length-6 : tie.Need-same-length-6
 same-length-6 c = search needs
 
 returns-6 : tie.Need-returns-6
-returns-6 c = matched (replyText (both (c .before .before .before .before .before .before .before .before .before .before .args .reg .now) (c .before .before .before .before .before .before .before .before .before .before .args .led .now))) (c .before .before .before .before .before .before .before .before .before .before .args .out .now) (c .before .before .before .before .before .before .before .before .before .before .args .at) 344085 (c .before .before .before .before .before .reply4 .given .1) (c .before .before .put-judged .ensures .0) (c .before .before .put-judged .ensures .1) (omega (arith, c .before .before .put-judged .ensures .2))
+returns-6 c =
+    let a = c .before .before .before .before .before .before .before .before .before .before .args in
+    let reply4 = c .before .before .before .before .before .reply4 in
+    let put-judged = c .before .before .put-judged in
+    matched (replyText (both (a .reg .now) (a .led .now))) (a .out .now) (a .at) 344085 (reply4 .given .1) (put-judged .ensures .0)
+    (put-judged .ensures .1) (omega (arith, put-judged .ensures .2))
 
 same-length-7 : tie.Need-same-length-7
 same-length-7 c = search needs
 
 returns-7 : tie.Need-returns-7
-returns-7 c = matched (replyText (both (c .before .before .before .before .before .before .before .before .before .before .args .reg .now) (c .before .before .before .before .before .before .before .before .before .before .args .led .now))) (c .before .before .before .before .before .before .before .before .before .before .args .out .now) (c .before .before .before .before .before .before .before .before .before .before .args .at) 344085 (c .before .before .before .before .before .reply5 .given .1) (c .before .before .put-rejudged .ensures .0) (c .before .before .put-rejudged .ensures .1) (omega (arith, c .before .before .put-rejudged .ensures .2))
+returns-7 c =
+    let a = c .before .before .before .before .before .before .before .before .before .before .args in
+    let reply5 = c .before .before .before .before .before .reply5 in
+    let put-rejudged = c .before .before .put-rejudged in
+    matched (replyText (both (a .reg .now) (a .led .now))) (a .out .now) (a .at) 344085 (reply5 .given .1) (put-rejudged .ensures .0)
+    (put-rejudged .ensures .1) (omega (arith, put-rejudged .ensures .2))
 
 same-length-8 : tie.Need-same-length-8
 same-length-8 c = search needs
 
 returns-8 : tie.Need-returns-8
-returns-8 c = matched (replyText (both (c .before .before .before .before .before .before .before .before .before .before .args .reg .now) (c .before .before .before .before .before .before .before .before .before .before .args .led .now))) (c .before .before .before .before .before .before .before .before .before .before .args .out .now) (c .before .before .before .before .before .before .before .before .before .before .args .at) 344085 (c .before .before .before .before .before .reply6 .given .1) (c .before .before .put-shown .ensures .0) (c .before .before .put-shown .ensures .1) (omega (arith, c .before .before .put-shown .ensures .2))
+returns-8 c =
+    let a = c .before .before .before .before .before .before .before .before .before .before .args in
+    let reply6 = c .before .before .before .before .before .reply6 in
+    let put-shown = c .before .before .put-shown in
+    matched (replyText (both (a .reg .now) (a .led .now))) (a .out .now) (a .at) 344085 (reply6 .given .1) (put-shown .ensures .0)
+    (put-shown .ensures .1) (omega (arith, put-shown .ensures .2))
 
 same-length-9 : tie.Need-same-length-9
 same-length-9 c = search needs
 
 returns-9 : tie.Need-returns-9
-returns-9 c = matched (replyText (both (c .before .before .before .before .before .before .before .before .before .before .args .reg .now) (c .before .before .before .before .before .before .before .before .before .before .args .led .now))) (c .before .before .before .before .before .before .before .before .before .before .args .out .now) (c .before .before .before .before .before .before .before .before .before .before .args .at) 344085 (c .before .before .before .before .before .reply7 .given .1) (c .before .before .put-all .ensures .0) (c .before .before .put-all .ensures .1) (omega (arith, c .before .before .put-all .ensures .2))
+returns-9 c =
+    let a = c .before .before .before .before .before .before .before .before .before .before .args in
+    let reply7 = c .before .before .before .before .before .reply7 in
+    let put-all = c .before .before .put-all in
+    matched (replyText (both (a .reg .now) (a .led .now))) (a .out .now) (a .at) 344085 (reply7 .given .1) (put-all .ensures .0) (put-all .ensures .1)
+    (omega (arith, put-all .ensures .2))
 
 pub put-spec : {M : Type 1} → statement M
 put-spec =

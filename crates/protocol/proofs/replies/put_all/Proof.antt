@@ -33,19 +33,34 @@ same-length : tie.Need-same-length
 same-length c = search needs
 
 returns : tie.Need-returns
-returns c = matched (sizedIn (both (c .before .before .before .before .before .before .before .before .before .args .reg .now) (c .before .before .before .before .before .before .before .before .before .args .led .now))) (c .before .before .before .before .before .before .before .before .before .args .out .now) (c .before .before .before .before .before .before .before .before .before .args .at) 344085 (c .before .before .before .before .enum-told .given .1) (c .before .before .put-sized .ensures .0) (c .before .before .put-sized .ensures .1) (omega (arith, c .before .before .put-sized .ensures .2))
+returns c =
+    let a = c .before .before .before .before .before .before .before .before .before .args in
+    let enum-told′ = c .before .before .before .before .enum-told in
+    let put-sized = c .before .before .put-sized in
+    matched (sizedIn (both (a .reg .now) (a .led .now))) (a .out .now) (a .at) 344085 (enum-told′ .given .1) (put-sized .ensures .0)
+    (put-sized .ensures .1) (omega (arith, put-sized .ensures .2))
 
 same-length-2 : tie.Need-same-length-2
 same-length-2 c = search needs
 
 returns-2 : tie.Need-returns-2
-returns-2 c = matched (sizedIn (both (c .before .before .before .before .before .before .before .before .before .args .reg .now) (c .before .before .before .before .before .before .before .before .before .args .led .now))) (c .before .before .before .before .before .before .before .before .before .args .out .now) (c .before .before .before .before .before .before .before .before .before .args .at) 344085 (c .before .before .before .before .enum-told2 .given .1) (c .before .before .put-sized2 .ensures .0) (c .before .before .put-sized2 .ensures .1) (omega (arith, c .before .before .put-sized2 .ensures .2))
+returns-2 c =
+    let a = c .before .before .before .before .before .before .before .before .before .args in
+    let enum-told2 = c .before .before .before .before .enum-told2 in
+    let put-sized2 = c .before .before .put-sized2 in
+    matched (sizedIn (both (a .reg .now) (a .led .now))) (a .out .now) (a .at) 344085 (enum-told2 .given .1) (put-sized2 .ensures .0)
+    (put-sized2 .ensures .1) (omega (arith, put-sized2 .ensures .2))
 
 same-length-3 : tie.Need-same-length-3
 same-length-3 c = search needs
 
 returns-3 : tie.Need-returns-3
-returns-3 c = matched (sizedIn (both (c .before .before .before .before .before .before .before .before .before .before .args .reg .now) (c .before .before .before .before .before .before .before .before .before .before .args .led .now))) (c .before .before .before .before .before .before .before .before .before .before .args .out .now) (c .before .before .before .before .before .before .before .before .before .before .args .at) 344085 (c .before .before .before .before .before .enum-told3 .given .1) (c .before .before .put .ensures .0) (c .before .before .put .ensures .1) (omega (arith, c .before .before .put .ensures .0))
+returns-3 c =
+    let a = c .before .before .before .before .before .before .before .before .before .before .args in
+    let enum-told3 = c .before .before .before .before .before .enum-told3 in
+    let put = c .before .before .put in
+    matched (sizedIn (both (a .reg .now) (a .led .now))) (a .out .now) (a .at) 344085 (enum-told3 .given .1) (put .ensures .0) (put .ensures .1)
+    (omega (arith, put .ensures .0))
 
 pub put-all-spec : {M : Type 1} → statement M
 put-all-spec =

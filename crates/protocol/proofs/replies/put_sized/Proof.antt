@@ -19,16 +19,33 @@ nonzero-requires : tie.Need-nonzero-requires
 nonzero-requires c κs = search needs
 
 slice-aggregate-put-each : tie.Need-slice-aggregate-put-each
-slice-aggregate-put-each c = sym (length-take-le (c .before .before .nonzero .result) (c .before .before .before .before .before .before .before .before .before .args .table .now) (c .before .before .nonzero .ensures .1))
+slice-aggregate-put-each c =
+    let a = c .before .before .before .before .before .before .before .before .before .args in
+    let nonzero = c .before .before .nonzero in
+    sym (length-take-le (nonzero .result) (a .table .now) (nonzero .ensures .1))
 
 put-each-requires : tie.Need-put-each-requires
-put-each-requires c κs = omega (arith, c .before .before .before .before .before .put-decimal .ensures .2, length-take-le (c .before .before .nonzero .result) (c .before .before .before .before .before .before .before .before .before .args .table .now) (c .before .before .nonzero .ensures .1), c .before .before .nonzero .ensures .1, c .before .before .before .before .before .before .before .before .before .pre .0, c .before .before .before .before .before .before .before .before .before .pre .1)
+put-each-requires c κs =
+    let a = c .before .before .before .before .before .before .before .before .before .args in
+    let pre = c .before .before .before .before .before .before .before .before .before .pre in
+    let put-decimal = c .before .before .before .before .before .put-decimal in
+    let nonzero = c .before .before .nonzero in
+    omega
+    (arith, put-decimal .ensures .2, length-take-le (nonzero .result) (a .table .now) (nonzero .ensures .1), nonzero .ensures .1, pre .0, pre .1)
 
 same-length : tie.Need-same-length
 same-length c = search needs
 
 returns : tie.Need-returns
-returns c = writes-spaced _ (length (c .before .before .before .before .before .before .before .before .before .before .before .before .args .table .now)) (take (c .before .before .before .before .before .nonzero .result) (c .before .before .before .before .before .before .before .before .before .before .before .before .args .table .now)) (withoutZeros (c .before .before .before .before .before .before .before .before .before .before .before .before .args .table .now)) (c .before .before .before .before .before .before .before .before .before .before .before .before .args .out .now) (c .before .before .before .before .before .before .before .before .before .before .before .before .args .at) refl (c .before .before .before .before .before .nonzero .ensures .0) (omega (arith, length-take-le (c .before .before .before .before .before .nonzero .result) (c .before .before .before .before .before .before .before .before .before .before .before .before .args .table .now) (c .before .before .before .before .before .nonzero .ensures .1), c .before .before .before .before .before .nonzero .ensures .1, c .before .before .before .before .before .before .before .before .before .before .before .before .pre .0)) (c .before .before .before .before .before .before .before .before .put-decimal .ensures) (c .before .before .put-each .ensures)
+returns c =
+    let a = c .before .before .before .before .before .before .before .before .before .before .before .before .args in
+    let pre = c .before .before .before .before .before .before .before .before .before .before .before .before .pre in
+    let put-decimal = c .before .before .before .before .before .before .before .before .put-decimal in
+    let nonzero = c .before .before .before .before .before .nonzero in
+    writes-spaced _ (length (a .table .now)) (take (nonzero .result) (a .table .now)) (withoutZeros (a .table .now)) (a .out .now) (a .at) refl
+    (nonzero .ensures .0)
+    (omega (arith, length-take-le (nonzero .result) (a .table .now) (nonzero .ensures .1), nonzero .ensures .1, pre .0)) (put-decimal .ensures)
+    (c .before .before .put-each .ensures)
 
 pub put-sized-spec : {M : Type 1} → statement M
 put-sized-spec =

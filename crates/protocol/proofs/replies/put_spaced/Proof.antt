@@ -11,7 +11,9 @@ use Rattle.protocol.proofs.replies.wide.Reads as wide-reads
 use Rattle.text.proofs.put_decimal.Reads as put-decimal-reads
 
 returns : tie.Need-returns
-returns c = writes-none (c .before .before .before .args .words .now) (c .before .before .before .args .out .now) (c .before .before .before .args .at) (c .if1 .taken)
+returns c =
+    let a = c .before .before .before .args in
+    writes-none (a .words .now) (a .out .now) (a .at) (c .if1 .taken)
 
 shared-slice-read-wide : tie.Need-shared-slice-read-wide
 shared-slice-read-wide c = search needs
@@ -32,13 +34,24 @@ part-put-each-end : tie.Need-part-put-each-end
 part-put-each-end c = search needs
 
 put-each-requires : tie.Need-put-each-requires
-put-each-requires c κs = omega (arith, c .before .before .before .before .put-decimal .ensures .2, ap length (after-first (c .before .before .before .before .before .before .before .before .before .before .before .args .words .now)), length-drop 1 (c .before .before .before .before .before .before .before .before .before .before .before .args .words .now), c .before .before .before .before .before .before .before .before .before .before .before .pre .0, c .before .before .before .before .before .before .before .before .before .before .before .pre .1)
+put-each-requires c κs =
+    let a = c .before .before .before .before .before .before .before .before .before .before .before .args in
+    let pre = c .before .before .before .before .before .before .before .before .before .before .before .pre in
+    let put-decimal = c .before .before .before .before .put-decimal in
+    omega (arith, put-decimal .ensures .2, ap length (after-first (a .words .now)), length-drop 1 (a .words .now), pre .0, pre .1)
 
 same-length : tie.Need-same-length
 same-length c = search needs
 
 returns-2 : tie.Need-returns-2
-returns-2 c = writes-words _ (c .before .before .before .before .before .before .before .before .before .before .before .before .before .before .args .words .now) (c .before .before .before .before .before .before .before .before .before .before .before .before .before .before .args .out .now) (c .before .before .before .before .before .before .before .before .before .before .before .before .before .before .args .at) (c .before .before .before .before .before .before .before .before .before .before .before .if1 .left) (c .before .before .before .before .before .before .before .before .before .wide .ensures) (c .before .before .before .before .before .before .before .before .before .before .before .before .before .before .pre .0) (c .before .before .before .before .before .before .before .put-decimal .ensures) (c .before .before .put-each .ensures)
+returns-2 c =
+    let a = c .before .before .before .before .before .before .before .before .before .before .before .before .before .before .args in
+    let pre = c .before .before .before .before .before .before .before .before .before .before .before .before .before .before .pre in
+    let if1 = c .before .before .before .before .before .before .before .before .before .before .before .if1 in
+    let wide = c .before .before .before .before .before .before .before .before .before .wide in
+    let put-decimal = c .before .before .before .before .before .before .before .put-decimal in
+    writes-words _ (a .words .now) (a .out .now) (a .at) (if1 .left) (wide .ensures) (pre .0) (put-decimal .ensures)
+    (c .before .before .put-each .ensures)
 
 pub put-spaced-spec : {M : Type 1} → statement M
 put-spaced-spec =
