@@ -7,6 +7,7 @@ use native.Mathlib.Numerals.{add-one}
 use lib.ListN.{length, getD, drop}
 use lib.Seq.{drop-cons, drop-length, sets, length-sets}
 use Rattle.text.specs.Numbers.{decimalOf}
+use Rattle.text.proofs.RoundTrips.{decimal-short}
 use Rattle.answers.specs.Texts.{eachText}
 use Rattle.answers.proofs.Writing.{writes-on}
 
@@ -22,7 +23,7 @@ first-word x xs = refl
 pub record Listing (words out₀ : List ℕ) (at : ℕ) (out : List ℕ) (next i : ℕ) : Type 0 where
   pub passed : i ≤ length words
   pub same-length : length out ≡ length out₀
-  pub within : next ≤ at + 21 * i
+  pub within : next ≤ at + 11 * i
   pub index : next + length (eachText (drop i words)) ≡ at + length (eachText words)
   pub buffer : sets out next (eachText (drop i words)) ≡ sets out₀ at (eachText words)
 
@@ -36,20 +37,20 @@ module _ {words out₀ : List ℕ} {at : ℕ} {out : List ℕ} {next i : ℕ} (g
 
     pub goes-on :
         {r : ℕ} {out' : List ℕ} → r ≡ next + length (32 ∷ decimalOf x) → out' ≡ sets out next (32 ∷ decimalOf x)
-        → r ≤ next + 21 → Listing words out₀ at out' r (i + 1)
+        → x < 4294967296 → Listing words out₀ at out' r (i + 1)
     goes-on p q l =
         let w = writes-on out next (32 ∷ decimalOf x) (eachText (drop (i + 1) words)) p q refl refl in
         record {
           passed = omega arith;
           same-length = ap length q ∙ length-sets out next (32 ∷ decimalOf x) ∙ g .same-length;
-          within = omega (arith, g .within);
+          within = omega (arith, g .within, decimal-short x l);
           index = w .0 ∙ ap (λ t. next + length t) (sym opened) ∙ g .index;
           buffer = w .1 ∙ ap (sets out next) (sym opened) ∙ g .buffer;
         }
 
   pub ends :
       length words ≤ i
-      → (next ≡ at + length (eachText words)) × (out ≡ sets out₀ at (eachText words)) × (next ≤ at + 21 * length words)
+      → (next ≡ at + length (eachText words)) × (out ≡ sets out₀ at (eachText words)) × (next ≤ at + 11 * length words)
   ends h =
       let z : i ≡ length words = omega (arith, g .passed) in
       let e : eachText (drop i words) ≡ [] = ap eachText (rw z (drop-length words)) ∙ no-words in

@@ -10,7 +10,7 @@ use types::Removal;
 use types::Verdict;
 ghost use mathlib.Core.Path.{_≡_};
 ghost use mathlib.Core.List.{_++_};
-ghost use Prim.Native.Nat.{_+_, _*_, _≤_};
+ghost use Prim.Native.Nat.{_+_, _*_, _≤_, _<_, _^_};
 ghost use lib.ListN.{length};
 ghost use lib.Seq.{sets};
 ghost use Rattle.text.specs.Numbers.{decimalOf};
@@ -132,15 +132,15 @@ pub fn put_rejudged(out: &mut [u8], at: usize, rejudged: Rejudged) -> usize
 }
 
 fn wide(x: u32) -> u64
-    ensures { λ r. ⌜ r ≡ x ⌝ }
+    ensures { λ r. ⌜ (r ≡ x) × (r < 2 ^ 32) ⌝ }
 {
     x as u64
 }
 
-// Words of a table, a space before each.
+// Words of a table, a space before each: at most ten digits, and the last is put where there is room for any number.
 pub fn put_each(out: &mut [u8], at: usize, words: &[u32]) -> usize
-    requires { ⌜ at + 21 * length (now words) ≤ length (now out) ⌝ }
-    ensures { λ r. ⌜ (r ≡ at + length (eachText (now (words .entry)))) × (now (out .exit) ≡ sets (now (out .entry)) at (eachText (now (words .entry)))) × (r ≤ at + 21 * length (now (words .entry))) ⌝ }
+    requires { ⌜ at + 11 * length (now words) + 10 ≤ length (now out) ⌝ }
+    ensures { λ r. ⌜ (r ≡ at + length (eachText (now (words .entry)))) × (now (out .exit) ≡ sets (now (out .entry)) at (eachText (now (words .entry)))) × (r ≤ at + 11 * length (now (words .entry))) ⌝ }
 {
     let mut next = at;
     let mut i = 0;

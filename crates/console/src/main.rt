@@ -6,10 +6,7 @@ use protocol::State;
 ghost use mathlib.Core.Path.{_≡_};
 ghost use Prim.Native.Nat.{_+_, _≤_, _<_};
 ghost use lib.ListN.{length, replicate};
-ghost use Rattle.protocol.specs.Feeding.{Ready};
-
-// The room that an answer takes at most.
-const MOST_TEXT: usize = 344086;
+ghost use Rattle.protocol.specs.Feeding.{Ready, mostText};
 
 // A state, and whether there may be more to do: not where the input ended, or the output cannot be written.
 pub struct Served {
@@ -33,8 +30,8 @@ fn flush(out: &[u8], at: usize) -> bool
 
 // Whoever types a line waits for its answer, so the output is written before the next read.
 fn written(s: State, out: &[u8]) -> Served
-    requires { ⌜ (s .out ≤ length (now out)) × (344086 ≤ length (now out)) ⌝ }
-    ensures { λ r. ⌜ (r .state .lent ≡ s .lent) × (r .state .out + 344086 ≤ length (now (out .entry))) ⌝ }
+    requires { ⌜ (s .out ≤ length (now out)) × (mostText ≤ length (now out)) ⌝ }
+    ensures { λ r. ⌜ (r .state .lent ≡ s .lent) × (r .state .out + mostText ≤ length (now (out .entry))) ⌝ }
 {
     let lent = s.lent;
     let at = s.out;
@@ -50,11 +47,11 @@ fn written(s: State, out: &[u8]) -> Served
 
 // Writes the output where it has no room for another answer.
 fn with_room(s: State, out: &[u8]) -> Served
-    requires { ⌜ (s .out ≤ length (now out)) × (344086 ≤ length (now out)) ⌝ }
-    ensures { λ r. ⌜ (r .state .lent ≡ s .lent) × (r .state .out + 344086 ≤ length (now (out .entry))) ⌝ }
+    requires { ⌜ (s .out ≤ length (now out)) × (mostText ≤ length (now out)) ⌝ }
+    ensures { λ r. ⌜ (r .state .lent ≡ s .lent) × (r .state .out + mostText ≤ length (now (out .entry))) ⌝ }
 {
     let at = s.out;
-    if MOST_TEXT <= out.len() - at {
+    if protocol::MOST_TEXT <= out.len() - at {
         return Served {
             state: s,
             more: true,
@@ -176,10 +173,10 @@ fn empty_table() -> [u32; 16384]
     [0; 16384]
 }
 
-fn no_output() -> [u8; 393216]
-    ensures { λ r. ⌜ 393216 ≡ length r ⌝ }
+fn no_output() -> [u8; 262144]
+    ensures { λ r. ⌜ 262144 ≡ length r ⌝ }
 {
-    [0; 393216]
+    [0; 262144]
 }
 
 fn main() {

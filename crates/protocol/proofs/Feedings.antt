@@ -16,21 +16,21 @@ use Rattle.answers.proofs.Writing.{writes-on}
 use Rattle.history.specs.Calls.{Tables}
 use Rattle.protocol.specs.declared.Reply.{Reply}
 use Rattle.protocol.specs.Commands.{Command}
-use Rattle.protocol.specs.Replies.{Outcome, after, performed, replyText}
-use Rattle.protocol.specs.Feeding.{answerLine, mostBytes, joined, commandIn, Session, grown, fed, fedText, fedBytes, isBlank, finished, lastText, lineIn}
+use Rattle.protocol.specs.Replies.{Outcome, after, performed, replyText, mostReply}
+use Rattle.protocol.specs.Feeding.{answerLine, mostBytes, joined, commandIn, Session, grown, fed, fedText, fedBytes, isBlank, finished, lastText, lineIn, mostText}
 use Rattle.protocol.proofs.Joining.{line-is, line-too-long}
 
 -- A reply and a newline.
 pub answers :
     (t : Tables) (c : Command) (o : List ℕ) (at : ℕ) (t' : Tables) (reply : Reply) {o₁ o₂ : List ℕ} {r₁ r₂ : ℕ}
     → record { reply = reply; tables = t' } ≡ performed t c
-    → (r₁ ≡ at + length (replyText t' reply)) × (o₁ ≡ sets o at (replyText t' reply)) × (r₁ ≤ at + 344085)
+    → (r₁ ≡ at + length (replyText t' reply)) × (o₁ ≡ sets o at (replyText t' reply)) × (r₁ ≤ at + mostReply)
     → (r₂ ≡ r₁ + length (ascii "\n")) × (o₂ ≡ sets o₁ r₁ (ascii "\n"))
-    → (r₂ ≡ at + length (answerLine t c)) × (o₂ ≡ sets o at (answerLine t c)) × (r₂ ≤ at + 344086)
+    → (r₂ ≡ at + length (answerLine t c)) × (o₂ ≡ sets o at (answerLine t c)) × (r₂ ≤ at + mostText)
 answers t c o at t' reply {r₂ = r₂} p q s =
     let w = writes-on o at (replyText t' reply) (ascii "\n") (q .0) (q .1) (s .0) (s .1) in
     let text : replyText t' reply ++ (ascii "\n") ≡ answerLine t c = ap (λ (x : Outcome). replyText (x .tables) (x .reply) ++ (ascii "\n")) p in
-    let end : r₂ ≤ at + 344086 = omega (arith, q .2, s .0) in
+    let end : r₂ ≤ at + mostText = omega (arith, q .2, s .0) in
     (w .0 ∙ ap (λ x. at + length x) text, w .1 ∙ ap (sets o at) text, end)
 
 -- ---- the bytes up to a newline

@@ -1,4 +1,4 @@
--- What a line's words ask for ("The console"). What is no command is bad.
+-- What a line's words ask for ("The console"). What is no command is bad, or speaks of a table that there is not: either answers `error` and changes nothing.
 use Prim.Native.Nat.{ℕ}
 use mathlib.Core.Bool.{Bool, cond}
 use mathlib.Core.List.{List, []}

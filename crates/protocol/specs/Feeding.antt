@@ -14,7 +14,7 @@ use Rattle.history.specs.Calls.{Tables}
 use Rattle.protocol.specs.declared.Lent.{Lent}
 use Rattle.protocol.specs.declared.State.{State}
 use Rattle.protocol.specs.Commands.{Command, bad, commandOf, mostWords}
-use Rattle.protocol.specs.Replies.{both, replyTo, after, replyText}
+use Rattle.protocol.specs.Replies.{both, replyTo, after, replyText, mostReply}
 
 -- ---- one line
 
@@ -99,9 +99,9 @@ sessionIn s line reg led = record { tables = lentTables (s .lent) reg led; line 
 unfoldable pub lineStored : ℕ → List ℕ → List ℕ → List ℕ
 lineStored n buffer part = cond (ltb mostBytes (n + length part)) buffer (sets buffer n part)
 
--- The room that an answer takes at most: a table of the most words, 21 bytes each, its length before them and a newline.
+-- The room that an answer takes at most.
 abbrev pub mostText : ℕ
-mostText = 344086
+mostText = mostReply + 1
 
 pub record Ready (s : State) (buffer reg led output : List ℕ) : Type 0 where
   pub line-size : length buffer ≡ mostBytes

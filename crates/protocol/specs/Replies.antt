@@ -118,3 +118,7 @@ replyText t (Judged a) = judgedText a
 replyText t (Rejudged a) = rejudgedText a
 replyText t (Shown n) = shownText t n
 replyText t (Sized n) = sizedIn t n
+
+-- The room that a reply takes at most: a table's length, its words of eleven bytes each, and ten bytes that are left over.
+abbrev pub mostReply : ℕ
+mostReply = 20 + 11 * mostWords + 10

@@ -11,6 +11,7 @@ ghost use lib.ListN.{length};
 ghost use Rattle.lines.specs.Words.{wordsOf};
 ghost use Rattle.protocol.specs.Commands.{fileCommand, withdrawCommand, clearCommand, judgeCommand, keepCommand, dropCommand, rejudgeCommand};
 ghost use Rattle.protocol.specs.Replies.{both, outcome, performed};
+ghost use Rattle.protocol.specs.Feeding.{mostBytes};
 
 fn no_numbers() -> [u32; 8192]
     ensures { λ r. ⌜ 8192 ≡ length r ⌝ }
@@ -25,7 +26,7 @@ fn no_bytes() -> [u8; 8192]
 }
 
 pub fn file(line: &[u8], n: usize, reg: &mut [u32], led: &mut [u32]) -> Reply
-    requires { ⌜ (length (now line) ≤ 16384) × (n ≡ length (wordsOf (now line))) ⌝ }
+    requires { ⌜ (length (now line) ≤ mostBytes) × (n ≡ length (wordsOf (now line))) ⌝ }
     ensures { λ r. ⌜ outcome r (now (reg .exit)) (now (led .exit)) ≡ performed (both (now (reg .entry)) (now (led .entry))) (fileCommand (wordsOf (now (line .entry)))) ⌝ }
 {
     if n < 3 {
@@ -77,7 +78,7 @@ pub fn clear(line: &[u8], n: usize, reg: &mut [u32], led: &mut [u32]) -> Reply
 }
 
 pub fn judge(line: &[u8], n: usize, reg: &mut [u32], led: &mut [u32]) -> Reply
-    requires { ⌜ (length (now line) ≤ 16384) × (n ≡ length (wordsOf (now line))) ⌝ }
+    requires { ⌜ (length (now line) ≤ mostBytes) × (n ≡ length (wordsOf (now line))) ⌝ }
     ensures { λ r. ⌜ outcome r (now (reg .exit)) (now (led .exit)) ≡ performed (both (now (reg .entry)) (now (led .entry))) (judgeCommand (wordsOf (now (line .entry)))) ⌝ }
 {
     if n != 4 {
@@ -98,7 +99,7 @@ pub fn judge(line: &[u8], n: usize, reg: &mut [u32], led: &mut [u32]) -> Reply
 }
 
 pub fn keep(line: &[u8], n: usize, reg: &mut [u32], led: &mut [u32]) -> Reply
-    requires { ⌜ (length (now line) ≤ 16384) × (n ≡ length (wordsOf (now line))) ⌝ }
+    requires { ⌜ (length (now line) ≤ mostBytes) × (n ≡ length (wordsOf (now line))) ⌝ }
     ensures { λ r. ⌜ outcome r (now (reg .exit)) (now (led .exit)) ≡ performed (both (now (reg .entry)) (now (led .entry))) (keepCommand (wordsOf (now (line .entry)))) ⌝ }
 {
     if n != 5 {

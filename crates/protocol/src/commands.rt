@@ -10,6 +10,7 @@ ghost use lib.ListN.{length};
 ghost use Rattle.lines.specs.Words.{wordsOf, wordAt};
 ghost use Rattle.protocol.specs.Commands.{namedBy, showCommand, pokeCommand, wordsCommand, lookCommand, routeCommand, lentCommand};
 ghost use Rattle.protocol.specs.Replies.{both, outcome, performed};
+ghost use Rattle.protocol.specs.Feeding.{mostBytes};
 
 pub fn named(line: &[u8], k: usize) -> Named
     ensures { λ r. ⌜ r ≡ namedBy (wordAt (now (line .entry)) k) ⌝ }
@@ -79,7 +80,7 @@ fn look(line: &[u8], n: usize, reg: &mut [u32], led: &mut [u32]) -> Reply
 
 // The calls that are lent the ledger.
 fn route(line: &[u8], n: usize, reg: &mut [u32], led: &mut [u32]) -> Reply
-    requires { ⌜ (length (now line) ≤ 16384) × (n ≡ length (wordsOf (now line))) ⌝ }
+    requires { ⌜ (length (now line) ≤ mostBytes) × (n ≡ length (wordsOf (now line))) ⌝ }
     ensures { λ r. ⌜ outcome r (now (reg .exit)) (now (led .exit)) ≡ performed (both (now (reg .entry)) (now (led .entry))) (routeCommand (wordsOf (now (line .entry)))) ⌝ }
 {
     if lines::is_word(line, 0, b"keep") {
@@ -96,7 +97,7 @@ fn route(line: &[u8], n: usize, reg: &mut [u32], led: &mut [u32]) -> Reply
 
 // Every command that leaves both lengths as they are.
 pub fn run(line: &[u8], n: usize, reg: &mut [u32], led: &mut [u32]) -> Reply
-    requires { ⌜ (length (now line) ≤ 16384) × (n ≡ length (wordsOf (now line))) ⌝ }
+    requires { ⌜ (length (now line) ≤ mostBytes) × (n ≡ length (wordsOf (now line))) ⌝ }
     ensures { λ r. ⌜ outcome r (now (reg .exit)) (now (led .exit)) ≡ performed (both (now (reg .entry)) (now (led .entry))) (lentCommand (wordsOf (now (line .entry)))) ⌝ }
 {
     if lines::is_word(line, 0, b"file") {

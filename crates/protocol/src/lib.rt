@@ -10,9 +10,9 @@ ghost use Prim.Native.Nat.{_+_, _≤_};
 ghost use lib.ListN.{length, take};
 ghost use lib.Seq.{sets};
 ghost use Rattle.lines.specs.Words.{before, wordsOf};
-ghost use Rattle.protocol.specs.Commands.{resize, resizeCommand, emptyCommand, commandOf};
+ghost use Rattle.protocol.specs.Commands.{mostWords, resize, resizeCommand, emptyCommand, commandOf};
 ghost use Rattle.protocol.specs.Replies.{after, outcome, performed};
-ghost use Rattle.protocol.specs.Feeding.{answerLine, joined, commandIn, fed, fedText, fedBytes, lastText, HeldBoth, Ready, finished, lentTables, lineIn, sessionIn, lineStored};
+ghost use Rattle.protocol.specs.Feeding.{answerLine, mostBytes, mostText, joined, commandIn, fed, fedText, fedBytes, lastText, HeldBoth, Ready, finished, lentTables, lineIn, sessionIn, lineStored};
 
 mod calls;
 mod commands;
@@ -63,11 +63,14 @@ pub struct Fed {
     pub used: usize,
 }
 
+// The room that an answer takes at most.
+pub const MOST_TEXT: usize = 180255;
+
 // The most words that a table is lent with.
 const MOST_WORDS: usize = 16384;
 
 fn resize_named(named: Named, to: usize, s: Lent, reg: &mut [u32], led: &mut [u32]) -> Performed
-    requires { ⌜ (to ≤ 16384) × (HeldBoth s (now reg) (now led)) ⌝ }
+    requires { ⌜ (to ≤ mostWords) × (HeldBoth s (now reg) (now led)) ⌝ }
     ensures { λ r. ⌜ (outcome (r .reply) (take (r .lent .register) (now (reg .exit))) (take (r .lent .ledger) (now (led .exit))) ≡ performed (lentTables s (now (reg .entry)) (now (led .entry))) (resize named to)) × (HeldBoth (r .lent) (now (reg .exit)) (now (led .exit))) ⌝ }
 {
     let register = s.register;
@@ -149,7 +152,7 @@ fn empty(line: &[u8], n: usize, s: Lent, reg: &mut [u32], led: &mut [u32]) -> Pe
 
 // The command of a line.
 fn perform(line: &[u8], s: Lent, reg: &mut [u32], led: &mut [u32]) -> Performed
-    requires { ⌜ (length (now line) ≤ 16384) × (HeldBoth s (now reg) (now led)) ⌝ }
+    requires { ⌜ (length (now line) ≤ mostBytes) × (HeldBoth s (now reg) (now led)) ⌝ }
     ensures { λ r. ⌜ (outcome (r .reply) (take (r .lent .register) (now (reg .exit))) (take (r .lent .ledger) (now (led .exit))) ≡ performed (lentTables s (now (reg .entry)) (now (led .entry))) (commandOf (wordsOf (now (line .entry))))) × (HeldBoth (r .lent) (now (reg .exit)) (now (led .exit))) ⌝ }
 {
     let n = lines::count(line);
@@ -167,7 +170,7 @@ fn perform(line: &[u8], s: Lent, reg: &mut [u32], led: &mut [u32]) -> Performed
 
 // The command of a line of n bytes of the buffer.
 fn perform_line(n: usize, line: &[u8], s: Lent, reg: &mut [u32], led: &mut [u32]) -> Performed
-    requires { ⌜ (length (now line) ≡ 16384) × (HeldBoth s (now reg) (now led)) ⌝ }
+    requires { ⌜ (length (now line) ≡ mostBytes) × (HeldBoth s (now reg) (now led)) ⌝ }
     ensures { λ r. ⌜ (outcome (r .reply) (take (r .lent .register) (now (reg .exit))) (take (r .lent .ledger) (now (led .exit))) ≡ performed (lentTables s (now (reg .entry)) (now (led .entry))) (commandIn (lineIn n (now (line .entry))))) × (HeldBoth (r .lent) (now (reg .exit)) (now (led .exit))) ⌝ }
 {
     if line.len() < n {
@@ -182,7 +185,7 @@ fn perform_line(n: usize, line: &[u8], s: Lent, reg: &mut [u32], led: &mut [u32]
 // The line is answered, and the next begins.
 fn end_line(s: State, line: &[u8], reg: &mut [u32], led: &mut [u32], out: &mut [u8]) -> State
     requires { ⌜ Ready s (now line) (now reg) (now led) (now out) ⌝ }
-    ensures { λ r. ⌜ (lentTables (r .lent) (now (reg .exit)) (now (led .exit)) ≡ after (lentTables (s .lent) (now (reg .entry)) (now (led .entry))) (commandIn (lineIn (s .line) (now (line .entry))))) × (r .line ≡ 0) × (r .out ≡ s .out + length (answerLine (lentTables (s .lent) (now (reg .entry)) (now (led .entry))) (commandIn (lineIn (s .line) (now (line .entry)))))) × (now (out .exit) ≡ sets (now (out .entry)) (s .out) (answerLine (lentTables (s .lent) (now (reg .entry)) (now (led .entry))) (commandIn (lineIn (s .line) (now (line .entry)))))) × (r .out ≤ s .out + 344086) × (HeldBoth (r .lent) (now (reg .exit)) (now (led .exit))) ⌝ }
+    ensures { λ r. ⌜ (lentTables (r .lent) (now (reg .exit)) (now (led .exit)) ≡ after (lentTables (s .lent) (now (reg .entry)) (now (led .entry))) (commandIn (lineIn (s .line) (now (line .entry))))) × (r .line ≡ 0) × (r .out ≡ s .out + length (answerLine (lentTables (s .lent) (now (reg .entry)) (now (led .entry))) (commandIn (lineIn (s .line) (now (line .entry)))))) × (now (out .exit) ≡ sets (now (out .entry)) (s .out) (answerLine (lentTables (s .lent) (now (reg .entry)) (now (led .entry))) (commandIn (lineIn (s .line) (now (line .entry)))))) × (r .out ≤ s .out + mostText) × (HeldBoth (r .lent) (now (reg .exit)) (now (led .exit))) ⌝ }
 {
     let n = s.line;
     let at = s.out;
@@ -202,7 +205,7 @@ fn end_line(s: State, line: &[u8], reg: &mut [u32], led: &mut [u32], out: &mut [
 
 // The bytes of part go behind the first n of a line, if they have room there.
 fn join(line: &mut [u8], n: usize, part: &[u8]) -> usize
-    requires { ⌜ length (now line) ≡ 16384 ⌝ }
+    requires { ⌜ length (now line) ≡ mostBytes ⌝ }
     ensures { λ r. ⌜ (lineIn r (now (line .exit)) ≡ joined (lineIn n (now (line .entry))) (now (part .entry))) × (now (line .exit) ≡ lineStored n (now (line .entry)) (now (part .entry))) ⌝ }
 {
     if line.len() < n {
@@ -224,7 +227,7 @@ pub fn feed(
     out: &mut [u8],
 ) -> Fed
     requires { ⌜ Ready s (now line) (now reg) (now led) (now out) ⌝ }
-    ensures { λ r. ⌜ (sessionIn (r .state) (now (line .exit)) (now (reg .exit)) (now (led .exit)) ≡ fed (sessionIn s (now (line .entry)) (now (reg .entry)) (now (led .entry))) (now (piece .entry))) × (r .used ≡ fedBytes (now (piece .entry))) × (now (line .exit) ≡ lineStored (s .line) (now (line .entry)) (before 10 (now (piece .entry)))) × (r .state .out ≡ s .out + length (fedText (sessionIn s (now (line .entry)) (now (reg .entry)) (now (led .entry))) (now (piece .entry)))) × (now (out .exit) ≡ sets (now (out .entry)) (s .out) (fedText (sessionIn s (now (line .entry)) (now (reg .entry)) (now (led .entry))) (now (piece .entry)))) × (r .state .out ≤ s .out + 344086) × (HeldBoth (r .state .lent) (now (reg .exit)) (now (led .exit))) ⌝ }
+    ensures { λ r. ⌜ (sessionIn (r .state) (now (line .exit)) (now (reg .exit)) (now (led .exit)) ≡ fed (sessionIn s (now (line .entry)) (now (reg .entry)) (now (led .entry))) (now (piece .entry))) × (r .used ≡ fedBytes (now (piece .entry))) × (now (line .exit) ≡ lineStored (s .line) (now (line .entry)) (before 10 (now (piece .entry)))) × (r .state .out ≡ s .out + length (fedText (sessionIn s (now (line .entry)) (now (reg .entry)) (now (led .entry))) (now (piece .entry)))) × (now (out .exit) ≡ sets (now (out .entry)) (s .out) (fedText (sessionIn s (now (line .entry)) (now (reg .entry)) (now (led .entry))) (now (piece .entry)))) × (r .state .out ≤ s .out + mostText) × (HeldBoth (r .state .lent) (now (reg .exit)) (now (led .exit))) ⌝ }
 {
     let lent = s.lent;
     let n = s.line;
@@ -249,7 +252,7 @@ pub fn feed(
 // The end of the input: what stands in the line is answered.
 pub fn finish(s: State, line: &[u8], reg: &mut [u32], led: &mut [u32], out: &mut [u8]) -> State
     requires { ⌜ Ready s (now line) (now reg) (now led) (now out) ⌝ }
-    ensures { λ r. ⌜ (sessionIn r (now (line .entry)) (now (reg .exit)) (now (led .exit)) ≡ finished (sessionIn s (now (line .entry)) (now (reg .entry)) (now (led .entry)))) × (r .out ≡ s .out + length (lastText (sessionIn s (now (line .entry)) (now (reg .entry)) (now (led .entry))))) × (now (out .exit) ≡ sets (now (out .entry)) (s .out) (lastText (sessionIn s (now (line .entry)) (now (reg .entry)) (now (led .entry))))) × (r .out ≤ s .out + 344086) ⌝ }
+    ensures { λ r. ⌜ (sessionIn r (now (line .entry)) (now (reg .exit)) (now (led .exit)) ≡ finished (sessionIn s (now (line .entry)) (now (reg .entry)) (now (led .entry)))) × (r .out ≡ s .out + length (lastText (sessionIn s (now (line .entry)) (now (reg .entry)) (now (led .entry))))) × (now (out .exit) ≡ sets (now (out .entry)) (s .out) (lastText (sessionIn s (now (line .entry)) (now (reg .entry)) (now (led .entry))))) × (r .out ≤ s .out + mostText) ⌝ }
 {
     if s.line == 0 {
         return s;

@@ -6,7 +6,8 @@ ghost use mathlib.Core.Path.{_≡_};
 ghost use Prim.Native.Nat.{_+_, _≤_};
 ghost use lib.ListN.{length};
 ghost use lib.Seq.{sets};
-ghost use Rattle.protocol.specs.Replies.{both, usedWords, sizedText, shownText, sizedIn, replyText};
+ghost use Rattle.protocol.specs.Replies.{both, usedWords, sizedText, shownText, sizedIn, replyText, mostReply};
+ghost use Rattle.protocol.specs.Commands.{mostWords};
 ghost use Rattle.answers.specs.Texts.{spacedText};
 
 fn wide(x: u32) -> u64
@@ -17,8 +18,8 @@ fn wide(x: u32) -> u64
 
 // Words separated by spaces.
 fn put_spaced(out: &mut [u8], at: usize, words: &[u32]) -> usize
-    requires { ⌜ (length (now words) ≤ 16384) × (at + 344085 ≤ length (now out)) ⌝ }
-    ensures { λ r. ⌜ (r ≡ at + length (spacedText (now (words .entry)))) × (now (out .exit) ≡ sets (now (out .entry)) at (spacedText (now (words .entry)))) × (r ≤ at + 344085) ⌝ }
+    requires { ⌜ (length (now words) ≤ mostWords) × (at + mostReply ≤ length (now out)) ⌝ }
+    ensures { λ r. ⌜ (r ≡ at + length (spacedText (now (words .entry)))) × (now (out .exit) ≡ sets (now (out .entry)) at (spacedText (now (words .entry)))) × (r ≤ at + mostReply) ⌝ }
 {
     if words.len() == 0 {
         return at;
@@ -29,8 +30,8 @@ fn put_spaced(out: &mut [u8], at: usize, words: &[u32]) -> usize
 
 // A table's length, then its words up to the last that is not zero.
 fn put_sized(out: &mut [u8], at: usize, table: &[u32]) -> usize
-    requires { ⌜ (length (now table) ≤ 16384) × (at + 344085 ≤ length (now out)) ⌝ }
-    ensures { λ r. ⌜ (r ≡ at + length (sizedText (now (table .entry)))) × (now (out .exit) ≡ sets (now (out .entry)) at (sizedText (now (table .entry)))) × (r ≤ at + 344085) ⌝ }
+    requires { ⌜ (length (now table) ≤ mostWords) × (at + mostReply ≤ length (now out)) ⌝ }
+    ensures { λ r. ⌜ (r ≡ at + length (sizedText (now (table .entry)))) × (now (out .exit) ≡ sets (now (out .entry)) at (sizedText (now (table .entry)))) × (r ≤ at + mostReply) ⌝ }
 {
     let next = text::put_decimal(table.len() as u64, out, at);
     let n = tables::nonzero(table);
@@ -38,8 +39,8 @@ fn put_sized(out: &mut [u8], at: usize, table: &[u32]) -> usize
 }
 
 fn put_shown(out: &mut [u8], at: usize, named: Named, reg: &[u32], led: &[u32]) -> usize
-    requires { ⌜ (length (now reg) ≤ 16384) × (length (now led) ≤ 16384) × (at + 344085 ≤ length (now out)) ⌝ }
-    ensures { λ r. ⌜ (r ≡ at + length (shownText (both (now (reg .entry)) (now (led .entry))) named)) × (now (out .exit) ≡ sets (now (out .entry)) at (shownText (both (now (reg .entry)) (now (led .entry))) named)) × (r ≤ at + 344085) ⌝ }
+    requires { ⌜ (length (now reg) ≤ mostWords) × (length (now led) ≤ mostWords) × (at + mostReply ≤ length (now out)) ⌝ }
+    ensures { λ r. ⌜ (r ≡ at + length (shownText (both (now (reg .entry)) (now (led .entry))) named)) × (now (out .exit) ≡ sets (now (out .entry)) at (shownText (both (now (reg .entry)) (now (led .entry))) named)) × (r ≤ at + mostReply) ⌝ }
 {
     match named {
         Named::Register => {
@@ -55,8 +56,8 @@ fn put_shown(out: &mut [u8], at: usize, named: Named, reg: &[u32], led: &[u32]) 
 }
 
 fn put_all(out: &mut [u8], at: usize, named: Named, reg: &[u32], led: &[u32]) -> usize
-    requires { ⌜ (length (now reg) ≤ 16384) × (length (now led) ≤ 16384) × (at + 344085 ≤ length (now out)) ⌝ }
-    ensures { λ r. ⌜ (r ≡ at + length (sizedIn (both (now (reg .entry)) (now (led .entry))) named)) × (now (out .exit) ≡ sets (now (out .entry)) at (sizedIn (both (now (reg .entry)) (now (led .entry))) named)) × (r ≤ at + 344085) ⌝ }
+    requires { ⌜ (length (now reg) ≤ mostWords) × (length (now led) ≤ mostWords) × (at + mostReply ≤ length (now out)) ⌝ }
+    ensures { λ r. ⌜ (r ≡ at + length (sizedIn (both (now (reg .entry)) (now (led .entry))) named)) × (now (out .exit) ≡ sets (now (out .entry)) at (sizedIn (both (now (reg .entry)) (now (led .entry))) named)) × (r ≤ at + mostReply) ⌝ }
 {
     match named {
         Named::Register => put_sized(out, at, reg),
@@ -66,8 +67,8 @@ fn put_all(out: &mut [u8], at: usize, named: Named, reg: &[u32], led: &[u32]) ->
 }
 
 pub fn put(out: &mut [u8], at: usize, reply: Reply, reg: &[u32], led: &[u32]) -> usize
-    requires { ⌜ (length (now reg) ≤ 16384) × (length (now led) ≤ 16384) × (at + 344085 ≤ length (now out)) ⌝ }
-    ensures { λ r. ⌜ (r ≡ at + length (replyText (both (now (reg .entry)) (now (led .entry))) reply)) × (now (out .exit) ≡ sets (now (out .entry)) at (replyText (both (now (reg .entry)) (now (led .entry))) reply)) × (r ≤ at + 344085) ⌝ }
+    requires { ⌜ (length (now reg) ≤ mostWords) × (length (now led) ≤ mostWords) × (at + mostReply ≤ length (now out)) ⌝ }
+    ensures { λ r. ⌜ (r ≡ at + length (replyText (both (now (reg .entry)) (now (led .entry))) reply)) × (now (out .exit) ≡ sets (now (out .entry)) at (replyText (both (now (reg .entry)) (now (led .entry))) reply)) × (r ≤ at + mostReply) ⌝ }
 {
     match reply {
         Reply::Done => text::put(b"done", out, at),

@@ -1,7 +1,7 @@
 -- `protocol::replies::put` meets its contract. Assumes nothing.
 use native.Mathlib.Omega.{arith}
 use Rattle.answers.proofs.Writing.{matched}
-use Rattle.protocol.specs.Replies.{both, replyText}
+use Rattle.protocol.specs.Replies.{both, replyText, mostReply}
 use borrow.Author.Needs.{needs}
 use Rattle.protocol.proofs.replies.put.Statement.{statement}
 use Rattle.protocol.proofs.replies.put.Tie as tie
@@ -82,7 +82,7 @@ returns c =
     let a = c .before .before .before .before .before .before .before .before .before .before .args in
     let enum-told′ = c .before .before .before .before .before .enum-told in
     let put = c .before .before .put in
-    matched (replyText (both (a .reg .now) (a .led .now))) (a .out .now) (a .at) 344085 (enum-told′ .given .1) (put .ensures .0) (put .ensures .1)
+    matched (replyText (both (a .reg .now) (a .led .now))) (a .out .now) (a .at) mostReply (enum-told′ .given .1) (put .ensures .0) (put .ensures .1)
     (omega (arith, put .ensures .0))
 
 same-length-2 : tie.Need-same-length-2
@@ -93,7 +93,7 @@ returns-2 c =
     let a = c .before .before .before .before .before .before .before .before .before .before .args in
     let enum-told2 = c .before .before .before .before .before .enum-told2 in
     let put2 = c .before .before .put2 in
-    matched (replyText (both (a .reg .now) (a .led .now))) (a .out .now) (a .at) 344085 (enum-told2 .given .1) (put2 .ensures .0) (put2 .ensures .1)
+    matched (replyText (both (a .reg .now) (a .led .now))) (a .out .now) (a .at) mostReply (enum-told2 .given .1) (put2 .ensures .0) (put2 .ensures .1)
     (omega (arith, put2 .ensures .0))
 
 same-length-3 : tie.Need-same-length-3
@@ -104,7 +104,7 @@ returns-3 c =
     let a = c .before .before .before .before .before .before .before .before .before .before .args in
     let reply = c .before .before .before .before .before .reply in
     let put-filed = c .before .before .put-filed in
-    matched (replyText (both (a .reg .now) (a .led .now))) (a .out .now) (a .at) 344085 (reply .given .1) (put-filed .ensures .0)
+    matched (replyText (both (a .reg .now) (a .led .now))) (a .out .now) (a .at) mostReply (reply .given .1) (put-filed .ensures .0)
     (put-filed .ensures .1) (omega (arith, put-filed .ensures .2))
 
 same-length-4 : tie.Need-same-length-4
@@ -115,7 +115,7 @@ returns-4 c =
     let a = c .before .before .before .before .before .before .before .before .before .before .args in
     let reply2 = c .before .before .before .before .before .reply2 in
     let put-removal = c .before .before .put-removal in
-    matched (replyText (both (a .reg .now) (a .led .now))) (a .out .now) (a .at) 344085 (reply2 .given .1) (put-removal .ensures .0)
+    matched (replyText (both (a .reg .now) (a .led .now))) (a .out .now) (a .at) mostReply (reply2 .given .1) (put-removal .ensures .0)
     (put-removal .ensures .1) (omega (arith, put-removal .ensures .2))
 
 same-length-5 : tie.Need-same-length-5
@@ -126,7 +126,7 @@ returns-5 c =
     let a = c .before .before .before .before .before .before .before .before .before .before .args in
     let reply3 = c .before .before .before .before .before .reply3 in
     let put-cleared = c .before .before .put-cleared in
-    matched (replyText (both (a .reg .now) (a .led .now))) (a .out .now) (a .at) 344085 (reply3 .given .1) (put-cleared .ensures .0)
+    matched (replyText (both (a .reg .now) (a .led .now))) (a .out .now) (a .at) mostReply (reply3 .given .1) (put-cleared .ensures .0)
     (put-cleared .ensures .1) (omega (arith, put-cleared .ensures .2))
 
 same-length-6 : tie.Need-same-length-6
@@ -137,7 +137,7 @@ returns-6 c =
     let a = c .before .before .before .before .before .before .before .before .before .before .args in
     let reply4 = c .before .before .before .before .before .reply4 in
     let put-judged = c .before .before .put-judged in
-    matched (replyText (both (a .reg .now) (a .led .now))) (a .out .now) (a .at) 344085 (reply4 .given .1) (put-judged .ensures .0)
+    matched (replyText (both (a .reg .now) (a .led .now))) (a .out .now) (a .at) mostReply (reply4 .given .1) (put-judged .ensures .0)
     (put-judged .ensures .1) (omega (arith, put-judged .ensures .2))
 
 same-length-7 : tie.Need-same-length-7
@@ -148,7 +148,7 @@ returns-7 c =
     let a = c .before .before .before .before .before .before .before .before .before .before .args in
     let reply5 = c .before .before .before .before .before .reply5 in
     let put-rejudged = c .before .before .put-rejudged in
-    matched (replyText (both (a .reg .now) (a .led .now))) (a .out .now) (a .at) 344085 (reply5 .given .1) (put-rejudged .ensures .0)
+    matched (replyText (both (a .reg .now) (a .led .now))) (a .out .now) (a .at) mostReply (reply5 .given .1) (put-rejudged .ensures .0)
     (put-rejudged .ensures .1) (omega (arith, put-rejudged .ensures .2))
 
 same-length-8 : tie.Need-same-length-8
@@ -159,7 +159,7 @@ returns-8 c =
     let a = c .before .before .before .before .before .before .before .before .before .before .args in
     let reply6 = c .before .before .before .before .before .reply6 in
     let put-shown = c .before .before .put-shown in
-    matched (replyText (both (a .reg .now) (a .led .now))) (a .out .now) (a .at) 344085 (reply6 .given .1) (put-shown .ensures .0)
+    matched (replyText (both (a .reg .now) (a .led .now))) (a .out .now) (a .at) mostReply (reply6 .given .1) (put-shown .ensures .0)
     (put-shown .ensures .1) (omega (arith, put-shown .ensures .2))
 
 same-length-9 : tie.Need-same-length-9
@@ -170,7 +170,7 @@ returns-9 c =
     let a = c .before .before .before .before .before .before .before .before .before .before .args in
     let reply7 = c .before .before .before .before .before .reply7 in
     let put-all = c .before .before .put-all in
-    matched (replyText (both (a .reg .now) (a .led .now))) (a .out .now) (a .at) 344085 (reply7 .given .1) (put-all .ensures .0) (put-all .ensures .1)
+    matched (replyText (both (a .reg .now) (a .led .now))) (a .out .now) (a .at) mostReply (reply7 .given .1) (put-all .ensures .0) (put-all .ensures .1)
     (omega (arith, put-all .ensures .2))
 
 pub put-spec : {M : Type 1} → statement M

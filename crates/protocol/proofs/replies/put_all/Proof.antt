@@ -1,7 +1,7 @@
 -- `protocol::replies::put_all` meets its contract. Assumes nothing.
 use native.Mathlib.Omega.{arith}
 use Rattle.answers.proofs.Writing.{matched}
-use Rattle.protocol.specs.Replies.{both, sizedIn}
+use Rattle.protocol.specs.Replies.{both, sizedIn, mostReply}
 use borrow.Author.Needs.{needs}
 use Rattle.protocol.proofs.replies.put_all.Statement.{statement}
 use Rattle.protocol.proofs.replies.put_all.Tie as tie
@@ -37,7 +37,7 @@ returns c =
     let a = c .before .before .before .before .before .before .before .before .before .args in
     let enum-told′ = c .before .before .before .before .enum-told in
     let put-sized = c .before .before .put-sized in
-    matched (sizedIn (both (a .reg .now) (a .led .now))) (a .out .now) (a .at) 344085 (enum-told′ .given .1) (put-sized .ensures .0)
+    matched (sizedIn (both (a .reg .now) (a .led .now))) (a .out .now) (a .at) mostReply (enum-told′ .given .1) (put-sized .ensures .0)
     (put-sized .ensures .1) (omega (arith, put-sized .ensures .2))
 
 same-length-2 : tie.Need-same-length-2
@@ -48,7 +48,7 @@ returns-2 c =
     let a = c .before .before .before .before .before .before .before .before .before .args in
     let enum-told2 = c .before .before .before .before .enum-told2 in
     let put-sized2 = c .before .before .put-sized2 in
-    matched (sizedIn (both (a .reg .now) (a .led .now))) (a .out .now) (a .at) 344085 (enum-told2 .given .1) (put-sized2 .ensures .0)
+    matched (sizedIn (both (a .reg .now) (a .led .now))) (a .out .now) (a .at) mostReply (enum-told2 .given .1) (put-sized2 .ensures .0)
     (put-sized2 .ensures .1) (omega (arith, put-sized2 .ensures .2))
 
 same-length-3 : tie.Need-same-length-3
@@ -59,7 +59,7 @@ returns-3 c =
     let a = c .before .before .before .before .before .before .before .before .before .before .args in
     let enum-told3 = c .before .before .before .before .before .enum-told3 in
     let put = c .before .before .put in
-    matched (sizedIn (both (a .reg .now) (a .led .now))) (a .out .now) (a .at) 344085 (enum-told3 .given .1) (put .ensures .0) (put .ensures .1)
+    matched (sizedIn (both (a .reg .now) (a .led .now))) (a .out .now) (a .at) mostReply (enum-told3 .given .1) (put .ensures .0) (put .ensures .1)
     (omega (arith, put .ensures .0))
 
 pub put-all-spec : {M : Type 1} → statement M

@@ -6,7 +6,7 @@ use mathlib.Core.Path.{sym, ap, _∙_}
 use lib.ListN.{length, take}
 use lib.Seq.{sets, length-take-le}
 use Rattle.answers.specs.Texts.{spacedText}
-use Rattle.protocol.specs.Replies.{both, shownText}
+use Rattle.protocol.specs.Replies.{both, shownText, mostReply}
 use borrow.Author.Needs.{needs}
 use Rattle.protocol.proofs.replies.put_shown.Statement.{statement}
 use Rattle.protocol.proofs.replies.put_shown.Tie as tie
@@ -70,7 +70,7 @@ returns c =
     let enum-told′ = c .before .before .before .before .before .before .enum-told in
     let used = c .before .before .before .before .before .used in
     let put-spaced = c .before .before .put-spaced in
-    matched (shownText (both (a .reg .now) (a .led .now))) (a .out .now) (a .at) 344085 (enum-told′ .given .1)
+    matched (shownText (both (a .reg .now) (a .led .now))) (a .out .now) (a .at) mostReply (enum-told′ .given .1)
     (put-spaced .ensures .0 ∙ ap (λ n. a .at + length (spacedText (take n (a .reg .now)))) (used .ensures .0))
     (put-spaced .ensures .1 ∙ ap (λ n. sets (a .out .now) (a .at) (spacedText (take n (a .reg .now)))) (used .ensures .0)) (put-spaced .ensures .2)
 
@@ -83,7 +83,7 @@ returns-2 c =
     let enum-told2 = c .before .before .before .before .before .before .enum-told2 in
     let used2 = c .before .before .before .before .before .used2 in
     let put-spaced2 = c .before .before .put-spaced2 in
-    matched (shownText (both (a .reg .now) (a .led .now))) (a .out .now) (a .at) 344085 (enum-told2 .given .1)
+    matched (shownText (both (a .reg .now) (a .led .now))) (a .out .now) (a .at) mostReply (enum-told2 .given .1)
     (put-spaced2 .ensures .0 ∙ ap (λ n. a .at + length (spacedText (take n (a .led .now)))) (used2 .ensures .0))
     (put-spaced2 .ensures .1 ∙ ap (λ n. sets (a .out .now) (a .at) (spacedText (take n (a .led .now)))) (used2 .ensures .0)) (put-spaced2 .ensures .2)
 
@@ -95,7 +95,7 @@ returns-3 c =
     let a = c .before .before .before .before .before .before .before .before .before .before .args in
     let enum-told3 = c .before .before .before .before .before .enum-told3 in
     let put = c .before .before .put in
-    matched (shownText (both (a .reg .now) (a .led .now))) (a .out .now) (a .at) 344085 (enum-told3 .given .1) (put .ensures .0) (put .ensures .1)
+    matched (shownText (both (a .reg .now) (a .led .now))) (a .out .now) (a .at) mostReply (enum-told3 .given .1) (put .ensures .0) (put .ensures .1)
     (omega (arith, put .ensures .0))
 
 pub put-shown-spec : {M : Type 1} → statement M
