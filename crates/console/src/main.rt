@@ -4,9 +4,11 @@ use libc::STDOUT_FILENO;
 use protocol::Lent;
 use protocol::State;
 ghost use mathlib.Core.Path.{_≡_};
+ghost use mathlib.Core.Bool.{true};
 ghost use Prim.Native.Nat.{_+_, _≤_, _<_};
-ghost use lib.ListN.{length, replicate};
-ghost use Rattle.protocol.specs.Feeding.{Ready, mostText};
+ghost use lib.ListN.{length, drop, replicate};
+ghost use Rattle.protocol.specs.Feeding.{fed, fedBytes, sessionIn, mostText, Ready};
+ghost use Rattle.protocol.specs.Sessions.{fedAll};
 
 // A state, and whether there may be more to do: not where the input ended, or the output cannot be written.
 pub struct Served {
@@ -31,7 +33,7 @@ fn flush(out: &[u8], at: usize) -> bool
 // Whoever types a line waits for its answer, so the output is written before the next read.
 fn written(s: State, out: &[u8]) -> Served
     requires { ⌜ (s .out ≤ length (now out)) × (mostText ≤ length (now out)) ⌝ }
-    ensures { λ r. ⌜ (r .state .lent ≡ s .lent) × (r .state .out + mostText ≤ length (now (out .entry))) ⌝ }
+    ensures { λ r. ⌜ (r .state .lent ≡ s .lent) × (r .state .line ≡ s .line) × (r .state .out + mostText ≤ length (now (out .entry))) ⌝ }
 {
     let lent = s.lent;
     let at = s.out;
@@ -48,7 +50,7 @@ fn written(s: State, out: &[u8]) -> Served
 // Writes the output where it has no room for another answer.
 fn with_room(s: State, out: &[u8]) -> Served
     requires { ⌜ (s .out ≤ length (now out)) × (mostText ≤ length (now out)) ⌝ }
-    ensures { λ r. ⌜ (r .state .lent ≡ s .lent) × (r .state .out + mostText ≤ length (now (out .entry))) ⌝ }
+    ensures { λ r. ⌜ (r .state .lent ≡ s .lent) × (r .state .line ≡ s .line) × (r .state .out + mostText ≤ length (now (out .entry))) ⌝ }
 {
     let at = s.out;
     if protocol::MOST_TEXT <= out.len() - at {
@@ -71,7 +73,7 @@ fn serve_line(
     out: &mut [u8],
 ) -> Step
     requires { ⌜ (Ready s (now line) (now reg) (now led) (now out)) × (from < length (now piece)) ⌝ }
-    ensures { λ r. ⌜ (Ready (r .state) (now (line .exit)) (now (reg .exit)) (now (led .exit)) (now (out .exit))) × (from < r .to) × (r .to ≤ length (now (piece .entry))) ⌝ }
+    ensures { λ r. ⌜ (sessionIn (r .state) (now (line .exit)) (now (reg .exit)) (now (led .exit)) ≡ fed (sessionIn s (now (line .entry)) (now (reg .entry)) (now (led .entry))) (drop from (now (piece .entry)))) × (r .to ≡ from + fedBytes (drop from (now (piece .entry)))) × (Ready (r .state) (now (line .exit)) (now (reg .exit)) (now (led .exit)) (now (out .exit))) ⌝ }
 {
     let fed = protocol::feed(&piece[from..], s, line, reg, led, out);
     let next = fed.state;
@@ -84,7 +86,7 @@ fn serve_line(
     }
 }
 
-// Answers the lines of a piece.
+// Answers the lines of a piece: all its bytes are used, each once and in their order, unless the output cannot be written.
 fn serve_piece(
     piece: &[u8],
     first: State,
@@ -94,7 +96,7 @@ fn serve_piece(
     out: &mut [u8],
 ) -> Served
     requires { ⌜ Ready first (now line) (now reg) (now led) (now out) ⌝ }
-    ensures { λ r. ⌜ Ready (r .state) (now (line .exit)) (now (reg .exit)) (now (led .exit)) (now (out .exit)) ⌝ }
+    ensures { λ r. ⌜ (r .more ≡ true → sessionIn (r .state) (now (line .exit)) (now (reg .exit)) (now (led .exit)) ≡ fedAll (length (now (piece .entry))) (sessionIn first (now (line .entry)) (now (reg .entry)) (now (led .entry))) (now (piece .entry))) × (Ready (r .state) (now (line .exit)) (now (reg .exit)) (now (led .exit)) (now (out .exit))) ⌝ }
 {
     let mut s = first;
     let mut from = 0;

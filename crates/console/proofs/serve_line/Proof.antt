@@ -1,7 +1,9 @@
 -- `console::serve_line` meets its contract. Assumes nothing.
-use mathlib.Core.Path.{_∙_}
+use Prim.Native.Nat.{_+_}
+use mathlib.Core.Path.{ap, _∙_}
 use native.Mathlib.Omega.{arith}
-use Rattle.console.proofs.Serving.{ready, rest-used}
+use Rattle.protocol.specs.Feeding.{fed, fedBytes, sessionIn}
+use Rattle.console.proofs.Serving.{ready, same-session, rest-is, rest-used}
 use borrow.Author.Needs.{needs}
 use Rattle.console.proofs.serve_line.Statement.{statement}
 use Rattle.console.proofs.serve_line.Tie as tie
@@ -29,7 +31,8 @@ add-t13 c =
     let pre = c .before .before .before .before .before .before .before .before .before .before .before .before .before .before .before .before .before .before .before .before .before .before .before .before .pre in
     let good = c .before .before .before .before .before .before .before .before .before .before .before .before .before .before .before .before .before .before .before .before .before .before .before .before .good in
     let feed = c .before .before .before .before .before .before .before .before .before .before .before .before .before .feed in
-    let u = rest-used (a .piece .now) (a .from) (feed .result .used) (pre .1) (feed .ensures .1) in omega (arith, u .1, good .0)
+    let u = rest-used (a .piece .now) (a .from) (pre .1) in
+    omega (arith, u .1, feed .ensures .1 ∙ ap fedBytes (rest-is (a .piece .now) (a .from)), good .0)
 
 same-length : tie.Need-same-length
 same-length c = search needs
@@ -48,9 +51,13 @@ returns c =
     let a = c .before .before .before .before .before .before .before .before .before .before .before .before .before .before .before .before .before .before .before .before .before .before .before .before .args in
     let pre = c .before .before .before .before .before .before .before .before .before .before .before .before .before .before .before .before .before .before .before .before .before .before .before .before .pre in
     let feed = c .before .before .before .before .before .before .before .before .before .before .before .before .before .feed in
-    let with-room = c .before .before .with-room in
-    let u = rest-used (a .piece .now) (a .from) (feed .result .used) (pre .1) (feed .ensures .1) in
-    (ready _ _ _ _ _ (feed .kept .1 .1 .0 ∙ pre .0 .line-size) (feed .ensures .6) (with-room .ensures .0) (with-room .ensures .1), u .0, u .1)
+    let with-room = c .before .before .with-room in (
+      same-session _ _ _ (with-room .ensures .0) (with-room .ensures .1)
+          ∙ feed .ensures .0
+          ∙ ap (fed (sessionIn (a .s) (a .line .now) (a .reg .now) (a .led .now))) (rest-is (a .piece .now) (a .from)),
+      ap (λ k. a .from + k) (feed .ensures .1 ∙ ap fedBytes (rest-is (a .piece .now) (a .from))),
+      ready _ _ _ _ _ (feed .kept .1 .1 .0 ∙ pre .0 .line-size) (feed .ensures .6) (with-room .ensures .0) (with-room .ensures .2),
+    )
 
 pub serve-line-spec : {M : Type 1} → statement M
 serve-line-spec =

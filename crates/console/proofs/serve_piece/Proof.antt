@@ -1,24 +1,25 @@
 -- `console::serve_piece` meets its contract. Assumes nothing.
 use borrow.Author.Needs.{needs}
-use Prim.Native.Nat.{_-_, _≤_}
+use Prim.Native.Nat.{_-_}
 use mathlib.Core.Path.{_≡_, refl, _∙_}
+use mathlib.Core.Bool.{false≢true}
 use native.Mathlib.Omega.{arith}
 use lib.ListN.{length}
-use Rattle.protocol.specs.Feeding.{Ready}
-use Rattle.console.proofs.Serving.{ready}
+use Rattle.protocol.specs.Feeding.{sessionIn, Ready}
+use Rattle.console.proofs.Serving.{ready, same-session, rest-used, Taking, takes, takes-on, all-taken}
 use Rattle.console.proofs.serve_piece.Statement.{statement}
 use Rattle.console.proofs.serve_piece.Tie as tie
 use Rattle.console.proofs.serve_line.Reads as serve-line-reads
 use Rattle.console.proofs.written.Reads as written-reads
 
 abbrev Inv-loop : tie.InvT-loop
-Inv-loop piece line₀ reg₀ led₀ out₀ s₀ from₀ line reg led out s from = (from ≤ length piece) × (length line ≡ length line₀) × (length reg ≡ length reg₀) × (length led ≡ length led₀) × (length out ≡ length out₀) × Ready s line reg led out
+Inv-loop piece line₀ reg₀ led₀ out₀ s₀ from₀ line reg led out s from = Taking piece (sessionIn s₀ line₀ reg₀ led₀) (sessionIn s line reg led) from × (length line ≡ length line₀) × (length reg ≡ length reg₀) × (length led ≡ length led₀) × (length out ≡ length out₀) × Ready s line reg led out
 
 abbrev μ-loop : tie.MeasureT-loop
 μ-loop piece line₀ reg₀ led₀ out₀ s₀ from₀ line reg led out s from = length piece - from
 
 loop-holds : tie.Need-loop-holds Inv-loop μ-loop
-loop-holds c = (omega arith, refl, refl, refl, refl, c .before .before .before .before .before .pre)
+loop-holds c = (takes _ _, refl, refl, refl, refl, c .before .before .before .before .before .pre)
 
 serve-line-requires : tie.Need-serve-line-requires Inv-loop μ-loop
 serve-line-requires c κs = (c .before .before .before .before .before .loop .inv .5, c .before .before .before .before .loop-test .taken)
@@ -48,23 +49,29 @@ same-length-4 c =
     serve-line .kept .1 .1 .1 .1 .1 .1 .0 ∙ loop .inv .4
 
 returns : tie.Need-returns Inv-loop μ-loop
-returns c = c .before .before .before .before .before .before .before .before .before .before .before .serve-line .ensures .0
+returns c =
+    let serve-line = c .before .before .before .before .before .before .before .before .before .before .before .serve-line in
+    ((λ e. absurd (false≢true e)), serve-line .ensures .2)
 
 loop-less : tie.Need-loop-less Inv-loop μ-loop
 loop-less c =
+    let a = c .before .before .before .before .before .before .before .before .before .before .before .before .before .before .before .before .before .before .before .before .before .before .before .args in
+    let loop = c .before .before .before .before .before .before .before .before .before .before .before .before .before .before .before .before .before .loop in
+    let loop-test = c .before .before .before .before .before .before .before .before .before .before .before .before .before .before .before .before .loop-test in
     let serve-line = c .before .before .before .before .before .before .before .before .before .before .before .serve-line in
-    omega (arith, serve-line .ensures .1, serve-line .ensures .2)
+    let u = rest-used (a .piece .now) (loop .from) (loop-test .taken) in omega (arith, serve-line .ensures .1, u .0, u .1)
 
 loop-again : tie.Need-loop-again Inv-loop μ-loop
 loop-again c =
     let loop = c .before .before .before .before .before .before .before .before .before .before .before .before .before .before .before .before .before .loop in
+    let loop-test = c .before .before .before .before .before .before .before .before .before .before .before .before .before .before .before .before .loop-test in
     let serve-line = c .before .before .before .before .before .before .before .before .before .before .before .serve-line in (
-      serve-line .ensures .2,
+      takes-on (loop .inv .0) (loop-test .taken) (serve-line .ensures .0) (serve-line .ensures .1),
       serve-line .kept .1 .1 .1 .0 ∙ loop .inv .1,
       serve-line .kept .1 .1 .1 .1 .0 ∙ loop .inv .2,
       serve-line .kept .1 .1 .1 .1 .1 .0 ∙ loop .inv .3,
       serve-line .kept .1 .1 .1 .1 .1 .1 .0 ∙ loop .inv .4,
-      serve-line .ensures .0,
+      serve-line .ensures .2,
     )
 
 written-requires : tie.Need-written-requires Inv-loop μ-loop
@@ -85,8 +92,10 @@ same-length-8 c = search needs
 returns-2 : tie.Need-returns-2 Inv-loop μ-loop
 returns-2 c =
     let loop = c .before .before .before .loop in
-    let written = c .written in
-    ready _ _ _ _ _ (loop .inv .5 .line-size) (loop .inv .5 .held) (written .ensures .0) (written .ensures .1)
+    let written = c .written in (
+      (λ e. same-session _ _ _ (written .ensures .0) (written .ensures .1) ∙ all-taken (loop .inv .0) (c .before .before .loop-test .left)),
+      ready _ _ _ _ _ (loop .inv .5 .line-size) (loop .inv .5 .held) (written .ensures .0) (written .ensures .2),
+    )
 
 pub serve-piece-spec : {M : Type 1} → statement M
 serve-piece-spec =
