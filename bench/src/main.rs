@@ -64,11 +64,7 @@ fn file(reg: &mut [u32], source: u32, customer: u32, list: &[u32]) -> Result<u32
             &mut out,
         )
     };
-    if r == 0 {
-        Ok(out[0])
-    } else {
-        Err(r)
-    }
+    told(r, out[0])
 }
 
 fn withdraw(reg: &mut [u32], source: u32, customer: u32) -> u32 {
@@ -78,10 +74,15 @@ fn withdraw(reg: &mut [u32], source: u32, customer: u32) -> u32 {
 fn clear(reg: &mut [u32], source: u32) -> Result<u32, u32> {
     let mut out = [0];
     let r = unsafe { aspa_clear(reg.as_mut_ptr(), reg.len(), source, &mut out) };
-    if r == 0 {
-        Ok(out[0])
+    told(r, out[0])
+}
+
+// An answer, or the refusal's number.
+fn told<T>(refusal: u32, answer: T) -> Result<T, u32> {
+    if refusal == 0 {
+        Ok(answer)
     } else {
-        Err(r)
+        Err(refusal)
     }
 }
 
@@ -99,11 +100,7 @@ fn judge(reg: &[u32], role: u32, neighbour: u32, attr: &[u8]) -> Result<[u32; 6]
             &mut gap,
         )
     };
-    if r == 0 {
-        Ok(out)
-    } else {
-        Err(r)
-    }
+    told(r, out)
 }
 
 fn keep(
@@ -130,11 +127,7 @@ fn keep(
             &mut gap,
         )
     };
-    if r == 0 {
-        Ok(out)
-    } else {
-        Err(r)
-    }
+    told(r, out)
 }
 
 fn rejudge(reg: &[u32], ledger: &mut [u32]) -> Result<u32, u32> {
@@ -148,11 +141,7 @@ fn rejudge(reg: &[u32], ledger: &mut [u32]) -> Result<u32, u32> {
             &mut out,
         )
     };
-    if r == 0 {
-        Ok(out[0])
-    } else {
-        Err(r)
-    }
+    told(r, out[0])
 }
 
 /// xorshift64*: the same numbers in every run.

@@ -1,4 +1,4 @@
-// Links libc_api.a from ASPA_FILTER_LIB_DIR, or from the repository's target/staticlib.
+// Links libc_api.a from ASPA_FILTER_LIB_DIR, or from target/staticlib of the repository that the package is in.
 use std::env;
 use std::path::PathBuf;
 
@@ -6,8 +6,12 @@ fn main() {
     let dir = env::var_os("ASPA_FILTER_LIB_DIR")
         .map(PathBuf::from)
         .unwrap_or_else(|| {
-            PathBuf::from(env::var_os("CARGO_MANIFEST_DIR").expect("cargo sets it"))
-                .join("../../target/staticlib")
+            let package = PathBuf::from(env::var_os("CARGO_MANIFEST_DIR").expect("cargo sets it"));
+            let root = package
+                .ancestors()
+                .find(|dir| dir.join("crates.txt").is_file())
+                .expect("the package is in the repository, or ASPA_FILTER_LIB_DIR is set");
+            root.join("target/staticlib")
         });
     let lib = dir.join("libc_api.a");
     assert!(

@@ -6,6 +6,7 @@
 
 use std::collections::BTreeMap;
 
+pub mod attributes;
 pub mod console;
 pub mod judge;
 pub mod random;

@@ -1,3 +1,4 @@
+use crate::attributes::{hex, segment};
 use crate::console::answer;
 use crate::judge::{self, slow, Hop};
 use crate::random::Random;
@@ -13,21 +14,6 @@ fn check(model: &mut Model, steps: &[(&str, &str)]) {
 
 fn run(steps: &[(&str, &str)]) {
     check(&mut Model::new(), steps);
-}
-
-fn hex(bytes: &[u8]) -> String {
-    if bytes.is_empty() {
-        return "-".to_string();
-    }
-    bytes.iter().map(|b| format!("{b:02x}")).collect()
-}
-
-fn segment(kind: u8, numbers: &[u32]) -> Vec<u8> {
-    let mut bytes = vec![kind, numbers.len() as u8];
-    for number in numbers {
-        bytes.extend(number.to_be_bytes());
-    }
-    bytes
 }
 
 /// One sequence, as hex.

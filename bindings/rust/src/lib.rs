@@ -243,31 +243,50 @@ fn answer(number: u32, out: [u32; 6], gap: i32) -> Result<Answer, Refusal> {
 // In each unsafe block below the pointers are those of whole slices and arrays that are borrowed for the call, shared where it reads and
 // mutably where it writes. So they are aligned, not null, of the length that is passed with them, and none that is written overlaps another.
 
-/// Provider records from up to eight sources.
-#[derive(Clone, Debug, PartialEq, Eq)]
-pub struct Register(Box<[u32]>);
+// A table of words, empty or as given.
+macro_rules! table {
+    ($(#[$about:meta])* $name:ident, $words:ident) => {
+        $(#[$about])*
+        #[derive(Clone, Debug, PartialEq, Eq)]
+        pub struct $name(Box<[u32]>);
 
-impl Default for Register {
-    fn default() -> Register {
-        Register::new()
-    }
+        impl Default for $name {
+            fn default() -> $name {
+                $name::new()
+            }
+        }
+
+        impl $name {
+            /// The empty table.
+            pub fn new() -> $name {
+                $name(vec![0; $words].into())
+            }
+
+            /// Any words. Every call tests them, and refuses a wrong length by 1 and damage by 2 in a register, by 3 in a ledger.
+            pub fn from_words(words: impl Into<Box<[u32]>>) -> $name {
+                $name(words.into())
+            }
+
+            pub fn words(&self) -> &[u32] {
+                &self.0
+            }
+        }
+    };
 }
 
+table!(
+    /// Provider records from up to eight sources.
+    Register,
+    REGISTER_WORDS
+);
+
+table!(
+    /// Kept routes with their verdicts.
+    Ledger,
+    LEDGER_WORDS
+);
+
 impl Register {
-    /// The empty register.
-    pub fn new() -> Register {
-        Register(vec![0; REGISTER_WORDS].into())
-    }
-
-    /// Any words. Every call tests them, and refuses a wrong length by 1 and damage by 2.
-    pub fn from_words(words: impl Into<Box<[u32]>>) -> Register {
-        Register(words.into())
-    }
-
-    pub fn words(&self) -> &[u32] {
-        &self.0
-    }
-
     /// Files a list of providers, strictly ascending, and replaces what this source filed for this customer before.
     pub fn file(
         &mut self,
@@ -331,31 +350,7 @@ impl Register {
     }
 }
 
-/// Kept routes with their verdicts.
-#[derive(Clone, Debug, PartialEq, Eq)]
-pub struct Ledger(Box<[u32]>);
-
-impl Default for Ledger {
-    fn default() -> Ledger {
-        Ledger::new()
-    }
-}
-
 impl Ledger {
-    /// The empty ledger.
-    pub fn new() -> Ledger {
-        Ledger(vec![0; LEDGER_WORDS].into())
-    }
-
-    /// Any words. Every call tests them, and refuses a wrong length by 1 and damage by 3.
-    pub fn from_words(words: impl Into<Box<[u32]>>) -> Ledger {
-        Ledger(words.into())
-    }
-
-    pub fn words(&self) -> &[u32] {
-        &self.0
-    }
-
     /// Judges a route as [`Register::judge`] does, and keeps it under a number that is free.
     pub fn keep(
         &mut self,

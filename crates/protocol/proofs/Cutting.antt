@@ -15,6 +15,7 @@ use Rattle.lines.proofs.Marks.{split-first, before-taken}
 use Rattle.protocol.specs.Feeding.{answerLine, mostBytes, joined, commandIn, Session, endsLine, fed, fedText, fedBytes, lastText}
 use Rattle.protocol.specs.Sessions.{grownBy, answered, answersTo, start, fedAll, fedAllText, served, joinedPieces, AnyCut}
 use Rattle.protocol.proofs.Feedings.{some-used}
+use Rattle.protocol.proofs.Joining.{joined-none, joined-some, joined-too-long}
 
 -- ---- the parts of bytes with more after them
 
@@ -52,18 +53,6 @@ module _ (mark : ℕ) where
   before-all p h = sym (before-taken mark p) ∙ take-all (length (before mark p)) p h
 
 -- ---- bytes added to a line twice
-
-joined-none : (line part : List ℕ) → mostBytes < length line + length part → joined (some line) part ≡ none
-unfolding joined
-joined-none line part h = rw (lt-ltb mostBytes (length line + length part) h) refl
-
-joined-some : (line part : List ℕ) → length line + length part ≤ mostBytes → joined (some line) part ≡ some (line ++ part)
-unfolding joined
-joined-some line part h = rw (le-ltb mostBytes (length line + length part) h) refl
-
-joined-too-long : (part : List ℕ) → joined none part ≡ none
-unfolding joined
-joined-too-long part = refl
 
 joined-append-some : (line p x : List ℕ) → joined (some (line ++ p)) x ≡ joined (some line) (p ++ x)
 unfolding joined

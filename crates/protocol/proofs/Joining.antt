@@ -1,4 +1,4 @@
--- Bytes added to a line. Assumes nothing.
+-- Lines in their buffer, bytes added to them, and their commands. Assumes nothing.
 use Prim.Native.Nat.{ℕ, _+_, _-_, _≤_, _<_}
 use mathlib.Core.Path.{_≡_, refl, sym, ap, _∙_}
 use mathlib.Core.List.{List, _++_}
@@ -19,36 +19,48 @@ pub line-is : (n : ℕ) (line : List ℕ) → n ≤ mostBytes → lineIn n line 
 unfolding lineIn
 line-is n line h = rw (le-ltb mostBytes n h) refl
 
+-- ---- bytes added to a line
+
+pub joined-none : (line part : List ℕ) → mostBytes < length line + length part → joined (some line) part ≡ none
+unfolding joined
+joined-none line part h = rw (lt-ltb mostBytes (length line + length part) h) refl
+
+pub joined-some : (line part : List ℕ) → length line + length part ≤ mostBytes → joined (some line) part ≡ some (line ++ part)
+unfolding joined
+joined-some line part h = rw (le-ltb mostBytes (length line + length part) h) refl
+
+pub joined-too-long : (part : List ℕ) → joined none part ≡ none
+unfolding joined
+joined-too-long part = refl
+
 stays : (n : ℕ) (line part : List ℕ) → mostBytes < n + length part → line ≡ lineStored n line part
 unfolding lineStored
 stays n line part h = rw (lt-ltb mostBytes (n + length part) h) refl
 
 module _ (n : ℕ) (line part : List ℕ) (size : length line ≡ mostBytes) where
   pub joins-none : length line < n → (lineIn n line ≡ joined (lineIn n line) part) × (line ≡ lineStored n line part)
-  unfolding joined
   joins-none h =
       let e : lineIn n line ≡ none = line-too-long n line (omega arith) in
-      (rw e refl, stays n line part (omega arith))
+      (rw e (sym (joined-too-long part)), stays n line part (omega arith))
 
   pub joins-too-long : n ≤ length line → length line - n < length part
       → (lineIn (length line + 1) line ≡ joined (lineIn n line) part) × (line ≡ lineStored n line part)
-  unfolding joined
   joins-too-long l h =
       let e : lineIn (length line + 1) line ≡ none = line-too-long (length line + 1) line (omega arith) in
       let f : lineIn n line ≡ some (take n line) = line-is n line (omega arith) in
       let g : mostBytes < length (take n line) + length part = omega (arith, length-take-le n line l) in
-      (rw (e, f, lt-ltb mostBytes (length (take n line) + length part) g) refl, stays n line part (omega arith))
+      (rw (e, f) (sym (joined-none (take n line) part g)), stays n line part (omega arith))
 
   pub joins : {r : ℕ} {line' : List ℕ} → n ≤ length line → length part ≤ length line - n → r ≡ n + length part → line' ≡ sets line n part
       → (lineIn r line' ≡ joined (lineIn n line) part) × (line' ≡ lineStored n line part)
-  unfolding joined lineStored
+  unfolding lineStored
   joins {r = r} {line' = line'} l h e f =
       let k : length (take n line) ≡ n = length-take-le n line l in
       let g : length (take n line) + length part ≤ mostBytes = omega arith in
       let taken : take r line' ≡ take n line ++ part =
       ap (take r) (f ∙ sets-eq part line n (omega arith)) ∙ take-at (take n line ++ part) (drop (n + length part) line) r (omega (arith, length-append (take n line) part)) in (
         line-is r line' (omega arith) ∙ ap some taken
-            ∙ sym (rw (line-is n line (omega arith), le-ltb mostBytes (length (take n line) + length part) g) refl),
+            ∙ sym (ap (λ l. joined l part) (line-is n line (omega arith)) ∙ joined-some (take n line) part g),
         f ∙ sym (rw (le-ltb mostBytes (n + length part) (omega arith)) refl),
       )
 

@@ -9,6 +9,7 @@ use borrow.Author.Tests.{le-ltb, ne-eqb, ltb-true, ltb-false}
 use lib.Dec.{ltb, eqb}
 use lib.ListN.{length, getD}
 use Rattle.text.specs.declared.Number.the-variants.{Is}
+use Rattle.text.proofs.Words.{either}
 use Rattle.text.specs.Numbers.{valueFrom, allDigits, numberFrom, numberOf, digitsBefore, decimalOf}
 
 -- `out` is n, spelt before `after`.
@@ -104,14 +105,10 @@ unfolding numberFrom
 continued n h =
     rw (all-digits n (omega arith), decimal-value n (omega arith), le-ltb 4294967295 n (omega arith)) refl
 
-both : {A : Type 0} (b : Bool) (x : A) → cond b x x ≡ x
-both true x = refl
-both false x = refl
-
 -- A word that does not begin with `0`.
 no-zero-first : (bs : List ℕ) → 0 < length bs → (getD bs 0 0 ≡ 48 → ⊥) → numberOf bs ≡ numberFrom 0 bs
 no-zero-first bs h f =
-    rw (ne-eqb (length bs) 0 (λ e. absurd (omega arith)), ne-eqb (getD bs 0 0) 48 f) (both (eqb (length bs) 1) (numberFrom 0 bs))
+    rw (ne-eqb (length bs) 0 (λ e. absurd (omega arith)), ne-eqb (getD bs 0 0) 48 f) (either (eqb (length bs) 1) (numberFrom 0 bs))
 
 zero-read : numberOf (decimalOf 0) ≡ Is 0
 unfolding numberFrom allDigits valueFrom digitsBefore

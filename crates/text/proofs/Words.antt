@@ -11,9 +11,10 @@ use lib.ListN.{length, getD, drop, set, length-set}
 use lib.Seq.{drop-cons, drop-length, sets}
 use Rattle.text.specs.Bytes.{sameBytes}
 
-either : (b : Bool) → cond b false false ≡ false
-either true = refl
-either false = refl
+-- A choice between x and x.
+pub either : {A : Type 0} (b : Bool) (x : A) → cond b x x ≡ x
+either true x = refl
+either false x = refl
 
 pub other-length : (word other : List ℕ) → (length word ≡ length other → ⊥) → false ≡ sameBytes word other
 unfolding sameBytes
@@ -21,7 +22,7 @@ other-length [] [] h = absurd (h refl)
 other-length [] (b ∷ bs) h = refl
 other-length (a ∷ xs) [] h = refl
 other-length (a ∷ xs) (b ∷ ys) h =
-    sym (ap (λ t. cond (eqb a b) t false) (sym (other-length xs ys (λ e. h (ap suc e)))) ∙ either (eqb a b))
+    sym (ap (λ t. cond (eqb a b) t false) (sym (other-length xs ys (λ e. h (ap suc e)))) ∙ either (eqb a b) false)
 
 same-first : (a b : ℕ) (xs ys : List ℕ) → a ≡ b → sameBytes (a ∷ xs) (b ∷ ys) ≡ sameBytes xs ys
 unfolding sameBytes

@@ -1,6 +1,7 @@
 //! Commands for the console: `streams SEED COUNT` writes COUNT random ones,
 //! the same for the same seed; `streams vectors` writes the fixed vectors.
 
+use reference::attributes::{hex, segment};
 use reference::console;
 use reference::random::Random;
 use reference::{AsNumber, Model, Table, GREATEST_SOURCE, LONGEST_ATTRIBUTE, MOST_BODY_WORDS};
@@ -36,21 +37,6 @@ fn usage() -> ExitCode {
 }
 
 // Attributes
-
-fn hex(bytes: &[u8]) -> String {
-    if bytes.is_empty() {
-        return "-".to_string();
-    }
-    bytes.iter().map(|b| format!("{b:02x}")).collect()
-}
-
-fn segment(kind: u8, numbers: &[u32]) -> Vec<u8> {
-    let mut bytes = vec![kind, numbers.len() as u8];
-    for number in numbers {
-        bytes.extend(number.to_be_bytes());
-    }
-    bytes
-}
 
 fn sequence(numbers: &[u32]) -> Vec<u8> {
     segment(2, numbers)
