@@ -90,16 +90,21 @@ pub fn is_ledger(ledger: &[u32]) -> bool {
 }
 
 /// A look-up: the index of the first record of a customer, or where it would stand.
-pub trait Find: Fn(&[u32], u32) -> usize {}
-impl<F: Fn(&[u32], u32) -> usize> Find for F {}
+pub trait Find {
+    fn over(reg: &[u32]) -> Self;
+    fn find(&self, reg: &[u32], customer: u32) -> usize;
+}
 
-/// By a loop that halves, as the proved library does it.
+fn customer_at(reg: &[u32], i: usize) -> u32 {
+    reg[2 + i * 4]
+}
+
+/// The place of a customer that is known to be from low to high, by a loop that halves.
 #[inline(always)]
-pub fn halving(reg: &[u32], customer: u32) -> usize {
-    let (mut low, mut high) = (0, reg[0] as usize);
+fn halve(reg: &[u32], mut low: usize, mut high: usize, customer: u32) -> usize {
     while low < high {
         let middle = low + (high - low) / 2;
-        if reg[2 + middle * 4] < customer {
+        if customer_at(reg, middle) < customer {
             low = middle + 1;
         } else {
             high = middle;
@@ -108,11 +113,126 @@ pub fn halving(reg: &[u32], customer: u32) -> usize {
     low
 }
 
-/// By the standard library, whose search has no branch to mispredict.
-#[inline(always)]
-pub fn standard(reg: &[u32], customer: u32) -> usize {
-    let (entries, _) = reg[2..2 + 4 * reg[0] as usize].as_chunks::<4>();
-    entries.partition_point(|entry| entry[0] < customer)
+pub struct Halving;
+
+impl Find for Halving {
+    fn over(_: &[u32]) -> Self {
+        Halving
+    }
+
+    #[inline(always)]
+    fn find(&self, reg: &[u32], customer: u32) -> usize {
+        halve(reg, 0, reg[0] as usize, customer)
+    }
+}
+
+/// By the standard library's `partition_point`, whose search has no branch to mispredict.
+pub struct Standard;
+
+impl Find for Standard {
+    fn over(_: &[u32]) -> Self {
+        Standard
+    }
+
+    #[inline(always)]
+    fn find(&self, reg: &[u32], customer: u32) -> usize {
+        let (entries, _) = reg[2..2 + 4 * reg[0] as usize].as_chunks::<4>();
+        entries.partition_point(|entry| entry[0] < customer)
+    }
+}
+
+const CELLS: usize = 4096;
+
+/// Customers that lie close together, dealt into cells of one width.
+#[derive(Clone, Copy)]
+struct Part {
+    base: u32,
+    exponent: u32,
+    first: usize,
+    end: usize,
+}
+
+/// By the hints of the proved library, which are believed here without a test.
+pub struct Hinted {
+    upper: u32,
+    parts: [Part; 2],
+    hints: [u16; CELLS + 2],
+}
+
+impl Hinted {
+    #[inline(always)]
+    fn cell(&self, customer: u32) -> usize {
+        let part = self.parts[(customer >= self.upper) as usize];
+        if customer < part.base {
+            part.first
+        } else {
+            part.end
+                .min(part.first + ((customer - part.base) >> part.exponent) as usize)
+        }
+    }
+}
+
+/// The records from..to of a register in the cells first..end.
+fn part(reg: &[u32], from: usize, to: usize, first: usize, end: usize) -> Part {
+    let (base, last) = if from < to {
+        (customer_at(reg, from), customer_at(reg, to - 1))
+    } else {
+        (u32::MAX, u32::MAX)
+    };
+    let cells = end - first;
+    let exponent = (0..31).find(|e| (((last - base) >> e) as usize) < cells);
+    Part {
+        base,
+        exponent: exponent.unwrap_or(31),
+        first,
+        end,
+    }
+}
+
+impl Find for Hinted {
+    fn over(reg: &[u32]) -> Self {
+        let n = reg[0] as usize;
+        let mut hinted = Hinted {
+            upper: 0,
+            parts: [part(reg, 0, 0, 0, 0); 2],
+            hints: [0; CELLS + 2],
+        };
+        // The widest gap between two customers, the first if several are as wide.
+        let (mut widest, mut m) = (0, 0);
+        for i in 1..n {
+            let gap = customer_at(reg, i) - customer_at(reg, i - 1);
+            if widest < gap {
+                (widest, m) = (gap, i);
+            }
+        }
+        if n > 0 {
+            hinted.upper = customer_at(reg, m);
+            hinted.parts = [part(reg, 0, m, 0, 4 * m), part(reg, m, n, 4 * m, CELLS)];
+        }
+        for i in 0..n {
+            let cell = hinted.cell(customer_at(reg, i));
+            hinted.hints[cell + 1] = i as u16 + 1;
+        }
+        let mut last = 0;
+        for hint in &mut hinted.hints {
+            last = last.max(*hint);
+            *hint = last;
+        }
+        hinted
+    }
+
+    #[inline(always)]
+    fn find(&self, reg: &[u32], customer: u32) -> usize {
+        let n = reg[0] as usize;
+        let cell = self.cell(customer);
+        let mut low = self.hints[cell] as usize;
+        low += (low < n && customer_at(reg, low) < customer) as usize;
+        if low < n && customer_at(reg, low) < customer {
+            halve(reg, low + 1, self.hints[cell + 1] as usize, customer)
+        } else {
+            low
+        }
+    }
 }
 
 /// The hop from x to y, over every record of x; the first stands at `place`.
@@ -133,12 +253,12 @@ fn hop(reg: &[u32], place: usize, x: u32, y: u32) -> Hop {
     seen
 }
 
-fn upstream(find: &impl Find, reg: &[u32], path: &[u32]) -> [u32; 3] {
+fn upstream(by: &impl Find, reg: &[u32], path: &[u32]) -> [u32; 3] {
     let n = path.len();
     let mut unattested = 0;
     for u in 2..=n {
         let (x, y) = (path[n + 1 - u], path[n - u]);
-        match hop(reg, find(reg, x), x, y) {
+        match hop(reg, by.find(reg, x), x, y) {
             Hop::NotProvider => return [1, u as u32, 0],
             Hop::NoAttestation if unattested == 0 => unattested = u as u32,
             _ => {}
@@ -151,10 +271,10 @@ fn upstream(find: &impl Find, reg: &[u32], path: &[u32]) -> [u32; 3] {
     }
 }
 
-fn downstream(find: &impl Find, reg: &[u32], path: &[u32]) -> [u32; 3] {
+fn downstream(by: &impl Find, reg: &[u32], path: &[u32]) -> [u32; 3] {
     let n = path.len();
     let (mut u, mut v, mut k, mut l) = (n + 1, 0, 1, 1);
-    let mut place = find(reg, path[n - 1]);
+    let mut place = by.find(reg, path[n - 1]);
     for i in 1..n {
         let (x, y) = (path[n - i], path[n - i - 1]);
         match hop(reg, place, x, y) {
@@ -162,7 +282,7 @@ fn downstream(find: &impl Find, reg: &[u32], path: &[u32]) -> [u32; 3] {
             Hop::NotProvider if u > n => u = i + 1,
             _ => {}
         }
-        place = find(reg, y);
+        place = by.find(reg, y);
         match hop(reg, place, y, x) {
             Hop::Provider => {}
             Hop::NotProvider => (v, l) = (i, i + 1),
@@ -179,7 +299,7 @@ fn downstream(find: &impl Find, reg: &[u32], path: &[u32]) -> [u32; 3] {
 }
 
 /// The refusal's number, or how many entries changed.
-pub fn rejudge(find: impl Find, reg: &[u32], ledger: &mut [u32]) -> Result<u32, u32> {
+pub fn rejudge<F: Find>(reg: &[u32], ledger: &mut [u32]) -> Result<u32, u32> {
     if reg.len() != REGISTER_WORDS || ledger.len() != LEDGER_WORDS {
         return Err(1);
     }
@@ -189,6 +309,7 @@ pub fn rejudge(find: impl Find, reg: &[u32], ledger: &mut [u32]) -> Result<u32, 
     if !is_ledger(ledger) {
         return Err(3);
     }
+    let by = F::over(reg);
     let begin = 2 + ledger[0] as usize * 9;
     let (entries, paths) = ledger.split_at_mut(begin);
     let mut changed = 0;
@@ -199,8 +320,8 @@ pub fn rejudge(find: impl Find, reg: &[u32], ledger: &mut [u32]) -> Result<u32, 
         let from = entry[7] as usize;
         let path = &paths[from..from + entry[8] as usize];
         let now = match entry[1] {
-            3 | 6 => downstream(&find, reg, path),
-            _ => upstream(&find, reg, path),
+            3 | 6 => downstream(&by, reg, path),
+            _ => upstream(&by, reg, path),
         };
         if entry[4..7] != now {
             entry[4..7].copy_from_slice(&now);

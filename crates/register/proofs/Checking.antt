@@ -1,22 +1,26 @@
 -- The check of a register's records: each turn of the loop over them and each way out, and the tests of the whole register. Assumes nothing.
 use Prim.Native.Nat.{ℕ, _+_, _-_, _*_, _≤_, _<_}
 use mathlib.Core.Path.{_≡_, refl, sym, _∙_, ap}
-use mathlib.Core.Bool.{Bool, true, false, _&&_}
+use mathlib.Core.Bool.{Bool, true, false, not, _&&_, _||_, and-true}
 use mathlib.Core.List.{List, [], _∷_}
 use native.Mathlib.Omega.{arith}
 use native.Mathlib.Numerals.{add-one}
-use borrow.Author.Tests.{le-leb, lt-leb, leb-true}
-use lib.Dec.{leb}
+use borrow.Author.Tests.{le-leb, lt-leb, leb-true, ltb-true, ltb-false, eqb-true}
+use lib.Dec.{leb, ltb, eqb}
 use lib.ListN.{length, getD, take, drop, drop-of-length-le}
 use lib.Seq.{drop-cons}
 use Rattle.table.specs.Table.{Sound, wellFormed}
+use Rattle.table.proofs.Sounds.{body-is}
 use Rattle.table.proofs.Exact.{passes-sound}
 use Rattle.keyed.specs.Keyed.{samePair, beforePair, ascends, ascendsFrom, every}
-use Rattle.keyed.proofs.Orders.{both-left, before-test, first}
+use Rattle.keyed.proofs.Orders.{both-left, above-zero, before-test, first}
 use Rattle.verdict.specs.Records.{Record}
-use Rattle.register.specs.Register.{mostRecords, mostBodyWords, lastSource, recordsOf, recordAt, keyOf, listed}
-use Rattle.register.specs.Register.{listOk, recordOk, roomFor, recordsOk, registerOk}
-use Rattle.register.proofs.Entries.{record-count, list-count, row-within, customer-is, source-is, length-is, list-is, list-within, listed-next}
+use Rattle.register.specs.Register.{mostRecords, mostBodyWords, mostProviders, lastSource, recordsOf, recordAt, keyOf, listed}
+use Rattle.register.specs.Register.{rises, listOk, recordOk, roomFor, recordsOk, registerOk}
+use Rattle.register.specs.Helpers.{descentsIn}
+use Rattle.register.proofs.Entries.{length-records, record-count, list-count, row-within, customer-is, source-is, length-is, list-is, list-within}
+use Rattle.register.proofs.Entries.{listed-next, listed-take}
+use Rattle.register.proofs.Descending.{fall, fall-small, join-first, join-next, counts-add}
 
 -- Each record's own rules, and their order.
 abbrev pub rules : List Record → Bool
@@ -43,43 +47,114 @@ rules-first (r ∷ rs) = go (recordOk r) refl
     go false e = refl
     go true e = rw (behind-none r e)
 
--- The tests of a record, of its place and of what is behind it, in the order of the code.
-regroup : (a b c d e f : Bool) → (((a && (b && c)) && d) && (e && f)) ≡ (a && (b && (e && (c && (d && f)))))
-regroup false b c d e f = refl
-regroup true false c d e f = refl
-regroup true true false d true f = refl
-regroup true true false d false f = refl
-regroup true true true d true f = refl
-regroup true true true true false f = refl
-regroup true true true false false f = refl
+-- The code's test of a record by itself: it breaks a rule.
+abbrev pub broken : ℕ → ℕ → ℕ → Bool
+broken customer source count = eqb customer 0 || (ltb lastSource source || (ltb count 1 || ltb mostProviders count))
+
+-- At most is not above.
+at-most : (a b : ℕ) → leb a b ≡ not (ltb b a)
+at-most a b = go (ltb b a) refl
+  where
+    go : (t : Bool) → ltb b a ≡ t → leb a b ≡ not t
+    go true e = lt-leb a b (ltb-true b a e)
+    go false e = le-leb a b (ltb-false b a e)
+
+-- At least 1 is not 0.
+at-least-one : (a : ℕ) → leb 1 a ≡ not (eqb a 0)
+at-least-one a = go (eqb a 0) refl
+  where
+    go : (t : Bool) → eqb a 0 ≡ t → leb 1 a ≡ not t
+    go true e = lt-leb 1 a (omega (arith, eqb-true a 0 e))
+    go false e = above-zero a e
+
+-- Four tests that fail, and a fifth.
+all-fail : (a b c d e : Bool) → (not a && (not b && (not c && (not d && e)))) ≡ (not (a || (b || (c || d))) && e)
+all-fail true b c d e = refl
+all-fail false true c d e = refl
+all-fail false false true d e = refl
+all-fail false false false true e = refl
+all-fail false false false false e = refl
+
+-- The third of four tests that fail.
+third-fails : (a b c d : Bool) → (a || (b || (c || d))) ≡ false → c ≡ false
+third-fails true b c d e = cc
+third-fails false true c d e = cc
+third-fails false false true d e = e
+third-fails false false false d e = refl
+
+-- A record's rules: it passes the code's test, and its list ascends.
+rules-are : (r : Record) → recordOk r ≡ (not (broken (r .customer) (r .source) (length (r .providers))) && rises (r .providers))
+unfolding recordOk listOk
+rules-are r =
+    let n = length (r .providers) in
+    rw (at-least-one (r .customer), at-most (r .source) lastSource, at-most 1 n, at-most n mostProviders)
+    (all-fail (eqb (r .customer) 0) (ltb lastSource (r .source)) (ltb n 1) (ltb mostProviders n) (rises (r .providers)))
+
+-- The tests of a record and of its place come first; its list, and what else is to be found, last.
+regroup : (a b c d e x : Bool) → ((((a && b) && c) && (d && e)) && x) ≡ (a && (d && ((c && e) && (b && x))))
+regroup false b c d e x = refl
+regroup true true true true e x = refl
+regroup true true true false e x = refl
+regroup true true false true e x = refl
+regroup true true false false e x = refl
+regroup true false c false e x = refl
+regroup true false false true e x = refl
+regroup true false true true true x = refl
+regroup true false true true false x = refl
 
 -- One record more.
-rules-step : (k l : ℕ) (r : Record) (rs : List Record)
-    → rulesFrom k l (r ∷ rs)
-    ≡ (leb 1 (r .customer) && (leb (r .source) lastSource
-    && (beforePair (k, l) (keyOf r) && (listOk (r .providers) && rulesFrom (r .customer) (r .source) rs))))
-unfolding every ascendsFrom recordOk
-rules-step k l r rs =
-    regroup (leb 1 (r .customer)) (leb (r .source) lastSource) (listOk (r .providers)) (every recordOk rs) (beforePair (k, l) (keyOf r))
-    (ascendsFrom keyOf samePair beforePair (keyOf r) rs)
+rules-step : (k l : ℕ) (r : Record) (rs : List Record) (x : Bool)
+    → (rulesFrom k l (r ∷ rs) && x)
+    ≡ (not (broken (r .customer) (r .source) (length (r .providers)))
+    && (beforePair (k, l) (keyOf r) && (rulesFrom (r .customer) (r .source) rs && (rises (r .providers) && x))))
+unfolding every ascendsFrom
+rules-step k l r rs x =
+    rw (rules-are r)
+    (regroup (not (broken (r .customer) (r .source) (length (r .providers)))) (rises (r .providers)) (every recordOk rs) (beforePair (k, l) (keyOf r))
+    (ascendsFrom keyOf samePair beforePair (keyOf r) rs) x)
 
--- The loop over the records: the rules of those that are left are what is left to find.
-pub record Checked (ws : List ℕ) (n customer source from i : ℕ) : Type 0 where
+-- The numbers in the lists that end at from.
+abbrev pub passed : List ℕ → ℕ → ℕ → List ℕ
+passed ws n from = take (from - (2 + n * 4)) (drop (2 + n * 4) ws)
+
+-- The loop over the records: the rules of those that are left are what is left to find, and that numbers descended only between lists.
+pub record Checked (ws : List ℕ) (n customer source between from i : ℕ) : Type 0 where
   pub sound : Sound 2 0 ws
   pub count : n ≡ length (recordsOf ws)
   pub within : i ≤ n
   pub start : from ≡ 2 + n * 4 + listed (take i (recordsOf ws))
-  pub same : rulesFrom customer source (drop i (recordsOf ws)) ≡ rules (recordsOf ws)
+  pub few : between ≤ i
+  pub over : between ≤ descentsIn (passed ws n from)
+  pub same : (rulesFrom customer source (drop i (recordsOf ws)) && eqb (descentsIn (passed ws n from)) between) ≡ rules (recordsOf ws)
 
 -- The loop starts at (0, 0), before the first record.
-pub checks : {ws : List ℕ} {n : ℕ} → Sound 2 0 ws → n ≡ getD ws 0 0 → Checked ws n 0 0 (2 + n * 4) 0
-unfolding listed
-checks {ws} s e =
-    record { sound = s; count = e ∙ record-count ws s; within = omega arith; start = omega arith; same = rules-first (recordsOf ws) }
+pub checks : {ws : List ℕ} {n : ℕ} → Sound 2 0 ws → n ≡ getD ws 0 0 → Checked ws n 0 0 0 (2 + n * 4) 0
+unfolding listed descentsIn
+checks {ws} {n} s e =
+    let z : 2 + n * 4 - (2 + n * 4) ≡ 0 = omega arith in
+    record {
+      sound = s;
+      count = e ∙ record-count ws s;
+      within = omega arith;
+      start = omega arith;
+      few = omega arith;
+      over = omega arith;
+      same = rw z (and-true _ ∙ rules-first (recordsOf ws));
+    }
 
-module _ {ws : List ℕ} {n customer source from i : ℕ} (g : Checked ws n customer source from i) where
+module _ {ws : List ℕ} {n customer source between from i : ℕ} (g : Checked ws n customer source between from i) where
+  -- The lists passed hold no more numbers than word 1 says.
+  pub lists-few : from - (2 + n * 4) ≤ getD ws 1 0
+  lists-few = omega (arith, listed-take (recordsOf ws) i, list-count ws (g .sound))
+
+  -- They end within the words.
+  pub lists-inside : from ≤ length ws
+  lists-inside =
+      let s = g .sound in
+      omega (arith, s .fits, body-is 2 0 ws s, length-records ws s, lists-few)
+
   -- No record is left.
-  pub all-checked : n ≤ i → true ≡ rules (recordsOf ws)
+  pub all-checked : n ≤ i → eqb (descentsIn (passed ws n from)) between ≡ rules (recordsOf ws)
   unfolding every ascendsFrom
   all-checked h =
       let z : length (recordsOf ws) ≤ i = omega (arith, g .count) in
@@ -111,59 +186,68 @@ module _ {ws : List ℕ} {n customer source from i : ℕ} (g : Checked ws n cust
       pub list-inside : from + m ≤ length ws
       list-inside = omega (arith, g .start, g .count, count-is, list-within ws (g .sound) i inside)
 
-      -- The words that are handed on as its list.
-      abbrev part : List ℕ
-      part = take (from + m - from) (drop from ws)
+      -- Its list, as the part of the words that it is.
+      part-is : recordAt (recordsOf ws) i .providers ≡ take m (drop from ws)
+      part-is = sym (rw (count-is, g .start, g .count) (list-is ws (g .sound) i inside))
 
-      -- They are its list.
-      part-is : recordAt (recordsOf ws) i .providers ≡ part
-      part-is =
-          let z : from + m - from ≡ m = omega arith in
-          sym (rw (z, count-is, g .start, g .count) (list-is ws (g .sound) i inside))
-
-      -- The tests of record i, on the words, and the rules of those behind it.
+      -- The tests of record i, on the words, and what is left to find behind it.
       opened :
-          (leb 1 cust && (leb src lastSource
-          && (beforePair (customer, source) (cust, src) && (listOk part && rulesFrom cust src (drop (i + 1) (recordsOf ws))))))
+          (not (broken cust src m)
+          && (beforePair (customer, source) (cust, src)
+          && (rulesFrom cust src (drop (i + 1) (recordsOf ws)) && (rises (take m (drop from ws)) && eqb (descentsIn (passed ws n from)) between))))
           ≡ rules (recordsOf ws)
       opened =
-          rw (add-one i, customer-is ws (g .sound) i inside, source-is ws (g .sound) i inside, ← part-is)
-          (sym (rules-step customer source (recordAt (recordsOf ws) i) _)
-          ∙ ap (rulesFrom customer source) (sym (drop-cons (recordsOf ws) i _ inside)) ∙ g .same)
+          rw (add-one i, customer-is ws (g .sound) i inside, source-is ws (g .sound) i inside, ← part-is, count-is)
+          (sym (rules-step customer source (recordAt (recordsOf ws) i) _ _)
+          ∙ ap (λ rs. rulesFrom customer source rs && eqb (descentsIn (passed ws n from)) between) (sym (drop-cons (recordsOf ws) i _ inside))
+          ∙ g .same)
 
-      -- The customer is 0: the first way out.
-      pub no-customer : cust ≡ 0 → false ≡ rules (recordsOf ws)
-      no-customer k = let z : cust < 1 = omega arith in rw (lt-leb 1 cust z) at opened
+      -- The record breaks a rule of its own: the first way out.
+      pub no-record : broken cust src m ≡ true → false ≡ rules (recordsOf ws)
+      no-record k = rw k at opened
 
-      module _ (k : cust ≡ 0 → ⊥) where
-        -- The customer passes.
-        positive : leb 1 cust ≡ true
-        positive = le-leb 1 cust (omega arith)
+      module _ (k : broken cust src m ≡ false) where
+        -- The list has a number.
+        not-empty : 1 ≤ m
+        not-empty = ltb-false m 1 (third-fails (eqb cust 0) (ltb lastSource src) (ltb m 1) (ltb mostProviders m) k)
 
-        -- The source is past the last one.
-        pub no-source : lastSource < src → false ≡ rules (recordsOf ws)
-        no-source p = rw (positive, lt-leb src lastSource p) at opened
+        -- Its first number lies within the words.
+        pub first-inside : from < length ws
+        first-inside = omega (arith, not-empty, list-inside)
 
-        module _ (p : src ≤ lastSource) where
-          -- The record does not stand behind the one before it.
-          pub no-order : beforePair (customer, source) (cust, src) ≡ false → false ≡ rules (recordsOf ws)
-          no-order q = rw (positive, le-leb src lastSource p, q) at opened
+        -- The record does not stand behind the one before it.
+        pub no-order : beforePair (customer, source) (cust, src) ≡ false → false ≡ rules (recordsOf ws)
+        no-order q = rw (k, q) at opened
 
-          module _ (q : beforePair (customer, source) (cust, src) ≡ true) where
-            -- The list may not be filed.
-            pub no-list : listOk part ≡ false → false ≡ rules (recordsOf ws)
-            no-list r = rw (positive, le-leb src lastSource p, q, r) at opened
+        module _ (q : beforePair (customer, source) (cust, src) ≡ true) {now : ℕ} where
+          -- One record more, whose list begins with f descents.
+          checks-on : (f : ℕ) → f ≤ 1 → now ≡ between + f
+              → descentsIn (passed ws n (from + m)) ≡ descentsIn (passed ws n from) + f + descentsIn (take m (drop from ws))
+              → Checked ws n cust src now (from + m) (i + 1)
+          checks-on f t p r =
+              record {
+                sound = g .sound;
+                count = g .count;
+                within = omega arith;
+                start = rw (add-one i) (omega (arith, g .start, count-is, listed-next (recordsOf ws) i inside));
+                few = omega arith;
+                over = omega arith;
+                same = rw (r, p, counts-add (descentsIn (passed ws n from)) between f (take m (drop from ws)) (g .over)) (rw (k, q) at opened);
+              }
 
-            -- One record more.
-            pub checks-on : listOk part ≡ true → Checked ws n cust src (from + m) (i + 1)
-            checks-on r =
-                record {
-                  sound = g .sound;
-                  count = g .count;
-                  within = omega arith;
-                  start = rw (add-one i) (omega (arith, g .start, count-is, listed-next (recordsOf ws) i inside));
-                  same = rw (positive, le-leb src lastSource p, q, r) at opened;
-                }
+          -- A record with no list before it.
+          pub checks-first : from ≤ 2 + n * 4 → now ≡ between → Checked ws n cust src now (from + m) (i + 1)
+          checks-first p t =
+              checks-on 0 (omega arith) (omega arith) (join-first ws (2 + n * 4) from m (omega arith) p)
+
+          -- A record with lists before it.
+          pub checks-next : 2 + n * 4 < from → now ≡ between + fall (getD ws (from - 1) 0) (getD ws from 0)
+              → Checked ws n cust src now (from + m) (i + 1)
+          checks-next p t =
+              let x = getD ws (from - 1) 0 in
+              let y = getD ws from 0 in
+              checks-on (fall x y) (fall-small x y) t
+              (join-next ws (2 + n * 4) from m (omega arith) p not-empty list-inside)
 
 -- ---- the whole register
 

@@ -1,8 +1,8 @@
 -- What a well-formed register shows. Assumes nothing.
-use Prim.Native.Nat.{ℕ, _≤_, _<_}
+use Prim.Native.Nat.{ℕ, _≤_}
 use mathlib.Core.Path.{_≡_}
 use mathlib.Core.Bool.{true}
-use mathlib.Core.List.{List, [], map}
+use mathlib.Core.List.{List, map}
 use lib.Dec.{leb}
 use borrow.Author.Tests.{leb-true}
 use lib.ListN.{length}
@@ -10,9 +10,8 @@ use Rattle.table.specs.Table.{Sound, wellFormed}
 use Rattle.table.proofs.Exact.{passes-sound, encode-passes}
 use Rattle.keyed.specs.Keyed.{samePair, beforePair, ascends, every}
 use Rattle.keyed.proofs.Orders.{both-left, both-right, both-intro}
-use Rattle.keyed.proofs.Finds.{every-at}
 use Rattle.verdict.specs.Records.{Record}
-use Rattle.register.specs.Register.{registerWords, mostRecords, mostBodyWords, mostProviders, lastSource, recordAt, rises, listOk, recordsOf, wordsOf, entryOf, keyOf, listed, recordOk, roomFor, recordsOk, registerOk}
+use Rattle.register.specs.Register.{registerWords, mostRecords, mostBodyWords, recordsOf, wordsOf, entryOf, keyOf, listed, recordOk, roomFor, recordsOk, registerOk}
 use Rattle.register.proofs.Entries.{entries-wide, records-fit, records-of-words}
 
 module _ (rs : List Record) where
@@ -60,12 +59,3 @@ module _ (ws : List ℕ) (e : registerOk ws ≡ true) where
 
   pub ordered : ascends keyOf samePair beforePair (recordsOf ws) ≡ true
   ordered = in-order (recordsOf ws) records-ok
-
--- The lists of a register ascend.
-pub providers-rise : (ws : List ℕ) → registerOk ws ≡ true → (i : ℕ) → i < length (recordsOf ws) → rises (recordAt (recordsOf ws) i .providers) ≡ true
-unfolding recordOk listOk
-providers-rise ws e i h =
-    let r = recordAt (recordsOf ws) i in
-    let a = every-at recordOk (recordsOf ws) (recordAt [] 0) (each-ok (recordsOf ws) (records-ok ws e)) i h in
-    let b = both-right (leb (r .source) lastSource) _ (both-right (leb 1 (r .customer)) _ a) in
-    both-right (leb (length (r .providers)) mostProviders) _ (both-right (leb 1 (length (r .providers))) _ b)

@@ -1,5 +1,5 @@
 -- Look-up by customer and source: the binary search, and whether the record is there. Assumes nothing.
-use Prim.Native.Nat.{ℕ, _+_, _-_, _*_, _/_, _≤_, _<_}
+use Prim.Native.Nat.{ℕ, _+_, _*_, _≤_, _<_}
 use mathlib.Core.Path.{_≡_, sym, _∙_}
 use mathlib.Core.Bool.{true, false, _&&_}
 use mathlib.Core.List.{List}
@@ -13,6 +13,7 @@ use Rattle.keyed.proofs.Orders.{ordered-pairs, same-flip}
 use Rattle.keyed.proofs.Ranks.{rank-within, rank-below, rank-above, rank-over, rank-under, holds-not-end, holds-is}
 use Rattle.verdict.specs.Records.{Record}
 use Rattle.register.specs.Register.{mostRecords, recordsOf, recordAt, keyOf, placeOf, registerOk}
+use Rattle.register.specs.Helpers.{Within}
 use Rattle.register.specs.Calls.{holdsRecord}
 use Rattle.register.proofs.Entries.{record-count, customer-is, source-is, row-within}
 use Rattle.register.proofs.Holding.{sound, records-ok, ordered, has-room, room-records}
@@ -101,43 +102,25 @@ module _ (ws : List ℕ) (e : registerOk ws ≡ true) where
 
 -- ---- the search
 
--- The place looked for is between low and high.
-pub record Between (ws : List ℕ) (c s low high : ℕ) : Type 0 where
-  pub ok : registerOk ws ≡ true
-  pub over : low ≤ placeOf c s (recordsOf ws)
-  pub under : placeOf c s (recordsOf ws) ≤ high
-  pub within : high ≤ length (recordsOf ws)
-  pub small : length (recordsOf ws) ≤ mostRecords
-
--- Before the first turn it is between 0 and the number of records.
-pub starts : (ws : List ℕ) (c s n : ℕ) → registerOk ws ≡ true → n ≡ getD ws 0 0 → Between ws c s 0 n
+-- A pair's place is one of 0 to the number of records.
+pub starts : (ws : List ℕ) (c s n : ℕ) → registerOk ws ≡ true → n ≡ getD ws 0 0 → Within ws c s 0 n
 starts ws c s n e p =
     record {
       ok = e;
       over = omega arith;
       under = omega (arith, place-within (recordsOf ws) (ordered ws e) c s, count-is ws e);
-      within = omega (arith, count-is ws e);
-      small = few ws e;
+      inside = omega (arith, count-is ws e);
     }
 
-module _ {ws : List ℕ} {c s low high : ℕ} (b : Between ws c s low high) where
-  -- The row in the middle is within the words.
-  pub middle-in : low < high → 2 + (low + (high - low) / 2) * 4 + 4 ≤ length ws
-  middle-in h = row-in ws (b .ok) (low + (high - low) / 2) (omega arith)
+module _ {ws : List ℕ} {c s low high : ℕ} (w : Within ws c s low high) (m : ℕ) (h : m < high) where
+  -- Record m stands before the pair: the place is behind it.
+  pub goes-up : true ≡ beforePair (keyOf (recordAt (recordsOf ws) m)) (c, s) → Within ws c s (m + 1) high
+  goes-up t =
+      let x = place-over (recordsOf ws) (ordered ws (w .ok)) c s m (omega (arith, w .inside)) (sym t) in
+      record { ok = w .ok; over = omega arith; under = w .under; inside = w .inside }
 
-  module _ (m : ℕ) (l : low ≤ m) (h : m < high) where
-    -- The key words of row m are the record's key.
-    key-of : beforePair (getD ws (2 + m * 4) 0, getD ws (2 + m * 4 + 1) 0) (c, s) ≡ beforePair (keyOf (recordAt (recordsOf ws) m)) (c, s)
-    key-of = λ q. beforePair (key-is ws (b .ok) m (omega arith) q) (c, s)
-
-    -- Record m stands before the pair: the place is behind it.
-    pub turns-up : true ≡ beforePair (getD ws (2 + m * 4) 0, getD ws (2 + m * 4 + 1) 0) (c, s) → Between ws c s (m + 1) high
-    turns-up t =
-        let x = place-over (recordsOf ws) (ordered ws (b .ok)) c s m (omega arith) (sym (t ∙ key-of)) in
-        record { ok = b .ok; over = omega arith; under = b .under; within = b .within; small = b .small }
-
-    -- It does not: the place is not behind it.
-    pub turns-down : false ≡ beforePair (getD ws (2 + m * 4) 0, getD ws (2 + m * 4 + 1) 0) (c, s) → Between ws c s low m
-    turns-down t =
-        let x = place-under (recordsOf ws) (ordered ws (b .ok)) c s m (sym (t ∙ key-of)) in
-        record { ok = b .ok; over = b .over; under = x; within = omega arith; small = b .small }
+  -- It does not: the place is not behind it.
+  pub goes-down : false ≡ beforePair (keyOf (recordAt (recordsOf ws) m)) (c, s) → Within ws c s low m
+  goes-down t =
+      let x = place-under (recordsOf ws) (ordered ws (w .ok)) c s m (sym t) in
+      record { ok = w .ok; over = w .over; under = x; inside = omega (arith, w .inside) }

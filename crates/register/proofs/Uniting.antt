@@ -1,33 +1,46 @@
--- The hop over the records is the hop over their union: what a customer's united lists hold, and who is attested, by the records' indices. Assumes nothing.
+-- A number sought in a list, and the hop by a customer's united lists, from an index of the records on. Assumes nothing.
 use Prim.Native.Nat.{ℕ, zero, suc, _+_, _≤_, _<_}
-use mathlib.Core.Path.{_≡_, refl, sym, _∙_}
-use mathlib.Core.Bool.{Bool, true, false, cond, _||_}
+use mathlib.Core.Path.{_≡_, refl, sym, _∙_, ap}
+use mathlib.Core.Bool.{Bool, true, false, cond, _||_, or-true, or-false}
 use mathlib.Core.List.{List, [], _∷_, _++_}
 use native.Mathlib.Numerals.{add-one}
 use native.Mathlib.Omega.{arith}
-use borrow.Author.Tests.{eqb-true, eq-eqb, ne-eqb}
+use borrow.Author.Tests.{eq-eqb, ne-eqb}
 use lib.Dec.{eqb}
 use lib.ListN.{length, getD, drop, drop-of-length-le}
-use lib.Seq.{drop-cons}
-use Rattle.verdict.specs.Records.{Record, isIn, attested, united}
+use lib.Seq.{drop-cons, drop-nil}
+use Rattle.types.specs.declared.Hop.the-variants.{NoAttestation, ProviderPlus, NotProviderPlus}
+use Rattle.verdict.specs.Records.{Record, isIn, attested, united, hopOf}
 use Rattle.register.specs.Register.{recordAt}
 
 -- ---- lists of numbers
 
--- A number that stands at an index is in from there on.
-pub found : (y : ℕ) (l : List ℕ) (i : ℕ) → i < length l → getD l i 0 ≡ y → isIn y (drop i l) ≡ true
-unfolding isIn
-found y l i h e = rw (drop-cons l i 0 h, eq-eqb (getD l i 0) y e)
+-- The flag and the list from i on say whether y is in the list.
+pub record Seeking (y : ℕ) (l : List ℕ) (has : Bool) (i : ℕ) : Type 0 where
+  pub says : (has || isIn y (drop i l)) ≡ isIn y l
 
--- A number that does not stand at an index is in from there on if and only if it is in behind it.
-pub passed : (y : ℕ) (l : List ℕ) (i : ℕ) → i < length l → (getD l i 0 ≡ y → ⊥) → isIn y (drop (i + 1) l) ≡ isIn y (drop i l)
-unfolding isIn
-passed y l i h e = rw (add-one, drop-cons l i 0 h, ne-eqb (getD l i 0) y e)
+module _ {y : ℕ} {l : List ℕ} {has : Bool} {i : ℕ} (s : Seeking y l has i) where
+  module _ (h : i < length l) {next : Bool} where
+    -- It stands at i: the flag is raised.
+    pub raised : getD l i 0 ≡ y → next ≡ true → Seeking y l next (i + 1)
+    unfolding isIn
+    raised e f = record { says = rw f (sym (or-true has) ∙ ap (λ b. has || b) here ∙ s .says) }
+      where
+        here : true ≡ isIn y (drop i l)
+        here = rw (drop-cons l i 0 h, eq-eqb (getD l i 0) y e)
 
--- From the end on nothing is in.
-pub ended : (y : ℕ) (l : List ℕ) (i : ℕ) → length l ≤ i → isIn y (drop i l) ≡ false
-unfolding isIn
-ended y l i h = rw (drop-of-length-le l h)
+    -- It does not: the flag stays.
+    pub stays : (getD l i 0 ≡ y → ⊥) → next ≡ has → Seeking y l next (i + 1)
+    unfolding isIn
+    stays e f = record { says = rw f (ap (λ b. has || b) behind ∙ s .says) }
+      where
+        behind : isIn y (drop (i + 1) l) ≡ isIn y (drop i l)
+        behind = rw (add-one, drop-cons l i 0 h, ne-eqb (getD l i 0) y e)
+
+  -- The list is through.
+  pub ended : length l ≤ i → has ≡ isIn y l
+  unfolding isIn
+  ended h = sym (or-false has) ∙ ap (λ k. has || isIn y k) (sym (drop-of-length-le l h)) ∙ s .says
 
 -- A number is in two lists together if and only if it is in one of them.
 pub in-append : (y : ℕ) (k l : List ℕ) → isIn y (k ++ l) ≡ (isIn y k || isIn y l)
@@ -41,67 +54,62 @@ in-append y (x ∷ k) l = go (eqb x y) (in-append y k l)
 
 -- ---- records
 
--- Of two tests the second holds, so one of them does.
-either-right : (a b : Bool) → b ≡ true → (a || b) ≡ true
-either-right true b h = refl
-either-right false b h = h
+-- What records tell of a customer: whether it is attested, and its lists, united.
+abbrev pub told : ℕ → List Record → Bool × List ℕ
+told x rs = (attested rs x, united rs x)
 
--- A customer that a record has is attested.
-pub attests : (rs : List Record) (x i : ℕ) → i < length rs → recordAt rs i .customer ≡ x → attested rs x ≡ true
-unfolding attested
-attests [] x i h e = absurd (omega arith)
-attests (r ∷ rs) x zero h e = rw (eq-eqb (r .customer) x e)
-attests (r ∷ rs) x (suc i) h e = either-right (eqb (r .customer) x) (attested rs x) (attests rs x i (omega arith) e)
+module _ (x : ℕ) where
+  -- Another's record tells nothing.
+  other : (r : Record) (rs : List Record) → (r .customer ≡ x → ⊥) → told x (r ∷ rs) ≡ told x rs
+  unfolding attested united
+  other r rs n = rw (ne-eqb (r .customer) x n)
 
--- A customer that no record has is not attested.
-pub none-attests : (rs : List Record) (x : ℕ) → ((i : ℕ) → i < length rs → recordAt rs i .customer ≡ x → ⊥) → attested rs x ≡ false
-unfolding attested
-none-attests [] x h = refl
-none-attests (r ∷ rs) x h = rw (ne-eqb (r .customer) x (h 0 (omega arith))) (none-attests rs x (λ i l. h (suc i) (omega arith)))
+  -- Nor do records from i to k of which none is x's.
+  pub skips : (rs : List Record) (i k : ℕ) → i ≤ k → k ≤ length rs → ((j : ℕ) → i ≤ j → j < k → recordAt rs j .customer ≡ x → ⊥)
+      → told x (drop i rs) ≡ told x (drop k rs)
+  skips [] i k l m n = rw (drop-nil i, drop-nil k)
+  skips (r ∷ rs) zero zero l m n = refl
+  skips (r ∷ rs) zero (suc k) l m n =
+      other r rs (n 0 (omega arith) (omega arith)) ∙ skips rs 0 k (omega arith) (omega arith) (λ j s t. n (suc j) (omega arith) (omega arith))
+  skips (r ∷ rs) (suc i) zero l m n = absurd (omega arith)
+  skips (r ∷ rs) (suc i) (suc k) l m n = skips rs i k (omega arith) (omega arith) (λ j s t. n (suc j) (omega arith) (omega arith))
 
--- A number in the list of one of a customer's records is in the customer's united lists.
-pub listed-united : (rs : List Record) (x y i : ℕ) → i < length rs → recordAt rs i .customer ≡ x → isIn y (recordAt rs i .providers) ≡ true
-    → isIn y (united rs x) ≡ true
-unfolding united
-listed-united [] x y i h e t = absurd (omega arith)
-listed-united (r ∷ rs) x y zero h e t = rw (eq-eqb (r .customer) x e, in-append y (r .providers) (united rs x), t)
-listed-united (r ∷ rs) x y (suc i) h e t = go (eqb (r .customer) x) (listed-united rs x y i (omega arith) e t)
-  where
-    go : (b : Bool) → isIn y (united rs x) ≡ true → isIn y (cond b (r .providers ++ united rs x) (united rs x)) ≡ true
-    go true ih = in-append y (r .providers) (united rs x) ∙ either-right (isIn y (r .providers)) (isIn y (united rs x)) ih
-    go false ih = ih
+  -- Past the last record x is not attested.
+  pub past-all : (rs : List Record) (i : ℕ) → length rs ≤ i → attested (drop i rs) x ≡ false
+  unfolding attested
+  past-all rs i h = rw (drop-of-length-le rs h)
 
--- A record of a customer, whose list holds a number.
-pub record Lists (rs : List Record) (x y : ℕ) : Type 0 where
-  pub at : ℕ
-  pub within : at < length rs
-  pub owner : recordAt rs at .customer ≡ x
-  pub inside : isIn y (recordAt rs at .providers) ≡ true
+  module _ (rs : List Record) (i : ℕ) (h : i < length rs) (e : recordAt rs i .customer ≡ x) where
+    -- Record i is x's, so x is attested.
+    pub attests : attested (drop i rs) x ≡ true
+    unfolding attested
+    attests = rw (drop-cons rs i (recordAt [] 0) h, eq-eqb (recordAt rs i .customer) x e)
 
--- One record further on.
-further : (r : Record) (rs : List Record) (x y : ℕ) → Lists rs x y → Lists (r ∷ rs) x y
-further r rs x y l = record { at = suc (l .at); within = omega arith; owner = l .owner; inside = l .inside }
+    -- Its list is united with those behind it.
+    pub unites : (y : ℕ) → isIn y (united (drop i rs) x) ≡ (isIn y (recordAt rs i .providers) || isIn y (united (drop (i + 1) rs) x))
+    unfolding united
+    unites y =
+        rw (add-one, drop-cons rs i (recordAt [] 0) h, eq-eqb (recordAt rs i .customer) x e)
+        (in-append y (recordAt rs i .providers) (united (drop (suc i) rs) x))
 
--- A number in a customer's united lists is in the list of one of its records.
-pub united-listed : (rs : List Record) (x y : ℕ) → isIn y (united rs x) ≡ true → Lists rs x y
-unfolding united isIn
-united-listed [] x y h = absurd (let z : _≡_ {A = ℕ} 0 1 = cc in omega arith)
-united-listed (r ∷ rs) x y h = go (eqb (r .customer) x) refl h (united-listed rs x y)
-  where
-    here : eqb (r .customer) x ≡ true → (b : Bool) → isIn y (r .providers) ≡ b → (b || isIn y (united rs x)) ≡ true
-        → (isIn y (united rs x) ≡ true → Lists rs x y) → Lists (r ∷ rs) x y
-    here p true q g ih = record { at = 0; within = omega arith; owner = eqb-true (r .customer) x p; inside = q }
-    here p false q g ih = further r rs x y (ih g)
+  -- Where x is not attested, its union is empty.
+  pub none-united : (rs : List Record) → attested rs x ≡ false → united rs x ≡ []
+  unfolding attested united
+  none-united [] e = refl
+  none-united (r ∷ rs) e = go (eqb (r .customer) x) e (none-united rs)
+    where
+      go : (b : Bool) → (b || attested rs x) ≡ false → (attested rs x ≡ false → united rs x ≡ [])
+          → cond b (r .providers ++ united rs x) (united rs x) ≡ []
+      go true e ih = absurd (let z : _≡_ {A = ℕ} 0 1 = cc in omega arith)
+      go false e ih = ih e
 
-    go : (b : Bool) → eqb (r .customer) x ≡ b → isIn y (cond b (r .providers ++ united rs x) (united rs x)) ≡ true
-        → (isIn y (united rs x) ≡ true → Lists rs x y) → Lists (r ∷ rs) x y
-    go true p g ih = here p (isIn y (r .providers)) refl (sym (in-append y (r .providers) (united rs x)) ∙ g) ih
-    go false p g ih = further r rs x y (ih g)
-
--- A number that is in the list of none of a customer's records is not in its united lists.
-pub none-united : (rs : List Record) (x y : ℕ) → (Lists rs x y → ⊥) → isIn y (united rs x) ≡ false
-none-united rs x y h = go (isIn y (united rs x)) refl
-  where
-    go : (b : Bool) → isIn y (united rs x) ≡ b → b ≡ false
-    go true p = absurd (h (united-listed rs x y p))
-    go false p = refl
+  -- The hop asks first whether the union holds y.
+  pub hop-is : (rs : List Record) (y : ℕ) → cond (isIn y (united rs x)) ProviderPlus (cond (attested rs x) NotProviderPlus NoAttestation) ≡ hopOf rs x y
+  unfolding hopOf isIn
+  hop-is rs y = go (attested rs x) refl
+    where
+      go : (b : Bool) → attested rs x ≡ b
+          → cond (isIn y (united rs x)) ProviderPlus (cond b NotProviderPlus NoAttestation)
+          ≡ cond b (cond (isIn y (united rs x)) ProviderPlus NotProviderPlus) NoAttestation
+      go true p = refl
+      go false p = rw (none-united rs p)

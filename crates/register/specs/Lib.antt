@@ -1,3 +1,4 @@
 pub mod Register
+pub mod Helpers
 pub mod Calls
 pub mod Vectors

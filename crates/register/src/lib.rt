@@ -6,14 +6,18 @@ use types::Hop;
 use types::Refusal;
 use types::Removal;
 ghost use mathlib.Core.Path.{_≡_};
-ghost use mathlib.Core.Bool.{true, false, _&&_};
-ghost use Prim.Native.Nat.{_≤_, _<_};
-ghost use lib.ListN.{length};
+ghost use mathlib.Core.Bool.{true, false, cond, _&&_};
+ghost use Prim.Native.Nat.{_^_, _≤_, _<_};
+ghost use lib.ListN.{length, getD};
 ghost use Rattle.table.specs.Table.{Sound};
 ghost use Rattle.keyed.specs.Keyed.{samePair, beforePair, ascends, every};
+ghost use Rattle.types.specs.declared.Hop.the-variants.{NoAttestation, ProviderPlus, NotProviderPlus};
 ghost use Rattle.verdict.specs.Records.{isIn, hopOf};
-ghost use Rattle.register.specs.Register.{recordsOf, recordAt, keyOf, rises, listOk, recordOk, recordsOk, registerOk, placeOf};
+ghost use Rattle.register.specs.Register.{mostBodyWords, recordsOf, recordAt, keyOf, rises, listOk, recordOk, recordsOk, registerOk, placeOf};
+ghost use Rattle.register.specs.Helpers.{descentsIn, Within};
 ghost use Rattle.register.specs.Calls.{holdsRecord, Passed, fileStep, withdrawStep, clearStep};
+
+pub mod hints;
 
 // The words of a register.
 pub const WORDS: usize = 12290;
@@ -25,9 +29,6 @@ const MOST_BODY_WORDS: usize = 8192;
 const MOST_PROVIDERS: usize = 256;
 
 const LAST_SOURCE: u32 = 7;
-
-// The longest list that is scanned.
-const SHORT: usize = 16;
 
 // A row of the register ends with its count.
 const NO_TAIL: [u32; 0] = [0u32; 0];
@@ -80,39 +81,57 @@ fn is_before(c1: u32, s1: u32, c2: u32, s2: u32) -> bool
     false
 }
 
-// Each record's own rules, and their order.
+// How often a number does not stand above the one before it. Without a way out of the loop it is done on several words at a time.
+fn descents(list: &[u32]) -> u32
+    requires { ⌜ length (now list) < 2 ^ 32 ⌝ }
+    ensures { λ r. ⌜ (r ≡ descentsIn (now (list .entry))) × (r ≤ length (now (list .entry))) ⌝ }
+{
+    let mut many: u32 = 0;
+    let mut i: usize = 1;
+    while i < list.len() {
+        if list[i] <= list[i - 1] {
+            many += 1;
+        }
+        i += 1;
+    }
+    many
+}
+
+// Each record's own rules, and their order. The lists are read in one go: each of them ascends if no two numbers descend but where
+// one list ends and the next begins.
 fn are_records(reg: &[u32]) -> bool
-    requires { ⌜ Sound 2 0 (now reg) ⌝ }
+    requires { ⌜ Sound 2 0 (now reg) × (getD (now reg) 1 0 ≤ mostBodyWords) ⌝ }
     ensures { λ r. ⌜ r ≡ (every recordOk (recordsOf (now (reg .entry))) && ascends keyOf samePair beforePair (recordsOf (now (reg .entry)))) ⌝ }
 {
     let n = table::word(reg, 0);
+    let bodies = 2 + n * 4;
     let mut customer: u32 = 0;
     let mut source: u32 = 0;
-    let mut from = 2 + n * 4;
+    let mut between: u32 = 0;
+    let mut from = bodies;
     let mut i: usize = 0;
     while i < n {
         let at = 2 + i * 4;
         let c = reg[at];
         let s = reg[at + 1];
-        let to = from + table::word(reg, at + 3);
-        if c == 0 {
-            return false;
-        }
-        if LAST_SOURCE < s {
+        let count = table::word(reg, at + 3);
+        if (c == 0) | ((LAST_SOURCE < s) | ((count < 1) | (MOST_PROVIDERS < count))) {
             return false;
         }
         if !is_before(customer, source, c, s) {
             return false;
         }
-        if !is_list(&reg[from..to]) {
-            return false;
+        if bodies < from {
+            if reg[from] <= reg[from - 1] {
+                between += 1;
+            }
         }
         customer = c;
         source = s;
-        from = to;
+        from += count;
         i += 1;
     }
-    true
+    descents(&reg[bodies..from]) == between
 }
 
 // The words are a well-formed register, whatever they are.
@@ -133,17 +152,25 @@ pub fn is_register(reg: &[u32]) -> bool
 
 // ---- look-up
 
-// Where the record of a customer and a source stands, or would stand: how many records come before it.
-pub fn find(reg: &[u32], customer: u32, source: u32) -> usize
-    requires { ⌜ registerOk (now reg) ≡ true ⌝ }
-    ensures { λ r. ⌜ (r ≡ placeOf customer source (recordsOf (now (reg .entry)))) × (r ≤ length (recordsOf (now (reg .entry)))) ⌝ }
+// Record i stands before the pair of a customer and a source.
+fn stands_before(reg: &[u32], i: usize, customer: u32, source: u32) -> bool
+    requires { ⌜ (registerOk (now reg) ≡ true) × (i < length (recordsOf (now reg))) ⌝ }
+    ensures { λ r. ⌜ r ≡ beforePair (keyOf (recordAt (recordsOf (now (reg .entry))) i)) (customer, source) ⌝ }
 {
-    let mut low: usize = 0;
-    let mut high = table::word(reg, 0);
+    let at = 2 + i * 4;
+    is_before(reg[at], reg[at + 1], customer, source)
+}
+
+// The place of a pair, which is one of from..=to, by halves.
+fn search(reg: &[u32], from: usize, to: usize, customer: u32, source: u32) -> usize
+    requires { ⌜ Within (now reg) customer source from to ⌝ }
+    ensures { λ r. ⌜ r ≡ placeOf customer source (recordsOf (now (reg .entry))) ⌝ }
+{
+    let mut low = from;
+    let mut high = to;
     while low < high {
         let middle = low + (high - low) / 2;
-        let at = 2 + middle * 4;
-        if is_before(reg[at], reg[at + 1], customer, source) {
+        if stands_before(reg, middle, customer, source) {
             low = middle + 1;
         } else {
             high = middle;
@@ -151,6 +178,16 @@ pub fn find(reg: &[u32], customer: u32, source: u32) -> usize
     }
     low
 }
+
+// Where the record of a customer and a source stands, or would stand: how many records come before it.
+pub fn find(reg: &[u32], customer: u32, source: u32) -> usize
+    requires { ⌜ registerOk (now reg) ≡ true ⌝ }
+    ensures { λ r. ⌜ (r ≡ placeOf customer source (recordsOf (now (reg .entry)))) × (r ≤ length (recordsOf (now (reg .entry)))) ⌝ }
+{
+    search(reg, 0, table::word(reg, 0), customer, source)
+}
+
+// ---- the record at a place
 
 // Whether the record at a place that `find` answered is the one looked for.
 fn is_at(reg: &[u32], place: usize, customer: u32, source: u32) -> bool
@@ -166,57 +203,60 @@ fn is_at(reg: &[u32], place: usize, customer: u32, source: u32) -> bool
     false
 }
 
-fn scan(list: &[u32], y: u32) -> bool
-    ensures { λ r. ⌜ r ≡ isIn y (now (list .entry)) ⌝ }
+// Which of two numbers a list holds.
+pub struct Listed {
+    pub y: bool,
+    pub z: bool,
+}
+
+// Without a way out of the loop it is done on several words at a time.
+fn scan(list: &[u32], y: u32, z: u32) -> Listed
+    ensures { λ r. ⌜ (r .y ≡ isIn y (now (list .entry))) × (r .z ≡ isIn z (now (list .entry))) ⌝ }
 {
+    let mut has_y = false;
+    let mut has_z = false;
     let mut i: usize = 0;
     while i < list.len() {
-        if list[i] == y {
-            return true;
+        let p = list[i];
+        if p == y {
+            has_y = true;
+        }
+        if p == z {
+            has_z = true;
         }
         i += 1;
     }
-    false
+    Listed { y: has_y, z: has_z }
 }
 
-fn halve(list: &[u32], y: u32) -> bool
-    requires { ⌜ rises (now list) ≡ true ⌝ }
-    ensures { λ r. ⌜ r ≡ isIn y (now (list .entry)) ⌝ }
+// The hops from one number to two others.
+pub struct Hops {
+    pub y: Hop,
+    pub z: Hop,
+}
+
+// What a hop is, by whether there is a record and whether one lists the other number.
+fn hop_by(attested: bool, listed: bool) -> Hop
+    ensures { λ r. ⌜ r ≡ cond listed ProviderPlus (cond attested NotProviderPlus NoAttestation) ⌝ }
 {
-    let mut low: usize = 0;
-    let mut high = list.len();
-    while low < high {
-        let middle = low + (high - low) / 2;
-        if list[middle] < y {
-            low = middle + 1;
-        } else {
-            high = middle;
-        }
+    if listed {
+        return Hop::ProviderPlus;
     }
-    if low < list.len() {
-        return list[low] == y;
+    if attested {
+        return Hop::NotProviderPlus;
     }
-    false
+    Hop::NoAttestation
 }
 
-// A short list is scanned, a long one halved.
-fn contains(list: &[u32], y: u32) -> bool
-    requires { ⌜ rises (now list) ≡ true ⌝ }
-    ensures { λ r. ⌜ r ≡ isIn y (now (list .entry)) ⌝ }
-{
-    if list.len() <= SHORT {
-        return scan(list, y);
-    }
-    halve(list, y)
-}
-
-// The hop from x to y, where x's records begin at a place that `find` answered.
-pub fn hop_from(reg: &[u32], place: usize, x: u32, y: u32) -> Hop
+// The hops from x to y and to z, where x's records begin at a place that `find` answered. Each list is read once for both.
+pub fn hops_from(reg: &[u32], place: usize, x: u32, y: u32, z: u32) -> Hops
     requires { ⌜ (registerOk (now reg) ≡ true) × (place ≡ placeOf x 0 (recordsOf (now reg))) ⌝ }
-    ensures { λ r. ⌜ r ≡ hopOf (recordsOf (now (reg .entry))) x y ⌝ }
+    ensures { λ r. ⌜ (r .y ≡ hopOf (recordsOf (now (reg .entry))) x y) × (r .z ≡ hopOf (recordsOf (now (reg .entry))) x z) ⌝ }
 {
     let n = table::word(reg, 0);
     let bodies = 2 + n * 4;
+    let mut has_y = false;
+    let mut has_z = false;
     let mut i = place;
     loop {
         if n <= i {
@@ -228,16 +268,25 @@ pub fn hop_from(reg: &[u32], place: usize, x: u32, y: u32) -> Hop
         }
         let from = bodies + table::word(reg, at + 2);
         let to = from + table::word(reg, at + 3);
-        if contains(&reg[from..to], y) {
-            return Hop::ProviderPlus;
-        }
+        let listed = scan(&reg[from..to], y, z);
+        has_y = has_y | listed.y;
+        has_z = has_z | listed.z;
         i += 1;
     }
-    if place < i {
-        Hop::NotProviderPlus
-    } else {
-        Hop::NoAttestation
+    let attested = place < i;
+    Hops {
+        y: hop_by(attested, has_y),
+        z: hop_by(attested, has_z),
     }
+}
+
+// The hop from x to y alone.
+pub fn hop_from(reg: &[u32], place: usize, x: u32, y: u32) -> Hop
+    requires { ⌜ (registerOk (now reg) ≡ true) × (place ≡ placeOf x 0 (recordsOf (now reg))) ⌝ }
+    ensures { λ r. ⌜ r ≡ hopOf (recordsOf (now (reg .entry))) x y ⌝ }
+{
+    let hops = hops_from(reg, place, x, y, y);
+    hops.y
 }
 
 // ---- the calls

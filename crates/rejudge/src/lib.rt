@@ -39,7 +39,7 @@ fn restamp(led: &mut [u32], i: usize, v: Verdict) -> bool
 }
 
 // Route i judged anew; answers whether its verdict or a place changed.
-fn rejudge_row(reg: &[u32], led: &mut [u32], i: usize) -> bool
+fn rejudge_row(reg: &[u32], hints: &[u32], led: &mut [u32], i: usize) -> bool
     requires { ⌜ Judgeable (now reg) (now led) i ⌝ }
     ensures { λ r. ⌜ (now (led .exit) ≡ wordsOf (set (routesOf (now (led .entry))) i (rejudgedRoute (hopOf (recordsOf (now (reg .entry)))) (routeAt (routesOf (now (led .entry))) i)))) × (r ≡ differs (routeAt (routesOf (now (led .entry))) i) (rejudgedRoute (hopOf (recordsOf (now (reg .entry)))) (routeAt (routesOf (now (led .entry))) i))) ⌝ }
 {
@@ -52,12 +52,12 @@ fn rejudge_row(reg: &[u32], led: &mut [u32], i: usize) -> bool
     };
     let from = 2 + table::word(led, 0) * 9 + table::word(led, row + 7);
     let to = from + table::word(led, row + 8);
-    let v = verdict_of(verify::judge(reg, role, &led[from..to]));
+    let v = verdict_of(verify::judge_hinted(reg, hints, role, &led[from..to]));
     restamp(led, i, v)
 }
 
-// Answers how many routes changed.
-pub fn rejudge_all(reg: &[u32], led: &mut [u32]) -> usize
+// Every route judged anew, with hints for the register; answers how many changed.
+fn rejudge_rows(reg: &[u32], hints: &[u32], led: &mut [u32]) -> usize
     requires { ⌜ (registerOk (now reg) ≡ true) × (length (now led) ≡ ledgerWords) × (ledgerOk (now led) ≡ true) ⌝ }
     ensures { λ r. ⌜ (now (led .exit) ≡ wordsOf (map (rejudgedRoute (hopOf (recordsOf (now (reg .entry))))) (routesOf (now (led .entry))))) × (r ≡ countDiffering (routesOf (now (led .entry))) (map (rejudgedRoute (hopOf (recordsOf (now (reg .entry))))) (routesOf (now (led .entry))))) ⌝ }
 {
@@ -65,11 +65,24 @@ pub fn rejudge_all(reg: &[u32], led: &mut [u32]) -> usize
     let mut changed: usize = 0;
     let mut i: usize = 0;
     while i < n {
-        let moved = rejudge_row(reg, led, i);
+        let moved = rejudge_row(reg, hints, led, i);
         i += 1;
         if moved {
             changed += 1;
         }
     }
     changed
+}
+
+// Answers how many routes changed. Hints are worth their filling when there are more numbers to look up than records.
+pub fn rejudge_all(reg: &[u32], led: &mut [u32]) -> usize
+    requires { ⌜ (registerOk (now reg) ≡ true) × (length (now led) ≡ ledgerWords) × (ledgerOk (now led) ≡ true) ⌝ }
+    ensures { λ r. ⌜ (now (led .exit) ≡ wordsOf (map (rejudgedRoute (hopOf (recordsOf (now (reg .entry))))) (routesOf (now (led .entry))))) × (r ≡ countDiffering (routesOf (now (led .entry))) (map (rejudgedRoute (hopOf (recordsOf (now (reg .entry))))) (routesOf (now (led .entry))))) ⌝ }
+{
+    if table::word(led, 1) <= table::word(reg, 0) {
+        return rejudge_rows(reg, &verify::NO_HINTS, led);
+    }
+    let mut hints = [0u32; register::hints::WORDS];
+    register::hints::fill(reg, &mut hints);
+    rejudge_rows(reg, &hints, led)
 }

@@ -1,7 +1,7 @@
 -- A path without zeros: each turn of the loop over it, and the tests of a path. Assumes nothing.
 use Prim.Native.Nat.{ℕ, _+_, _≤_, _<_}
-use mathlib.Core.Path.{_≡_}
-use mathlib.Core.Bool.{true, false, _||_}
+use mathlib.Core.Path.{_≡_, sym, _∙_}
+use mathlib.Core.Bool.{Bool, true, false, _&&_, _||_, and-true, and-false}
 use mathlib.Core.List.{List, []}
 use native.Mathlib.Numerals.{add-one}
 use borrow.Author.Tests.{leb-true, le-leb, lt-leb, eq-eqb, ne-eqb}
@@ -13,21 +13,25 @@ use Rattle.as_path.specs.Reading.{mostNumbers}
 use Rattle.keyed.proofs.Orders.{both-left, both-right}
 use Rattle.routes.specs.Routes.{noZero, pathOk}
 
-module _ (l : List ℕ) (i : ℕ) (same : noZero (drop i l) ≡ noZero l) where
-  -- A zero: the way out.
-  pub zero-there : i < length l → getD l i 0 ≡ 0 → false ≡ noZero l
+-- The flag, and the numbers from i on that are left to look at, give the result.
+abbrev pub Seeking : List ℕ → Bool → ℕ → Type 0
+Seeking l none i = (none && noZero (drop i l)) ≡ noZero l
+
+module _ (l : List ℕ) (none : Bool) (i : ℕ) (same : Seeking l none i) where
+  -- A zero.
+  pub zero-there : i < length l → getD l i 0 ≡ 0 → Seeking l false (i + 1)
   unfolding noZero
-  zero-there h e = rw (drop-cons l i 0 h, eq-eqb (getD l i 0) 0 e) at same
+  zero-there h e = sym (and-false none) ∙ (rw (drop-cons l i 0 h, eq-eqb (getD l i 0) 0 e) at same)
 
   -- One number more.
-  pub zeros-on : i < length l → (getD l i 0 ≡ 0 → ⊥) → noZero (drop (i + 1) l) ≡ noZero l
+  pub zeros-on : i < length l → (getD l i 0 ≡ 0 → ⊥) → Seeking l none (i + 1)
   unfolding noZero
   zeros-on h e = rw (add-one i) (rw (drop-cons l i 0 h, ne-eqb (getD l i 0) 0 e) at same)
 
   -- No number is left.
-  pub zeros-none : length l ≤ i → true ≡ noZero l
+  pub zeros-none : length l ≤ i → none ≡ noZero l
   unfolding noZero
-  zeros-none h = rw (drop-of-length-le l h) at same
+  zeros-none h = sym (and-true none) ∙ (rw (drop-of-length-le l h) at same)
 
 module _ (role neighbour : ℕ) (l : List ℕ) where
   -- No number.

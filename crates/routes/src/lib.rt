@@ -31,17 +31,20 @@ const MOST_PLACE: u32 = 64;
 
 // ---- the check
 
+// Without a way out of the loop it is done on several words at a time.
 fn has_no_zero(path: &[u32]) -> bool
     ensures { λ r. ⌜ r ≡ noZero (now (path .entry)) ⌝ }
 {
+    let mut none = true;
     let mut i: usize = 0;
     while i < path.len() {
-        if path[i] == 0 {
-            return false;
-        }
+        let x = path[i];
         i += 1;
+        if x == 0 {
+            none = false;
+        }
     }
-    true
+    none
 }
 
 // A path of a route without a ground.

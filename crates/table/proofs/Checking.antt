@@ -1,7 +1,7 @@
 -- One turn of each loop of the run-time check, and the check as a whole. Assumes nothing.
 use mathlib.Core.Path.{_≡_, refl, sym, ap, _∙_}
 use mathlib.Core.List.{List}
-use mathlib.Core.Bool.{Bool, true, false, _&&_}
+use mathlib.Core.Bool.{Bool, true, false, _&&_, and-true, and-false}
 use Prim.Native.Nat.{ℕ, zero, suc, _+_, _-_, _*_, _≤_, _<_, _^_}
 use native.Mathlib.Omega.{arith}
 use native.Mathlib.Nat.{not-suc-le-zero, mul-le-mul-left, suc-mul, add-assoc}
@@ -53,18 +53,28 @@ zero-peel : (s : List ℕ) (i : ℕ) → i < length s → allZero (drop i s) ≡
 unfolding allZero
 zero-peel s i l = rw (add-one, drop-cons s i 0)
 
--- A word that is not 0 fails.
-pub zero-no : (s : List ℕ) (i : ℕ) → i < length s → (getD s i 0 ≡ 0 → ⊥) → false ≡ allZero (drop i s)
-zero-no s i l x = rw (zero-peel s i l, ne-eqb (getD s i 0) 0 x)
+-- The flag, and the words from i on that are left to check, give the result.
+pub record Zeros (s : List ℕ) (zeros : Bool) (i : ℕ) (r : Bool) : Type 0 where
+  pub within : i ≤ length s
+  pub same : (zeros && allZero (drop i s)) ≡ r
 
--- A word that is 0 leaves the words behind it to check.
-pub zero-step : (s : List ℕ) (i : ℕ) → i < length s → getD s i 0 ≡ 0 → allZero (drop (i + 1) s) ≡ allZero (drop i s)
-zero-step s i l x = rw (zero-peel s i l, eq-eqb (getD s i 0) 0 x)
+module _ {s : List ℕ} {zeros : Bool} {i : ℕ} {r : Bool} (z : Zeros s zeros i r) where
+  -- The same by what the words from i on come to.
+  left : {b : Bool} → allZero (drop i s) ≡ b → (zeros && b) ≡ r
+  left e = sym (ap (λ (q : Bool). zeros && q) e) ∙ z .same
 
--- No words pass.
-pub zero-done : (s : List ℕ) (i : ℕ) → length s ≤ i → true ≡ allZero (drop i s)
-unfolding allZero
-zero-done s i l = rw (drop-of-length-le s l)
+  -- A word that is not 0 fails.
+  pub zero-no : i < length s → (getD s i 0 ≡ 0 → ⊥) → Zeros s false (i + 1) r
+  zero-no l x = record { within = omega arith; same = sym (and-false zeros) ∙ left (rw (zero-peel s i l, ne-eqb (getD s i 0) 0 x)) }
+
+  -- A word that is 0 leaves the words behind it to check.
+  pub zero-step : i < length s → getD s i 0 ≡ 0 → Zeros s zeros (i + 1) r
+  zero-step l x = record { within = omega arith; same = left (rw (zero-peel s i l, eq-eqb (getD s i 0) 0 x)) }
+
+  -- No words are left.
+  pub zero-done : length s ≤ i → zeros ≡ r
+  unfolding allZero
+  zero-done l = sym (and-true zeros) ∙ left (rw (drop-of-length-le s l))
 
 -- ---- the whole check
 

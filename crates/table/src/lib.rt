@@ -37,20 +37,21 @@ fn rows_ok(s: &[u32], h: usize, t: usize, at: usize, m: usize, b: u32) -> bool
     next == b
 }
 
-// Every word from index at on is 0.
+// Every word from index at on is 0. Without a way out of the loop it is done on several words at a time.
 fn zeros_from(s: &[u32], at: usize) -> bool
     requires { ⌜ at ≤ length (now s) ⌝ }
     ensures { λ r. ⌜ r ≡ allZero (drop at (now (s .entry))) ⌝ }
 {
+    let mut zeros = true;
     let mut i = at;
     while i < s.len() {
         let x = s[i];
-        if x != 0 {
-            return false;
-        }
         i += 1;
+        if x != 0 {
+            zeros = false;
+        }
     }
-    true
+    zeros
 }
 
 // The words are a packed table, whatever they are and however many.

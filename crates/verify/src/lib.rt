@@ -9,11 +9,15 @@ ghost use mathlib.Core.Bool.{true};
 ghost use Prim.Native.Nat.{_≤_};
 ghost use lib.ListN.{length};
 ghost use Rattle.types.specs.Numbers.{roleNumber};
+ghost use Rattle.verdict.specs.Hops.{asAt};
 ghost use Rattle.verdict.specs.Records.{hopOf};
 ghost use Rattle.verdict.specs.Verdicts.{judged};
 ghost use Rattle.verdict.specs.Verdicts as verdicts;
 ghost use Rattle.register.specs.Register.{recordsOf, registerOk};
 ghost use Rattle.verify.specs.Ramps.{rampsOf, afterUp, afterDown};
+
+// Whoever has one path to judge has no hints.
+pub const NO_HINTS: [u32; 0] = [0u32; 0];
 
 // u, v, K and L of a path.
 pub struct Ramps {
@@ -24,7 +28,7 @@ pub struct Ramps {
 }
 
 // Upstream, one look-up for each number but the last.
-fn upstream(reg: &[u32], path: &[u32]) -> Verdict
+fn upstream(reg: &[u32], hints: &[u32], path: &[u32]) -> Verdict
     requires { ⌜ (registerOk (now reg) ≡ true) × (1 ≤ length (now path)) × (length (now path) ≤ 65535) ⌝ }
     ensures { λ r. ⌜ r ≡ verdicts.upstream (hopOf (recordsOf (now (reg .entry)))) (now (path .entry)) ⌝ }
 {
@@ -35,19 +39,15 @@ fn upstream(reg: &[u32], path: &[u32]) -> Verdict
         let u = i + 1;
         let x = path[n - i];
         let y = path[n - u];
-        let place = register::find(reg, x, 0);
-        match register::hop_from(reg, place, x, y) {
-            Hop::NotProviderPlus => return Verdict::Invalid(Cause::ByHops(u as u32, 0)),
-            Hop::ProviderPlus => {
-                i = u;
-            }
-            Hop::NoAttestation => {
-                i = u;
-                if n < unattested {
-                    unattested = u;
-                }
-            }
+        let place = register::hints::find(reg, hints, x);
+        let hop = register::hop_from(reg, place, x, y);
+        if verdict::is_not_plus(hop) {
+            return Verdict::Invalid(Cause::ByHops(u as u32, 0));
         }
+        if verdict::is_unattested(hop) & (n < unattested) {
+            unattested = u;
+        }
+        i = u;
     }
     if unattested <= n {
         return Verdict::Unknown(unattested as u32, 0);
@@ -60,32 +60,19 @@ fn after_up(r: Ramps, n: usize, i: usize, hop: Hop) -> Ramps
     requires { ⌜ i ≤ 65535 ⌝ }
     ensures { λ s. ⌜ s ≡ afterUp r n i hop ⌝ }
 {
-    match hop {
-        Hop::NotProviderPlus => {
-            let u = r.u;
-            if n < u {
-                return Ramps {
-                    u: i + 1,
-                    v: r.v,
-                    k: r.k,
-                    l: r.l,
-                };
-            }
-            r
-        }
-        Hop::ProviderPlus => {
-            let k = r.k;
-            if k == i {
-                return Ramps {
-                    u: r.u,
-                    v: r.v,
-                    k: i + 1,
-                    l: r.l,
-                };
-            }
-            r
-        }
-        Hop::NoAttestation => r,
+    let mut u = r.u;
+    let mut k = r.k;
+    if verdict::is_not_plus(hop) & (n < u) {
+        u = i + 1;
+    }
+    if verdict::is_plus(hop) & (k == i) {
+        k = i + 1;
+    }
+    Ramps {
+        u: u,
+        v: r.v,
+        k: k,
+        l: r.l,
     }
 }
 
@@ -94,25 +81,36 @@ fn after_down(r: Ramps, i: usize, hop: Hop) -> Ramps
     requires { ⌜ i ≤ 65535 ⌝ }
     ensures { λ s. ⌜ s ≡ afterDown r i hop ⌝ }
 {
-    match hop {
-        Hop::NotProviderPlus => Ramps {
-            u: r.u,
-            v: i,
-            k: r.k,
-            l: i + 1,
-        },
-        Hop::ProviderPlus => r,
-        Hop::NoAttestation => Ramps {
-            u: r.u,
-            v: r.v,
-            k: r.k,
-            l: i + 1,
-        },
+    let mut v = r.v;
+    let mut l = i + 1;
+    if verdict::is_not_plus(hop) {
+        v = i;
+    }
+    if verdict::is_plus(hop) {
+        l = r.l;
+    }
+    Ramps {
+        u: r.u,
+        v: v,
+        k: r.k,
+        l: l,
     }
 }
 
-// All four indices in one pass, with one look-up for each number on the path.
-fn find_ramps(reg: &[u32], path: &[u32]) -> Ramps
+// AS(i), or 0 where the path ends before it.
+fn number_or_zero(path: &[u32], i: usize) -> u32
+    requires { ⌜ (1 ≤ i) × (i ≤ 65536) ⌝ }
+    ensures { λ r. ⌜ (i ≤ length (now (path .entry)) → r ≡ asAt (now (path .entry)) i) ⌝ }
+{
+    let n = path.len();
+    if i <= n {
+        return path[n - i];
+    }
+    0
+}
+
+// All four indices in one pass, with one look-up for each number on the path and one reading of its lists.
+fn find_ramps(reg: &[u32], hints: &[u32], path: &[u32]) -> Ramps
     requires { ⌜ (registerOk (now reg) ≡ true) × (1 ≤ length (now path)) × (length (now path) ≤ 65535) ⌝ }
     ensures { λ r. ⌜ r ≡ rampsOf (hopOf (recordsOf (now (reg .entry)))) (now (path .entry)) ⌝ }
 {
@@ -124,27 +122,32 @@ fn find_ramps(reg: &[u32], path: &[u32]) -> Ramps
         l: 1,
     };
     let mut i: usize = 1;
-    let mut place = register::find(reg, path[n - 1], 0);
+    let origin = path[n - 1];
+    let place = register::hints::find(reg, hints, origin);
+    let mut up = register::hop_from(reg, place, origin, number_or_zero(path, 2));
     while i < n {
         let x = path[n - i];
         let y = path[n - (i + 1)];
-        r = after_up(r, n, i, register::hop_from(reg, place, x, y));
-        place = register::find(reg, y, 0);
-        r = after_down(r, i, register::hop_from(reg, place, y, x));
+        let place = register::hints::find(reg, hints, y);
+        let hops = register::hops_from(reg, place, y, x, number_or_zero(path, i + 2));
+        let down = hops.y;
+        r = after_up(r, n, i, up);
+        r = after_down(r, i, down);
+        up = hops.z;
         i += 1;
     }
     r
 }
 
-// The answer for a path of 1 number or more.
-pub fn judge(reg: &[u32], role: Role, path: &[u32]) -> Answer
+// The answer for a path of 1 number or more, looked up with hints for the register.
+pub fn judge_hinted(reg: &[u32], hints: &[u32], role: Role, path: &[u32]) -> Answer
     requires { ⌜ (registerOk (now reg) ≡ true) × (1 ≤ length (now path)) × (length (now path) ≤ 65535) ⌝ }
     ensures { λ r. ⌜ r ≡ judged (hopOf (recordsOf (now (reg .entry)))) (now (path .entry)) (roleNumber role) ⌝ }
 {
     if role.is_upstream() {
-        return Answer::Plain(upstream(reg, path));
+        return Answer::Plain(upstream(reg, hints, path));
     }
-    let r = find_ramps(reg, path);
+    let r = find_ramps(reg, hints, path);
     let u = r.u;
     let v = r.v;
     let k = r.k;
@@ -157,4 +160,12 @@ pub fn judge(reg: &[u32], role: Role, path: &[u32]) -> Answer
         return Answer::WithGap(Verdict::Valid, gap);
     }
     Answer::WithGap(Verdict::Unknown(k as u32, l as u32), gap)
+}
+
+// The answer for a path of 1 number or more.
+pub fn judge(reg: &[u32], role: Role, path: &[u32]) -> Answer
+    requires { ⌜ (registerOk (now reg) ≡ true) × (1 ≤ length (now path)) × (length (now path) ≤ 65535) ⌝ }
+    ensures { λ r. ⌜ r ≡ judged (hopOf (recordsOf (now (reg .entry)))) (now (path .entry)) (roleNumber role) ⌝ }
+{
+    judge_hinted(reg, &NO_HINTS, role, path)
 }

@@ -1,30 +1,35 @@
 -- `register::are_records` meets its contract. Assumes nothing.
 use borrow.Author.Tests.{not-true, not-false}
 use borrow.Author.Needs.{needs}
-use mathlib.Core.Path.{sym, _∙_}
+use mathlib.Core.Path.{sym, _∙_, ap}
+use mathlib.Core.Logic.{⊎-elim}
 use Prim.Native.Nat.{_-_}
 use native.Mathlib.Omega.{arith}
-use Rattle.register.proofs.Checking.{Checked, checks, all-checked, row-inside, list-inside, no-customer, no-source, no-order, no-list, checks-on}
+use lib.Dec.{eqb}
+use lib.ListN.{length-take, length-drop}
+use Rattle.register.proofs.Descending.{no-fall, one-fall}
+use Rattle.register.proofs.Checking.{Checked, checks, lists-few, lists-inside, all-checked, row-inside, list-inside, no-record, first-inside}
+use Rattle.register.proofs.Checking.{no-order, checks-first, checks-next}
 use Rattle.register.proofs.are_records.Statement.{statement}
 use Rattle.register.proofs.are_records.Tie as tie
 
 abbrev Inv-loop : tie.InvT-loop
-Inv-loop reg n customer₀ source₀ from₀ i₀ customer source from i = Checked reg n customer source from i
+Inv-loop reg n bodies customer₀ source₀ between₀ from₀ i₀ customer source between from i = Checked reg n customer source between from i
 
 abbrev μ-loop : tie.MeasureT-loop
-μ-loop reg n customer₀ source₀ from₀ i₀ customer source from i = n - i
+μ-loop reg n bodies customer₀ source₀ between₀ from₀ i₀ customer source between from i = n - i
 
 word-requires : tie.Need-word-requires Inv-loop μ-loop
 word-requires c κs = search needs
 
-mul-from : tie.Need-mul-from Inv-loop μ-loop
-mul-from c = search needs
+mul-bodies : tie.Need-mul-bodies Inv-loop μ-loop
+mul-bodies c = search needs
 
-add-from : tie.Need-add-from Inv-loop μ-loop
-add-from c = search needs
+add-bodies : tie.Need-add-bodies Inv-loop μ-loop
+add-bodies c = search needs
 
 loop-holds : tie.Need-loop-holds Inv-loop μ-loop
-loop-holds c = checks (c .before .before .pre) (c .word .ensures .0)
+loop-holds c = checks (c .before .before .pre .0) (c .word .ensures .0)
 
 mul-at : tie.Need-mul-at Inv-loop μ-loop
 mul-at c = omega (arith, row-inside (c .before .loop .inv) (c .loop-test .taken))
@@ -53,61 +58,57 @@ add-word c = omega (arith, row-inside (c .before .before .before .loop .inv) (c 
 word-requires-2 : tie.Need-word-requires-2 Inv-loop μ-loop
 word-requires-2 c κs = omega (arith, row-inside (c .before .before .before .loop .inv) (c .before .before .loop-test .taken))
 
-add-to : tie.Need-add-to Inv-loop μ-loop
-add-to c =
-    let t = c .before .before .before in
-    omega (arith, list-inside (t .before .loop .inv) (t .loop-test .taken) (c .word2 .ensures .0))
-
 returns : tie.Need-returns Inv-loop μ-loop
 returns c =
     let w = c .before in
     let t = w .before .before .before in
-    no-customer (t .before .loop .inv) (t .loop-test .taken) (w .word2 .ensures .0) (c .if1 .taken)
-
-returns-2 : tie.Need-returns-2 Inv-loop μ-loop
-returns-2 c =
-    let w = c .before .before in
-    let t = w .before .before .before in
-    no-source (t .before .loop .inv) (t .loop-test .taken) (w .word2 .ensures .0) (c .before .if1 .left) (c .if2 .taken)
+    no-record (t .before .loop .inv) (t .loop-test .taken) (w .word2 .ensures .0) (c .if1 .taken)
 
 is-before-requires : tie.Need-is-before-requires Inv-loop μ-loop
 is-before-requires c κs = search needs
 
-returns-3 : tie.Need-returns-3 Inv-loop μ-loop
-returns-3 c =
+returns-2 : tie.Need-returns-2 Inv-loop μ-loop
+returns-2 c =
+    let w = c .before .before .before in
+    let t = w .before .before .before in
+    no-order (t .before .loop .inv) (t .loop-test .taken) (w .word2 .ensures .0) (c .before .before .if1 .left)
+    (sym (c .before .is-before .ensures) ∙ not-true _ (c .if2 .taken))
+
+mul-if4 : tie.Need-mul-if4 Inv-loop μ-loop
+mul-if4 c =
     let w = c .before .before .before .before in
     let t = w .before .before .before in
-    no-order (t .before .loop .inv) (t .loop-test .taken) (w .word2 .ensures .0) (c .before .before .before .if1 .left) (c .before .before .if2 .left)
-    (sym (c .before .is-before .ensures) ∙ not-true _ (c .if3 .taken))
+    omega (arith, first-inside (t .before .loop .inv) (t .loop-test .taken) (w .word2 .ensures .0) (c .before .before .before .if1 .left))
 
-mul-is-list : tie.Need-mul-is-list Inv-loop μ-loop
-mul-is-list c =
+shared-slice-read-if4 : tie.Need-shared-slice-read-if4 Inv-loop μ-loop
+shared-slice-read-if4 c =
+    let w = c .before .before .before .before .before in
+    let t = w .before .before .before in
+    first-inside (t .before .loop .inv) (t .loop-test .taken) (w .word2 .ensures .0) (c .before .before .before .before .if1 .left)
+
+sub-if4 : tie.Need-sub-if4 Inv-loop μ-loop
+sub-if4 c = search needs
+
+mul-if4-2 : tie.Need-mul-if4-2 Inv-loop μ-loop
+mul-if4-2 c =
+    let w = c .before .before .before .before .before in
+    let t = w .before .before .before in
+    omega (arith, first-inside (t .before .loop .inv) (t .loop-test .taken) (w .word2 .ensures .0) (c .before .before .before .before .if1 .left))
+
+shared-slice-read-if4-2 : tie.Need-shared-slice-read-if4-2 Inv-loop μ-loop
+shared-slice-read-if4-2 c =
+    let w = c .before .before .before .before .before .before in
+    let t = w .before .before .before in
+    omega (arith, first-inside (t .before .loop .inv) (t .loop-test .taken) (w .word2 .ensures .0) (c .before .before .before .before .before .if1 .left))
+
+add-between : tie.Need-add-between Inv-loop μ-loop
+add-between c = search needs
+
+add-from : tie.Need-add-from Inv-loop μ-loop
+add-from c =
     let w = c .before .before .before .before in
     let t = w .before .before .before in
     omega (arith, list-inside (t .before .loop .inv) (t .loop-test .taken) (w .word2 .ensures .0))
-
-sub-is-list : tie.Need-sub-is-list Inv-loop μ-loop
-sub-is-list c = search needs
-
-part-is-list-start : tie.Need-part-is-list-start Inv-loop μ-loop
-part-is-list-start c = search needs
-
-part-is-list-end : tie.Need-part-is-list-end Inv-loop μ-loop
-part-is-list-end c =
-    let w = c .before .before .before .before in
-    let t = w .before .before .before in
-    omega (arith, list-inside (t .before .loop .inv) (t .loop-test .taken) (w .word2 .ensures .0))
-
-is-list-requires : tie.Need-is-list-requires Inv-loop μ-loop
-is-list-requires c κs = search needs
-
-returns-4 : tie.Need-returns-4 Inv-loop μ-loop
-returns-4 c =
-    let o = c .before .before .before in
-    let w = o .before .before .before .before in
-    let t = w .before .before .before in
-    no-list (t .before .loop .inv) (t .loop-test .taken) (w .word2 .ensures .0) (o .before .before .before .if1 .left) (o .before .before .if2 .left)
-    (sym (o .before .is-before .ensures) ∙ not-false _ (o .if3 .left)) (sym (c .before .is-list .ensures) ∙ not-true _ (c .if4 .taken))
 
 add-i : tie.Need-add-i Inv-loop μ-loop
 add-i c = search needs
@@ -117,14 +118,36 @@ loop-less c = search needs
 
 loop-again : tie.Need-loop-again Inv-loop μ-loop
 loop-again c =
-    let o = c .before .before .before in
-    let w = o .before .before .before .before in
+    let w = c .before .before .before .before in
     let t = w .before .before .before in
-    checks-on (t .before .loop .inv) (t .loop-test .taken) (w .word2 .ensures .0) (o .before .before .before .if1 .left) (o .before .before .if2 .left)
-    (sym (o .before .is-before .ensures) ∙ not-false _ (o .if3 .left)) (sym (c .before .is-list .ensures) ∙ not-false _ (c .if4 .left))
+    let g = t .before .loop .inv in
+    let h = t .loop-test .taken in
+    let e = w .word2 .ensures .0 in
+    let k = c .before .before .before .if1 .left in
+    let q = sym (c .before .before .is-before .ensures) ∙ not-false _ (c .before .if2 .left) in
+    ⊎-elim (λ a. checks-next g h e k q (a .0 .taken) (omega (arith, a .4, one-fall (a .3 .taken))))
+    (⊎-elim (λ a. checks-next g h e k q (a .0 .taken) (omega (arith, a .4, no-fall (a .3 .left)))) (λ a. checks-first g h e k q (a .0 .left) (a .1)))
+    (c .if3 .came)
 
-returns-5 : tie.Need-returns-5 Inv-loop μ-loop
-returns-5 c = all-checked (c .before .loop .inv) (c .loop-test .left)
+mul-descents : tie.Need-mul-descents Inv-loop μ-loop
+mul-descents c = omega (arith, lists-inside (c .before .loop .inv))
+
+sub-descents : tie.Need-sub-descents Inv-loop μ-loop
+sub-descents c = search needs
+
+part-descents-start : tie.Need-part-descents-start Inv-loop μ-loop
+part-descents-start c = search needs
+
+part-descents-end : tie.Need-part-descents-end Inv-loop μ-loop
+part-descents-end c = omega (arith, lists-inside (c .before .loop .inv))
+
+descents-requires : tie.Need-descents-requires Inv-loop μ-loop
+descents-requires c κs = simp (length-take, length-drop) (omega (arith, lists-few (c .before .before .loop .inv)))
+
+returns-3 : tie.Need-returns-3 Inv-loop μ-loop
+returns-3 c =
+    let l = c .before .before in
+    ap (λ d. eqb d (l .before .loop .between)) (c .descents .ensures .0) ∙ all-checked (l .before .loop .inv) (l .loop-test .left)
 
 pub are-records-spec : {M : Type 1} → statement M
 are-records-spec =
@@ -133,8 +156,8 @@ are-records-spec =
     Inv-loop
     μ-loop
     word-requires
-    mul-from
-    add-from
+    mul-bodies
+    add-bodies
     loop-holds
     mul-at
     add-at
@@ -145,18 +168,22 @@ are-records-spec =
     shared-slice-read-s
     add-word
     word-requires-2
-    add-to
     returns
-    returns-2
     is-before-requires
-    returns-3
-    mul-is-list
-    sub-is-list
-    part-is-list-start
-    part-is-list-end
-    is-list-requires
-    returns-4
+    returns-2
+    mul-if4
+    shared-slice-read-if4
+    sub-if4
+    mul-if4-2
+    shared-slice-read-if4-2
+    add-between
+    add-from
     add-i
     loop-less
     loop-again
-    returns-5)
+    mul-descents
+    sub-descents
+    part-descents-start
+    part-descents-end
+    descents-requires
+    returns-3)

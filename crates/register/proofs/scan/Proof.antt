@@ -1,34 +1,28 @@
 -- `register::scan` meets its contract. Assumes nothing.
 use borrow.Author.Needs.{needs}
-use mathlib.Core.Path.{_≡_, refl, sym, _∙_}
+use mathlib.Core.Path.{refl}
+use mathlib.Core.Logic.{⊎-elim}
 use Prim.Native.Nat.{_-_, _≤_}
 use native.Mathlib.Omega.{arith}
-use lib.ListN.{length, drop}
-use Rattle.verdict.specs.Records.{isIn}
-use Rattle.register.proofs.Uniting.{found, passed, ended}
+use lib.ListN.{length}
+use Rattle.register.proofs.Uniting.{Seeking, raised, stays, ended}
 use Rattle.register.proofs.scan.Statement.{statement}
 use Rattle.register.proofs.scan.Tie as tie
 
 abbrev Inv-loop : tie.InvT-loop
-Inv-loop list y i₀ i = (i ≤ length list) × (isIn y (drop i list) ≡ isIn y list)
+Inv-loop list y z has-y₀ has-z₀ i₀ has-y has-z i = (i ≤ length list) × Seeking y list has-y i × Seeking z list has-z i
 
 abbrev μ-loop : tie.MeasureT-loop
-μ-loop list y i₀ i = length list - i
+μ-loop list y z has-y₀ has-z₀ i₀ has-y has-z i = length list - i
 
 loop-holds : tie.Need-loop-holds Inv-loop μ-loop
-loop-holds c = (omega arith, refl)
+loop-holds c = (omega arith, record { says = refl }, record { says = refl })
 
-mul-if1 : tie.Need-mul-if1 Inv-loop μ-loop
-mul-if1 c = search needs
+mul-p : tie.Need-mul-p Inv-loop μ-loop
+mul-p c = search needs
 
-shared-slice-read-if1 : tie.Need-shared-slice-read-if1 Inv-loop μ-loop
-shared-slice-read-if1 c = search needs
-
-returns : tie.Need-returns Inv-loop μ-loop
-returns c =
-    let l = c .before .before .before .loop in
-    let a = c .before .before .before .before .args in
-    sym (found (a .y) (a .list .now) (l .i) (c .before .before .loop-test .taken) (c .if1 .taken)) ∙ l .inv .1
+shared-slice-read-p : tie.Need-shared-slice-read-p Inv-loop μ-loop
+shared-slice-read-p c = search needs
 
 add-i : tie.Need-add-i Inv-loop μ-loop
 add-i c = search needs
@@ -38,12 +32,15 @@ loop-less c = search needs
 
 loop-again : tie.Need-loop-again Inv-loop μ-loop
 loop-again c =
-    let l = c .before .before .before .loop in
-    let a = c .before .before .before .before .args in
-    (omega arith, passed (a .y) (a .list .now) (l .i) (c .before .before .loop-test .taken) (c .if1 .left) ∙ l .inv .1)
+    let l = c .before .before .before .before .loop .inv in
+    let h = c .before .before .before .loop-test .taken in (
+      omega arith,
+      ⊎-elim (λ w. raised (l .1) h (w .0 .taken) (w .1)) (λ w. stays (l .1) h (w .0 .left) (w .1)) (c .before .if1 .came),
+      ⊎-elim (λ w. raised (l .2) h (w .0 .taken) (w .1)) (λ w. stays (l .2) h (w .0 .left) (w .1)) (c .if2 .came),
+    )
 
-returns-2 : tie.Need-returns-2 Inv-loop μ-loop
-returns-2 c = let a = c .before .before .args in sym (ended (a .y) (a .list .now) (c .before .loop .i) (c .loop-test .left)) ∙ c .before .loop .inv .1
+returns : tie.Need-returns Inv-loop μ-loop
+returns c = (ended (c .before .loop .inv .1) (c .loop-test .left), ended (c .before .loop .inv .2) (c .loop-test .left))
 
 pub scan-spec : {M : Type 1} → statement M
 scan-spec =
@@ -52,10 +49,9 @@ scan-spec =
     Inv-loop
     μ-loop
     loop-holds
-    mul-if1
-    shared-slice-read-if1
-    returns
+    mul-p
+    shared-slice-read-p
     add-i
     loop-less
     loop-again
-    returns-2)
+    returns)

@@ -1,66 +1,59 @@
 -- `rejudge::rejudge_all` meets its contract. Assumes nothing.
-use borrow.Author.Needs.{needs}
 use native.Mathlib.Omega.{arith}
-use Prim.Native.Nat.{_-_}
-use Rattle.rejudge.proofs.Turns.{Turned, turns, same-size, turned-all, may-turn, turns-changed, turns-same}
+use Rattle.register.proofs.Looking.{head-within}
+use borrow.Author.Needs.{needs}
 use Rattle.rejudge.proofs.rejudge_all.Statement.{statement}
 use Rattle.rejudge.proofs.rejudge_all.Tie as tie
 
-abbrev Inv-loop : tie.InvT-loop
-Inv-loop reg led₀ n changed₀ i₀ led changed i = Turned reg led₀ n led changed i
+word-requires : tie.Need-word-requires
+word-requires c κs = search needs
 
-abbrev μ-loop : tie.MeasureT-loop
-μ-loop reg led₀ n changed₀ i₀ led changed i = n - i
+word-requires-2 : tie.Need-word-requires-2
+word-requires-2 c κs = omega (arith, head-within _ (c .before .before .before .before .pre .0))
 
-word-requires : tie.Need-word-requires Inv-loop μ-loop
-word-requires c κs = omega (arith, c .before .before .before .pre .1)
+slice-aggregate-rejudge-rows : tie.Need-slice-aggregate-rejudge-rows
+slice-aggregate-rejudge-rows c = search needs
 
-loop-holds : tie.Need-loop-holds Inv-loop μ-loop
-loop-holds c = turns _ _ (c .before .before .before .before .pre) (c .word .ensures .0)
+rejudge-rows-requires : tie.Need-rejudge-rows-requires
+rejudge-rows-requires c κs = search needs
 
-rejudge-row-requires : tie.Need-rejudge-row-requires Inv-loop μ-loop
-rejudge-row-requires c κs = may-turn (c .before .before .loop .inv) (c .before .loop-test .taken)
+same-length : tie.Need-same-length
+same-length c = search needs
 
-add-i : tie.Need-add-i Inv-loop μ-loop
-add-i c = search needs
+returns : tie.Need-returns
+returns c = search needs
 
-add-changed : tie.Need-add-changed Inv-loop μ-loop
-add-changed c = omega (arith, c .before .before .before .before .before .before .loop .inv .fewer)
+slice-aggregate-fill : tie.Need-slice-aggregate-fill
+slice-aggregate-fill c = search needs
 
-loop-less : tie.Need-loop-less Inv-loop μ-loop
-loop-less c = search needs
+fill-requires : tie.Need-fill-requires
+fill-requires c κs = search needs
 
-loop-again : tie.Need-loop-again Inv-loop μ-loop
-loop-again c = let t = c .before .before .before .before .before in
-    turns-changed (t .before .loop .inv) (t .loop-test .taken) (c .before .before .before .rejudge-row .ensures) (c .if1 .taken)
+slice-aggregate-rejudge-rows-2 : tie.Need-slice-aggregate-rejudge-rows-2
+slice-aggregate-rejudge-rows-2 c = search needs
 
-loop-less-2 : tie.Need-loop-less-2 Inv-loop μ-loop
-loop-less-2 c = search needs
+rejudge-rows-requires-2 : tie.Need-rejudge-rows-requires-2
+rejudge-rows-requires-2 c κs = search needs
 
-loop-again-2 : tie.Need-loop-again-2 Inv-loop μ-loop
-loop-again-2 c = let t = c .before .before .before .before .before in
-    turns-same (t .before .loop .inv) (t .loop-test .taken) (c .before .before .before .rejudge-row .ensures) (c .if1 .left)
+same-length-2 : tie.Need-same-length-2
+same-length-2 c = search needs
 
-same-length : tie.Need-same-length Inv-loop μ-loop
-same-length c = same-size (c .before .loop .inv)
-
-returns : tie.Need-returns Inv-loop μ-loop
-returns c = turned-all (c .before .loop .inv) (c .loop-test .left)
+returns-2 : tie.Need-returns-2
+returns-2 c = search needs
 
 pub rejudge-all-spec : {M : Type 1} → statement M
 rejudge-all-spec =
     tie.close
     (tie.spec
-    Inv-loop
-    μ-loop
     word-requires
-    loop-holds
-    rejudge-row-requires
-    add-i
-    add-changed
-    loop-less
-    loop-again
-    loop-less-2
-    loop-again-2
+    word-requires-2
+    slice-aggregate-rejudge-rows
+    rejudge-rows-requires
     same-length
-    returns)
+    returns
+    slice-aggregate-fill
+    fill-requires
+    slice-aggregate-rejudge-rows-2
+    rejudge-rows-requires-2
+    same-length-2
+    returns-2)

@@ -7,31 +7,31 @@ use Rattle.rejudge.proofs.rejudge_row.Statement.{statement}
 use Rattle.rejudge.proofs.rejudge_row.Tie as tie
 
 mul-row : tie.Need-mul-row
-mul-row c = omega (arith, row-in (c .before .before .pre))
+mul-row c = omega (arith, row-in (c .before .before .before .pre))
 
 add-row : tie.Need-add-row
-add-row c = omega (arith, row-in (c .before .before .pre))
+add-row c = omega (arith, row-in (c .before .before .before .pre))
 
 add-if1 : tie.Need-add-if1
-add-if1 c = omega (arith, row-in (c .before .before .pre))
+add-if1 c = omega (arith, row-in (c .before .before .before .pre))
 
 mul-if1 : tie.Need-mul-if1
-mul-if1 c = omega (arith, row-in (c .before .before .pre))
+mul-if1 c = omega (arith, row-in (c .before .before .before .pre))
 
 slice-read-if1 : tie.Need-slice-read-if1
-slice-read-if1 c = omega (arith, row-in (c .before .before .before .pre))
+slice-read-if1 c = omega (arith, row-in (c .before .before .before .before .pre))
 
 returns : tie.Need-returns
-returns c = grounded (c .before .before .before .before .pre) (c .if1 .taken)
+returns c = grounded (c .before .before .before .before .before .pre) (c .if1 .taken)
 
 add-from-number : tie.Need-add-from-number
-add-from-number c = omega (arith, row-in (c .before .before .before .before .pre))
+add-from-number c = omega (arith, row-in (c .before .before .before .before .before .pre))
 
 mul-from-number : tie.Need-mul-from-number
-mul-from-number c = omega (arith, row-in (c .before .before .before .before .pre))
+mul-from-number c = omega (arith, row-in (c .before .before .before .before .before .pre))
 
 slice-read-from-number : tie.Need-slice-read-from-number
-slice-read-from-number c = omega (arith, row-in (c .before .before .before .before .before .pre))
+slice-read-from-number c = omega (arith, row-in (c .before .before .before .before .before .before .pre))
 
 from-number-requires : tie.Need-from-number-requires
 from-number-requires c κs = search needs
@@ -43,7 +43,7 @@ enum-told : tie.Need-enum-told
 enum-told c = search needs
 
 returns-2 : tie.Need-returns-2
-returns-2 c = let s = c .before .before .before .before .before .before .before .before in
+returns-2 c = let s = c .before .before .before .before .before .before .before .before .before in
     no-role (s .pre) (sym (c .before .before .from-number .ensures) ∙ c .enum-told .given .1)
 
 word-requires : tie.Need-word-requires
@@ -56,38 +56,39 @@ add-from : tie.Need-add-from
 add-from c = search needs
 
 add-word : tie.Need-add-word
-add-word c = omega (arith, row-in (c .before .before .before .before .before .before .before .before .before .before .before .before .pre))
+add-word c = omega (arith, row-in (c .before .before .before .before .before .before .before .before .before .before .before .before .before .pre))
 
 word-requires-2 : tie.Need-word-requires-2
-word-requires-2 c κs = omega (arith, row-in (c .before .before .before .before .before .before .before .before .before .before .before .before .pre))
+word-requires-2 c κs = omega (arith, row-in (c .before .before .before .before .before .before .before .before .before .before .before .before .before .pre))
 
 add-from-2 : tie.Need-add-from-2
 add-from-2 c = search needs
 
 add-word-2 : tie.Need-add-word-2
-add-word-2 c = omega (arith, row-in (c .before .before .before .before .before .before .before .before .before .before .before .before .before .before .pre))
+add-word-2 c =
+    omega (arith, row-in (c .before .before .before .before .before .before .before .before .before .before .before .before .before .before .before .pre))
 
 word-requires-3 : tie.Need-word-requires-3
 word-requires-3 c κs =
-    omega (arith, row-in (c .before .before .before .before .before .before .before .before .before .before .before .before .before .before .pre))
+    omega (arith, row-in (c .before .before .before .before .before .before .before .before .before .before .before .before .before .before .before .pre))
 
 add-to : tie.Need-add-to
 add-to c = search needs
 
-mul-judge : tie.Need-mul-judge
-mul-judge c = search needs
+mul-judge-hinted : tie.Need-mul-judge-hinted
+mul-judge-hinted c = search needs
 
-sub-judge : tie.Need-sub-judge
-sub-judge c = search needs
+sub-judge-hinted : tie.Need-sub-judge-hinted
+sub-judge-hinted c = search needs
 
-part-judge-start : tie.Need-part-judge-start
-part-judge-start c = search needs
+part-judge-hinted-start : tie.Need-part-judge-hinted-start
+part-judge-hinted-start c = search needs
 
 -- What is known once the role and the path's place are read.
 abbrev known : tie.After-word3 → Known
 known c =
     let r = c .before .before .before .before .before .before .before .before .before in
-    let s = r .before .before .before .before .before .before in
+    let s = r .before .before .before .before .before .before .before in
     record {
       reg = s .args .reg .now;
       ws = s .args .led .now;
@@ -104,11 +105,11 @@ known c =
       long-read = c .word3 .ensures .0;
     }
 
-part-judge-end : tie.Need-part-judge-end
-part-judge-end c = part-in (known (c .before))
+part-judge-hinted-end : tie.Need-part-judge-hinted-end
+part-judge-hinted-end c = part-in (known (c .before))
 
-judge-requires : tie.Need-judge-requires
-judge-requires c κs = may-judge (known (c .before .before))
+judge-hinted-requires : tie.Need-judge-hinted-requires
+judge-hinted-requires c κs = may-judge (known (c .before .before))
 
 verdict-of-requires : tie.Need-verdict-of-requires
 verdict-of-requires c κs = search needs
@@ -122,7 +123,7 @@ same-length c = search needs
 returns-3 : tie.Need-returns-3
 returns-3 c =
     let v = c .before .before .before .before in
-    rejudged-row (known (v .before .before .before .before)) (v .before .judge .ensures) (v .verdict-of .ensures) (c .before .before .restamp .ensures)
+    rejudged-row (known (v .before .before .before .before)) (v .before .judge-hinted .ensures) (v .verdict-of .ensures) (c .before .before .restamp .ensures)
 
 pub rejudge-row-spec : {M : Type 1} → statement M
 rejudge-row-spec =
@@ -150,11 +151,11 @@ rejudge-row-spec =
     add-word-2
     word-requires-3
     add-to
-    mul-judge
-    sub-judge
-    part-judge-start
-    part-judge-end
-    judge-requires
+    mul-judge-hinted
+    sub-judge-hinted
+    part-judge-hinted-start
+    part-judge-hinted-end
+    judge-hinted-requires
     verdict-of-requires
     restamp-requires
     same-length

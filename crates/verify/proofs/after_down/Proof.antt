@@ -1,33 +1,31 @@
 -- `verify::after_down` meets its contract. Assumes nothing.
+use mathlib.Core.Logic.{⊎-elim}
 use borrow.Author.Needs.{needs}
 use Rattle.verify.proofs.after_down.Statement.{statement}
 use Rattle.verify.proofs.after_down.Tie as tie
 
-enum-told : tie.Need-enum-told
-enum-told c = search needs
+add-l : tie.Need-add-l
+add-l c = search needs
 
-add-t5 : tie.Need-add-t5
-add-t5 c = search needs
+is-not-plus-requires : tie.Need-is-not-plus-requires
+is-not-plus-requires c κs = search needs
 
-enum-told-2 : tie.Need-enum-told-2
-enum-told-2 c = search needs
-
-enum-told-3 : tie.Need-enum-told-3
-enum-told-3 c = search needs
-
-add-t6 : tie.Need-add-t6
-add-t6 c = search needs
+is-plus-requires : tie.Need-is-plus-requires
+is-plus-requires c κs = search needs
 
 returns : tie.Need-returns
-returns c = rw (c .enum-told .given .1)
+returns c =
+    let b = c .before .before in
+    rw (← b .before .is-not-plus .ensures, ← c .before .is-plus .ensures, c .if2 .taken)
+    (⊎-elim (λ w. rw (w .0 .taken, w .1)) (λ w. rw (w .0 .left, w .1)) (b .if1 .came))
 
 returns-2 : tie.Need-returns-2
-returns-2 c = rw (c .enum-told2 .given .1)
-
-returns-3 : tie.Need-returns-3
-returns-3 c = rw (c .enum-told3 .given .1)
+returns-2 c =
+    let b = c .before .before in
+    rw (← b .before .is-not-plus .ensures, ← c .before .is-plus .ensures, c .if2 .left)
+    (⊎-elim (λ w. rw (w .0 .taken, w .1)) (λ w. rw (w .0 .left, w .1)) (b .if1 .came))
 
 pub after-down-spec : {M : Type 1} → statement M
 after-down-spec =
     tie.close
-    (tie.spec enum-told add-t5 enum-told-2 enum-told-3 add-t6 returns returns-2 returns-3)
+    (tie.spec add-l is-not-plus-requires is-plus-requires returns returns-2)

@@ -1,0 +1,206 @@
+//! The tables that are measured, made from the same random numbers in every run.
+
+/// xorshift64*.
+pub struct Random(pub u64);
+
+impl Random {
+    pub fn next(&mut self) -> u32 {
+        self.0 ^= self.0 >> 12;
+        self.0 ^= self.0 << 25;
+        self.0 ^= self.0 >> 27;
+        (self.0.wrapping_mul(0x2545_F491_4F6C_DD1D) >> 32) as u32
+    }
+
+    pub fn below(&mut self, n: usize) -> usize {
+        self.next() as usize % n
+    }
+
+    fn shuffle<T>(&mut self, items: &mut [T]) {
+        for i in (1..items.len()).rev() {
+            items.swap(i, self.below(i + 1));
+        }
+    }
+}
+
+/// Where AS numbers are drawn from: ranges, first and last number included.
+pub struct Numbers {
+    pub name: &'static str,
+    ranges: &'static [(u32, u32)],
+    consecutive: bool,
+}
+
+/// The registries' blocks: 16-bit numbers, APNIC, RIPE NCC, LACNIC, AFRINIC, ARIN.
+const BLOCKS: [(u32, u32); 6] = [
+    (1, 64495),
+    (131072, 153913),
+    (196608, 216475),
+    (262144, 275452),
+    (327680, 329727),
+    (393216, 402332),
+];
+
+pub const ALL: Numbers = Numbers {
+    name: "all below 2^31",
+    ranges: &[(2, (1 << 31) + 1)],
+    consecutive: false,
+};
+
+pub const OTHERS: [Numbers; 8] = [
+    Numbers {
+        name: "the registries' blocks",
+        ranges: &BLOCKS,
+        consecutive: false,
+    },
+    Numbers {
+        name: "16 bits and one registry's block",
+        ranges: &[BLOCKS[0], BLOCKS[2]],
+        consecutive: false,
+    },
+    Numbers {
+        name: "16 bits",
+        ranges: &[BLOCKS[0]],
+        consecutive: false,
+    },
+    Numbers {
+        name: "consecutive",
+        ranges: &[(200_000, 203_071)],
+        consecutive: true,
+    },
+    Numbers {
+        name: "the private 32-bit range",
+        ranges: &[(4_200_000_000, 4_294_967_294)],
+        consecutive: false,
+    },
+    Numbers {
+        name: "one million private numbers",
+        ranges: &[(4_200_000_000, 4_200_999_999)],
+        consecutive: false,
+    },
+    Numbers {
+        name: "half in blocks, half in that million",
+        ranges: &[BLOCKS[0], BLOCKS[2], (4_200_000_000, 4_200_084_362)],
+        consecutive: false,
+    },
+    Numbers {
+        name: "65 thousand, far below one more",
+        ranges: &[(1_000_000, 1_065_535), (4_294_967_294, 4_294_967_294)],
+        consecutive: false,
+    },
+];
+
+impl Numbers {
+    fn draw(&self, random: &mut Random) -> u32 {
+        let size = |&(first, last): &(u32, u32)| (last - first) as usize + 1;
+        let mut i = random.below(self.ranges.iter().map(size).sum());
+        for range in self.ranges {
+            if i < size(range) {
+                return range.0 + i as u32;
+            }
+            i -= size(range);
+        }
+        unreachable!("below the sum of the sizes")
+    }
+
+    /// So many customers, ascending: the last number of the last range among them, so that it is surely there.
+    fn customers(&self, random: &mut Random, records: usize) -> Vec<u32> {
+        let (first, last) = (self.ranges[0].0, self.ranges[self.ranges.len() - 1].1);
+        if self.consecutive {
+            return (first + records as u32..).take(records).collect();
+        }
+        let mut customers = vec![last];
+        while customers.len() < records {
+            customers.extend((customers.len()..records).map(|_| self.draw(random)));
+            customers.sort_unstable();
+            customers.dedup();
+        }
+        customers
+    }
+}
+
+pub const ROUTES: usize = 512;
+pub const PATH: usize = 16;
+
+pub struct Work {
+    pub customers: Vec<u32>,
+    pub lists: Vec<Vec<u32>>,
+    pub paths: Vec<Vec<u32>>,
+}
+
+/// Half of the numbers on each path have a record. A customer's list holds, 15 times in 16, the neighbour on the path that it climbs to:
+/// on an upstream route the one on its left, on a downstream route the one towards the middle. A list that is full leaves some out.
+pub fn make(random: &mut Random, numbers: &Numbers, records: usize, providers: usize) -> Work {
+    let customers = numbers.customers(random, records);
+    let mut found: Vec<usize> = (0..ROUTES * PATH / 2).map(|i| i % records).collect();
+    random.shuffle(&mut found);
+    let mut lists = vec![Vec::new(); records];
+    let mut paths = Vec::new();
+    for (route, used) in found.chunks_exact(PATH / 2).enumerate() {
+        let mut places: Vec<Option<usize>> = used.iter().map(|&i| Some(i)).collect();
+        places.resize(PATH, None);
+        random.shuffle(&mut places);
+        let mut path: Vec<u32> = Vec::new();
+        for place in &places {
+            path.push(match place {
+                Some(i) => customers[*i],
+                None => loop {
+                    let x = numbers.draw(random);
+                    if customers.binary_search(&x).is_err() {
+                        break x;
+                    }
+                },
+            });
+        }
+        // Two equal neighbours would be merged, and the path shorter.
+        for j in 1..PATH {
+            while path[j] == path[j - 1] {
+                path[j] = customers[random.below(records)];
+            }
+        }
+        for (j, place) in places.iter().enumerate() {
+            let climbs_right = role_of(route) == 3 && j < PATH / 2;
+            let next = if climbs_right {
+                path.get(j + 1)
+            } else {
+                j.checked_sub(1).map(|j| &path[j])
+            };
+            if let (Some(i), Some(&y)) = (place, next) {
+                let list = &mut lists[*i];
+                if random.below(16) != 0 && list.len() < providers && !list.contains(&y) {
+                    list.push(y);
+                }
+            }
+        }
+        paths.push(path);
+    }
+    for list in &mut lists {
+        while list.len() < providers {
+            let y = random.next();
+            if !list.contains(&y) {
+                list.push(y);
+            }
+        }
+        list.sort_unstable();
+    }
+    Work {
+        customers,
+        lists,
+        paths,
+    }
+}
+
+pub fn role_of(route: usize) -> u32 {
+    if route.is_multiple_of(2) {
+        1
+    } else {
+        3
+    }
+}
+
+/// One AS_SEQUENCE.
+pub fn attribute(path: &[u32]) -> Vec<u8> {
+    let mut bytes = vec![2, path.len() as u8];
+    for x in path {
+        bytes.extend(x.to_be_bytes());
+    }
+    bytes
+}

@@ -1,0 +1,47 @@
+-- `register::hints::low_end` meets its contract. Assumes nothing.
+use borrow.Author.Needs.{needs}
+use native.Mathlib.Omega.{arith}
+use mathlib.Core.Path.{sym, _∙_}
+use Rattle.register.proofs.Looking.{head-within, count-is, starts, goes-up}
+use Rattle.register.proofs.hints.low_end.Statement.{statement}
+use Rattle.register.proofs.hints.low_end.Tie as tie
+
+word-requires : tie.Need-word-requires
+word-requires c κs = omega (arith, head-within _ (c .before .before .pre))
+
+hint-at-requires : tie.Need-hint-at-requires
+hint-at-requires c κs = search needs
+
+sub-stands-before : tie.Need-sub-stands-before
+sub-stands-before c = search needs
+
+stands-before-requires : tie.Need-stands-before-requires
+stands-before-requires c κs =
+    let s = c .before .before .before .before .before in
+    (s .pre, omega (arith, count-is _ (s .pre), c .before .before .word .ensures .0, c .before .hint-at .ensures, c .if1 .taken))
+
+returns : tie.Need-returns
+returns c =
+    let s = c .before .before .before .before .before .before .before in
+    let h = c .before .before .before in
+    let w = starts (s .args .reg .now) (s .args .customer) 0 _ (s .pre) (h .before .word .ensures .0) in
+    let u = goes-up w _ (omega (arith, h .hint-at .ensures, c .before .before .if1 .taken)) (sym (c .if2 .taken) ∙ c .before .stands-before .ensures) in
+    omega (arith, u .over, c .before .before .if1 .taken)
+
+returns-2 : tie.Need-returns-2
+returns-2 c = search needs
+
+returns-3 : tie.Need-returns-3
+returns-3 c = search needs
+
+pub low-end-spec : {M : Type 1} → statement M
+low-end-spec =
+    tie.close
+    (tie.spec
+    word-requires
+    hint-at-requires
+    sub-stands-before
+    stands-before-requires
+    returns
+    returns-2
+    returns-3)

@@ -1,0 +1,141 @@
+-- `register::hops_from` meets its contract. Assumes nothing.
+use borrow.Author.Needs.{needs}
+use mathlib.Core.Path.{_∙_}
+use mathlib.Core.Logic.{⊎-elim}
+use Prim.Native.Nat.{_-_}
+use native.Mathlib.Omega.{arith}
+use Rattle.register.proofs.Looking.{head-within}
+use Rattle.register.proofs.Hopping.{Passing, Hearing, starts, listens, row-of, list-in, passes, hears, none-left, others-left, arrives}
+use Rattle.register.proofs.hops_from.Statement.{statement}
+use Rattle.register.proofs.hops_from.Tie as tie
+
+abbrev Inv-loop : tie.InvT-loop
+Inv-loop reg place x y z n bodies has-y₀ has-z₀ i₀ has-y has-z i = Passing reg place x n i × Hearing reg x y has-y i × Hearing reg x z has-z i
+
+abbrev μ-loop : tie.MeasureT-loop
+μ-loop reg place x y z n bodies has-y₀ has-z₀ i₀ has-y has-z i = n - i
+
+word-requires : tie.Need-word-requires Inv-loop μ-loop
+word-requires c κs = omega (arith, head-within (c .before .args .reg .now) (c .before .pre .0))
+
+mul-bodies : tie.Need-mul-bodies Inv-loop μ-loop
+mul-bodies c = search needs
+
+add-bodies : tie.Need-add-bodies Inv-loop μ-loop
+add-bodies c = search needs
+
+loop-holds : tie.Need-loop-holds Inv-loop μ-loop
+loop-holds c =
+    let s = c .before .before in
+    let r = s .args .reg .now in
+    let l = listens r (s .args .x) (s .args .place) (s .pre .0) (s .pre .1) in
+    (starts r (s .args .x) (s .args .place) (s .pre .0) (s .pre .1) _ (c .word .ensures .0), l (s .args .y), l (s .args .z))
+
+mul-at : tie.Need-mul-at Inv-loop μ-loop
+mul-at c = search needs
+
+add-at : tie.Need-add-at Inv-loop μ-loop
+add-at c = search needs
+
+mul-if1 : tie.Need-mul-if1 Inv-loop μ-loop
+mul-if1 c = search needs
+
+shared-slice-read-if1 : tie.Need-shared-slice-read-if1 Inv-loop μ-loop
+shared-slice-read-if1 c = omega (arith, row-of (c .before .before .loop .inv .0) (c .before .loop-test .left))
+
+add-word : tie.Need-add-word Inv-loop μ-loop
+add-word c = search needs
+
+word-requires-2 : tie.Need-word-requires-2 Inv-loop μ-loop
+word-requires-2 c κs = omega (arith, row-of (c .before .before .before .loop .inv .0) (c .before .before .loop-test .left))
+
+add-from : tie.Need-add-from Inv-loop μ-loop
+add-from c = search needs
+
+add-word-2 : tie.Need-add-word-2 Inv-loop μ-loop
+add-word-2 c = search needs
+
+word-requires-3 : tie.Need-word-requires-3 Inv-loop μ-loop
+word-requires-3 c κs = omega (arith, row-of (c .before .before .before .before .loop .inv .0) (c .before .before .before .loop-test .left))
+
+add-to : tie.Need-add-to Inv-loop μ-loop
+add-to c = search needs
+
+mul-scan : tie.Need-mul-scan Inv-loop μ-loop
+mul-scan c = search needs
+
+sub-scan : tie.Need-sub-scan Inv-loop μ-loop
+sub-scan c = search needs
+
+part-scan-start : tie.Need-part-scan-start Inv-loop μ-loop
+part-scan-start c = search needs
+
+part-scan-end : tie.Need-part-scan-end Inv-loop μ-loop
+part-scan-end c =
+    let l = c .before .before .before .before in
+    omega (arith, list-in (l .before .loop .inv .0) (l .loop-test .left) (c .before .word2 .ensures .0) (c .word3 .ensures .0))
+
+scan-requires : tie.Need-scan-requires Inv-loop μ-loop
+scan-requires c κs = search needs
+
+add-i : tie.Need-add-i Inv-loop μ-loop
+add-i c = search needs
+
+loop-less : tie.Need-loop-less Inv-loop μ-loop
+loop-less c = search needs
+
+loop-again : tie.Need-loop-again Inv-loop μ-loop
+loop-again c =
+    let l = c .before .before .before .before .before .before .before .before in
+    let w = c .before .before .before .before in
+    let b = l .before .loop .inv in
+    let h = l .loop-test .left in
+    let u = w .before .word2 .ensures .0 in
+    let v = w .word3 .ensures .0 in
+    let e = w .before .before .if1 .left in
+    let s = c .before .before .scan .ensures in
+    (passes (b .0) h e, hears (b .0) h u v e (b .1) (s .0), hears (b .0) h u v e (b .2) (s .1))
+
+hop-by-requires : tie.Need-hop-by-requires Inv-loop μ-loop
+hop-by-requires c κs = search needs
+
+hop-by-requires-2 : tie.Need-hop-by-requires-2 Inv-loop μ-loop
+hop-by-requires-2 c κs = search needs
+
+returns : tie.Need-returns Inv-loop μ-loop
+returns c =
+    let b = c .before .before .before .loop .inv in
+    let e = ⊎-elim (λ w. none-left (b .0) (w .taken)) (λ w. others-left (b .0) (w .0 .left) (w .2 .taken)) (c .before .before .loop-test .came) in
+    (c .before .hop-by .ensures ∙ arrives (b .0) e (b .1), c .hop-by2 .ensures ∙ arrives (b .0) e (b .2))
+
+pub hops-from-spec : {M : Type 1} → statement M
+hops-from-spec =
+    tie.close
+    (tie.spec
+    Inv-loop
+    μ-loop
+    word-requires
+    mul-bodies
+    add-bodies
+    loop-holds
+    mul-at
+    add-at
+    mul-if1
+    shared-slice-read-if1
+    add-word
+    word-requires-2
+    add-from
+    add-word-2
+    word-requires-3
+    add-to
+    mul-scan
+    sub-scan
+    part-scan-start
+    part-scan-end
+    scan-requires
+    add-i
+    loop-less
+    loop-again
+    hop-by-requires
+    hop-by-requires-2
+    returns)

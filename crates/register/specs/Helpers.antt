@@ -1,0 +1,28 @@
+-- What the register's own functions ask of each other and count. No call's promise speaks of it.
+use Prim.Native.Nat.{ℕ, _+_, _≤_}
+use mathlib.Core.Path.{_≡_}
+use mathlib.Core.Bool.{true, cond}
+use mathlib.Core.List.{List, [], _∷_}
+use lib.Dec.{ltb}
+use lib.ListN.{length}
+use Rattle.register.specs.Register.{recordsOf, registerOk, placeOf}
+
+-- How often a number of a list does not stand above the one before it.
+unfoldable pub descentsFrom : ℕ → List ℕ → ℕ
+descentsFrom x [] = 0
+descentsFrom x (y ∷ l) = cond (ltb x y) (descentsFrom y l) (descentsFrom y l + 1)
+
+unfoldable pub descentsIn : List ℕ → ℕ
+descentsIn [] = 0
+descentsIn (x ∷ l) = descentsFrom x l
+
+-- A pair's place in a well-formed register is one of low to high.
+pub record Within (ws : List ℕ) (customer source low high : ℕ) : Type 0 where
+  pub ok : registerOk ws ≡ true
+  pub over : low ≤ placeOf customer source (recordsOf ws)
+  pub under : placeOf customer source (recordsOf ws) ≤ high
+  pub inside : high ≤ length (recordsOf ws)
+
+-- The words of hints before the first hint.
+abbrev pub headWords : ℕ
+headWords = 9
