@@ -1,11 +1,11 @@
--- A number sought in a list, and the hop by a customer's united lists, from an index of the records on. Assumes nothing.
+-- A number sought in a list, and in a customer's united lists, from an index of the records on and record by record. Assumes nothing.
 use Prim.Native.Nat.{ℕ, zero, suc, _+_, _≤_, _<_}
 use mathlib.Core.Path.{_≡_, refl, sym, _∙_, ap}
 use mathlib.Core.Bool.{Bool, true, false, cond, _||_, or-true, or-false}
 use mathlib.Core.List.{List, [], _∷_, _++_}
 use native.Mathlib.Numerals.{add-one}
 use native.Mathlib.Omega.{arith}
-use borrow.Author.Tests.{eq-eqb, ne-eqb}
+use borrow.Author.Tests.{eqb-true, eq-eqb, ne-eqb}
 use lib.Dec.{eqb}
 use lib.ListN.{length, getD, drop, drop-of-length-le}
 use lib.Seq.{drop-cons, drop-nil}
@@ -113,3 +113,49 @@ module _ (x : ℕ) where
           ≡ cond b (cond (isIn y (united rs x)) ProviderPlus NotProviderPlus) NoAttestation
       go true p = refl
       go false p = rw (none-united rs p)
+
+-- ---- the union, record by record
+
+-- Of two tests the second holds, so one of them does.
+either-right : (a b : Bool) → b ≡ true → (a || b) ≡ true
+either-right true b h = refl
+either-right false b h = h
+
+-- A number in the list of one of a customer's records is in the customer's united lists.
+pub listed-united : (rs : List Record) (x y i : ℕ) → i < length rs → recordAt rs i .customer ≡ x → isIn y (recordAt rs i .providers) ≡ true
+    → isIn y (united rs x) ≡ true
+unfolding united
+listed-united [] x y i h e t = absurd (omega arith)
+listed-united (r ∷ rs) x y zero h e t = rw (eq-eqb (r .customer) x e, in-append y (r .providers) (united rs x), t)
+listed-united (r ∷ rs) x y (suc i) h e t = go (eqb (r .customer) x) (listed-united rs x y i (omega arith) e t)
+  where
+    go : (b : Bool) → isIn y (united rs x) ≡ true → isIn y (cond b (r .providers ++ united rs x) (united rs x)) ≡ true
+    go true ih = in-append y (r .providers) (united rs x) ∙ either-right (isIn y (r .providers)) (isIn y (united rs x)) ih
+    go false ih = ih
+
+-- A record of a customer, whose list holds a number.
+pub record Lists (rs : List Record) (x y : ℕ) : Type 0 where
+  pub at : ℕ
+  pub within : at < length rs
+  pub owner : recordAt rs at .customer ≡ x
+  pub inside : isIn y (recordAt rs at .providers) ≡ true
+
+-- One record further on.
+further : (r : Record) (rs : List Record) (x y : ℕ) → Lists rs x y → Lists (r ∷ rs) x y
+further r rs x y l = record { at = suc (l .at); within = omega arith; owner = l .owner; inside = l .inside }
+
+-- A number in a customer's united lists is in the list of one of its records.
+pub united-listed : (rs : List Record) (x y : ℕ) → isIn y (united rs x) ≡ true → Lists rs x y
+unfolding united isIn
+united-listed [] x y h = absurd (let z : _≡_ {A = ℕ} 0 1 = cc in omega arith)
+united-listed (r ∷ rs) x y h = go (eqb (r .customer) x) refl h (united-listed rs x y)
+  where
+    here : eqb (r .customer) x ≡ true → (b : Bool) → isIn y (r .providers) ≡ b → (b || isIn y (united rs x)) ≡ true
+        → (isIn y (united rs x) ≡ true → Lists rs x y) → Lists (r ∷ rs) x y
+    here p true q g ih = record { at = 0; within = omega arith; owner = eqb-true (r .customer) x p; inside = q }
+    here p false q g ih = further r rs x y (ih g)
+
+    go : (b : Bool) → eqb (r .customer) x ≡ b → isIn y (cond b (r .providers ++ united rs x) (united rs x)) ≡ true
+        → (isIn y (united rs x) ≡ true → Lists rs x y) → Lists (r ∷ rs) x y
+    go true p g ih = here p (isIn y (r .providers)) refl (sym (in-append y (r .providers) (united rs x)) ∙ g) ih
+    go false p g ih = further r rs x y (ih g)

@@ -81,7 +81,8 @@ fn is_before(c1: u32, s1: u32, c2: u32, s2: u32) -> bool
     false
 }
 
-// How often a number does not stand above the one before it. Without a way out of the loop it is done on several words at a time.
+// How often a number does not stand above the one before it. The loop has no early exit, so that the compiler takes several words at
+// a time.
 fn descents(list: &[u32]) -> u32
     requires { ⌜ length (now list) < 2 ^ 32 ⌝ }
     ensures { λ r. ⌜ (r ≡ descentsIn (now (list .entry))) × (r ≤ length (now (list .entry))) ⌝ }
@@ -204,12 +205,12 @@ fn is_at(reg: &[u32], place: usize, customer: u32, source: u32) -> bool
 }
 
 // Which of two numbers a list holds.
-pub struct Listed {
-    pub y: bool,
-    pub z: bool,
+struct Listed {
+    y: bool,
+    z: bool,
 }
 
-// Without a way out of the loop it is done on several words at a time.
+// The loop has no early exit, so that the compiler takes several words at a time.
 fn scan(list: &[u32], y: u32, z: u32) -> Listed
     ensures { λ r. ⌜ (r .y ≡ isIn y (now (list .entry))) × (r .z ≡ isIn z (now (list .entry))) ⌝ }
 {

@@ -31,7 +31,7 @@ const MOST_PLACE: u32 = 64;
 
 // ---- the check
 
-// Without a way out of the loop it is done on several words at a time.
+// The loop has no early exit, so that the compiler takes several words at a time.
 fn has_no_zero(path: &[u32]) -> bool
     ensures { λ r. ⌜ r ≡ noZero (now (path .entry)) ⌝ }
 {

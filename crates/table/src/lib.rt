@@ -37,7 +37,7 @@ fn rows_ok(s: &[u32], h: usize, t: usize, at: usize, m: usize, b: u32) -> bool
     next == b
 }
 
-// Every word from index at on is 0. Without a way out of the loop it is done on several words at a time.
+// Every word from index at on is 0. The loop has no early exit, so that the compiler takes several words at a time.
 fn zeros_from(s: &[u32], at: usize) -> bool
     requires { ⌜ at ≤ length (now s) ⌝ }
     ensures { λ r. ⌜ r ≡ allZero (drop at (now (s .entry))) ⌝ }
