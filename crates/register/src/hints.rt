@@ -1,8 +1,9 @@
 // Look-up by hints, for whoever looks many customers up in one register.
 //
 // A hint is a guess at the place where a customer's records begin. The caller lends words for hints and has them filled once. Most
-// customers are then found by three reads of the register: the records around the place that was guessed show that it is the one.
-// Where they do not, the range is halved as ever. So a wrong hint costs time and no answer, and nothing is promised of hints.
+// customers are then found by three reads of the register: the records around the place that was guessed show that it is the one, or
+// that the next is. Where they do not, the records from there on are searched by halves. So a wrong hint costs time and no answer, and
+// nothing is promised of hints.
 //
 // Customers are dealt into cells in their order, and a cell's hint is how many records have a lower cell. Cells are as wide as suits
 // the customers that there are: these are cut in two parts at their widest gap, since public and private AS numbers lie far apart,
@@ -199,7 +200,7 @@ fn hint_at(hints: &[u32], at: usize, n: usize) -> usize
 }
 
 // A place that is not behind the customer's: the hint at an index, if the record before it bears it out.
-fn low_end(reg: &[u32], hints: &[u32], at: usize, customer: u32) -> usize
+fn tested(reg: &[u32], hints: &[u32], at: usize, customer: u32) -> usize
     requires { ⌜ registerOk (now reg) ≡ true ⌝ }
     ensures { λ r. ⌜ r ≤ placeOf customer 0 (recordsOf (now (reg .entry))) ⌝ }
 {
@@ -210,22 +211,6 @@ fn low_end(reg: &[u32], hints: &[u32], at: usize, customer: u32) -> usize
         }
     }
     0
-}
-
-// A place that is not before the customer's: the hint at an index, if the record there bears it out.
-fn high_end(reg: &[u32], hints: &[u32], at: usize, customer: u32) -> usize
-    requires { ⌜ registerOk (now reg) ≡ true ⌝ }
-    ensures { λ r. ⌜ (placeOf customer 0 (recordsOf (now (reg .entry))) ≤ r) × (r ≤ length (recordsOf (now (reg .entry)))) ⌝ }
-{
-    let n = table::word(reg, 0);
-    let high = hint_at(hints, at, n);
-    if high < n {
-        if stands_before(reg, high, customer, 0) {
-            return n;
-        }
-        return high;
-    }
-    n
 }
 
 // One place further, if the record there stands before the customer's.
@@ -242,27 +227,41 @@ fn advance(reg: &[u32], low: usize, customer: u32) -> usize
     next
 }
 
-// Where a customer's records begin, or would: the place that `find` answers for source 0, whatever the hints are. Without hints it is
-// found as there.
+// A place that is not behind the customer's, near its hint; without hints, the first.
+fn low_end(reg: &[u32], hints: &[u32], customer: u32) -> usize
+    requires { ⌜ registerOk (now reg) ≡ true ⌝ }
+    ensures { λ r. ⌜ r ≤ placeOf customer 0 (recordsOf (now (reg .entry))) ⌝ }
+{
+    if hints.len() < FIRST_CELL {
+        return 0;
+    }
+    let at = cell(hints, customer);
+    advance(reg, tested(reg, hints, at, customer), customer)
+}
+
+// No record stands before the customer's from a place on. Without hints nothing is looked at, and the answer is no.
+fn is_high_end(reg: &[u32], hints: &[u32], low: usize, customer: u32) -> bool
+    requires { ⌜ registerOk (now reg) ≡ true ⌝ }
+    ensures { λ r. ⌜ (r ≡ true → placeOf customer 0 (recordsOf (now (reg .entry))) ≤ low) ⌝ }
+{
+    if hints.len() < FIRST_CELL {
+        return false;
+    }
+    if low < table::word(reg, 0) {
+        return !stands_before(reg, low, customer, 0);
+    }
+    true
+}
+
+// Where a customer's records begin, or would: the place that `find` answers for source 0, whatever the hints are. Without hints it
+// looks at the same records.
 pub fn find(reg: &[u32], hints: &[u32], customer: u32) -> usize
     requires { ⌜ registerOk (now reg) ≡ true ⌝ }
     ensures { λ r. ⌜ r ≡ placeOf customer 0 (recordsOf (now (reg .entry))) ⌝ }
 {
-    if hints.len() < FIRST_CELL {
-        return crate::find(reg, customer, 0);
+    let low = low_end(reg, hints, customer);
+    if is_high_end(reg, hints, low, customer) {
+        return low;
     }
-    let at = cell(hints, customer);
-    let low = advance(reg, low_end(reg, hints, at, customer), customer);
-    if low < table::word(reg, 0) {
-        if stands_before(reg, low, customer, 0) {
-            return search(
-                reg,
-                low + 1,
-                high_end(reg, hints, at + 1, customer),
-                customer,
-                0,
-            );
-        }
-    }
-    low
+    search(reg, low, table::word(reg, 0), customer, 0)
 }

@@ -11,7 +11,8 @@ use Rattle.register.proofs.hints.cut.Statement.{statement}
 use Rattle.register.proofs.hints.cut.Tie as tie
 
 abbrev Inv-loop : tie.InvT-loop
-Inv-loop reg n place₀ widest₀ i₀ place widest i = (registerOk reg ≡ true) × (n ≡ length (recordsOf reg)) × (n ≤ mostRecords) × (1 ≤ i) × (place < n)
+Inv-loop reg n place₀ widest₀ i₀ place widest i =
+    (registerOk reg ≡ true) × (n ≡ length (recordsOf reg)) × (n ≤ mostRecords) × (1 ≤ i) × (place < n)
 
 abbrev μ-loop : tie.MeasureT-loop
 μ-loop reg n place₀ widest₀ i₀ place widest i = n - i

@@ -35,30 +35,36 @@ add-end : tie.Need-add-end
 add-end c = omega (arith, c .before .before .before .cut .ensures, few _ (c .before .before .before .before .before .before .before .before .pre .0))
 
 set-part-requires : tie.Need-set-part-requires
-set-part-requires c κs = let s = c .before .before .before .before .before .before .before .before .before in (omega arith, s .pre .1, omega arith, omega (arith, c .before .before .before .before .cut .ensures, few _ (s .pre .0)))
+set-part-requires c κs =
+    let s = c .before .before .before .before .before .before .before .before .before in
+    (omega arith, s .pre .1, omega arith, omega (arith, c .before .before .before .before .cut .ensures, few _ (s .pre .0)))
 
 sub-customer-at-2 : tie.Need-sub-customer-at-2
 sub-customer-at-2 c = search needs
 
 customer-at-requires-4 : tie.Need-customer-at-requires-4
 customer-at-requires-4 c κs =
-    let s = c .before .before .before .before .before .before .before .before .before .before .before .before .before in (s .pre .0, omega (arith, count-is _ (s .pre .0), c .before .before .before .before .before .before .before .before .before .before .word .ensures .0, c .before .before .before .before .before .before .before .before .before .if1 .left))
+    let t = c .before .before .before .before .before .before .before .before .before in
+    let s = t .before .before .before .before in
+    (s .pre .0, omega (arith, count-is _ (s .pre .0), t .before .word .ensures .0, t .if1 .left))
 
 add-set-part : tie.Need-add-set-part
 add-set-part c = search needs
 
 set-part-requires-2 : tie.Need-set-part-requires-2
 set-part-requires-2 c κs =
-    let s = c .before .before .before .before .before .before .before .before .before .before .before .before .before .before in
-    (omega arith, omega (arith, c .before .before .before .before .set-part .kept .0, s .pre .1), omega (arith, c .before .before .before .before .before .before .before .before .before .cut .ensures, few _ (s .pre .0)), omega arith)
+    let t = c .before .before .before .before in
+    let s = t .before .before .before .before .before .before .before .before .before .before in
+    (omega arith, omega (arith, t .set-part .kept .0, s .pre .1), omega (arith, t .before .before .before .before .before .cut .ensures, few _ (s .pre .0)), omega arith)
 
 slice-write-hints : tie.Need-slice-write-hints
 slice-write-hints c = search needs
 
 mark-requires : tie.Need-mark-requires
 mark-requires c κs =
-    let s = c .before .before .before .before .before .before .before .before .before .before .before .before .before .before .before .before .before .before in
-    (s .pre .0, simp length-set (omega (arith, c .before .before .before .set-part2 .kept .0, c .before .before .before .before .before .before .before .before .set-part .kept .0, s .pre .1)))
+    let t = c .before .before .before in
+    let s = t .before .before .before .before .before .before .before .before .before .before .before .before .before .before .before in
+    (s .pre .0, simp length-set (omega (arith, t .set-part2 .kept .0, t .before .before .before .before .before .set-part .kept .0, s .pre .1)))
 
 spread-requires : tie.Need-spread-requires
 spread-requires c κs = search needs
@@ -66,7 +72,8 @@ spread-requires c κs = search needs
 same-length : tie.Need-same-length
 same-length c =
     let t = c .before .before .before .before .before .before .before .before .before .before in
-    c .before .before .spread .kept .0 ∙ c .before .before .before .before .before .before .mark .kept .1 .0 ∙ length-set (t .set-part2 .last .0) 0 (t .before .before .before .before .before .before .before .before .customer-at2 .result)
+    c .before .before .spread .kept .0 ∙ c .before .before .before .before .before .before .mark .kept .1 .0
+    ∙ length-set (t .set-part2 .last .0) 0 (t .before .before .before .before .before .before .before .before .customer-at2 .result)
     ∙ t .set-part2 .kept .0 ∙ t .before .before .before .before .before .set-part .kept .0
 
 returns-2 : tie.Need-returns-2

@@ -12,7 +12,8 @@ use Rattle.register.proofs.hints.mark.Statement.{statement}
 use Rattle.register.proofs.hints.mark.Tie as tie
 
 abbrev Inv-loop : tie.InvT-loop
-Inv-loop reg hints₀ n i₀ hints i = (registerOk reg ≡ true) × (n ≡ length (recordsOf reg)) × (n ≤ mostRecords) × (headWords ≤ length hints) × (length hints ≡ length hints₀)
+Inv-loop reg hints₀ n i₀ hints i =
+    (registerOk reg ≡ true) × (n ≡ length (recordsOf reg)) × (n ≤ mostRecords) × (headWords ≤ length hints) × (length hints ≡ length hints₀)
 
 abbrev μ-loop : tie.MeasureT-loop
 μ-loop reg hints₀ n i₀ hints i = n - i

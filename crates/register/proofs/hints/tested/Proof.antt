@@ -1,10 +1,10 @@
--- `register::hints::low_end` meets its contract. Assumes nothing.
+-- `register::hints::tested` meets its contract. Assumes nothing.
 use borrow.Author.Needs.{needs}
 use native.Mathlib.Omega.{arith}
 use mathlib.Core.Path.{sym, _∙_}
 use Rattle.register.proofs.Looking.{head-within, count-is, starts, goes-up}
-use Rattle.register.proofs.hints.low_end.Statement.{statement}
-use Rattle.register.proofs.hints.low_end.Tie as tie
+use Rattle.register.proofs.hints.tested.Statement.{statement}
+use Rattle.register.proofs.hints.tested.Tie as tie
 
 word-requires : tie.Need-word-requires
 word-requires c κs = omega (arith, head-within _ (c .before .before .pre))
@@ -34,8 +34,8 @@ returns-2 c = search needs
 returns-3 : tie.Need-returns-3
 returns-3 c = search needs
 
-pub low-end-spec : {M : Type 1} → statement M
-low-end-spec =
+pub tested-spec : {M : Type 1} → statement M
+tested-spec =
     tie.close
     (tie.spec
     word-requires

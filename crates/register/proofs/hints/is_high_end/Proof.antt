@@ -1,0 +1,34 @@
+-- `register::hints::is_high_end` meets its contract. Assumes nothing.
+use native.Mathlib.Omega.{arith}
+use mathlib.Core.Path.{_≡_, sym, _∙_}
+use borrow.Author.Tests.{not-true}
+use Prim.Native.Nat.{ℕ}
+use Rattle.register.proofs.Looking.{head-within, count-is, starts, goes-down}
+use Rattle.register.proofs.hints.is_high_end.Statement.{statement}
+use Rattle.register.proofs.hints.is_high_end.Tie as tie
+
+returns : tie.Need-returns
+returns c = λ h. absurd (let z : _≡_ {A = ℕ} 0 1 = cc in omega arith)
+
+word-requires : tie.Need-word-requires
+word-requires c κs = omega (arith, head-within _ (c .before .before .before .pre))
+
+stands-before-requires : tie.Need-stands-before-requires
+stands-before-requires c κs =
+    let s = c .before .before .before .before .before in
+    (s .pre, omega (arith, count-is _ (s .pre), c .before .word .ensures .0, c .if2 .taken))
+
+returns-2 : tie.Need-returns-2
+returns-2 c =
+    let s = c .before .before .before .before .before .before in
+    let w = starts (s .args .reg .now) (s .args .customer) 0 _ (s .pre) (c .before .before .word .ensures .0) in
+    λ h. goes-down w _ (c .before .if2 .taken) (sym (not-true _ h) ∙ c .stands-before .ensures) .under
+
+returns-3 : tie.Need-returns-3
+returns-3 c =
+    let s = c .before .before .before .before .before in
+    let w = starts (s .args .reg .now) (s .args .customer) 0 _ (s .pre) (c .before .word .ensures .0) in
+    λ _. omega (arith, w .under, c .if2 .left)
+
+pub is-high-end-spec : {M : Type 1} → statement M
+is-high-end-spec = tie.close (tie.spec returns word-requires stands-before-requires returns-2 returns-3)
