@@ -151,6 +151,7 @@ uint32_t aspa_drop(uint32_t *ledger, size_t ledger_len, uint32_t route);
  * Judges every kept route that has no ground again by the register, and rewrites its verdict and both places in the
  * ledger. Rows 1, 2, 3.
  *   out[0]: how many entries changed in any of those three words. On a refusal 0.
+ * It takes some 17 KiB of stack; every other call takes less than 2 KiB.
  */
 uint32_t aspa_rejudge(const uint32_t *reg, size_t reg_len, uint32_t *ledger, size_t ledger_len, uint32_t out[1]);
 

@@ -224,11 +224,10 @@ impl Find for Hinted {
     #[inline(always)]
     fn find(&self, reg: &[u32], customer: u32) -> usize {
         let n = reg[0] as usize;
-        let cell = self.cell(customer);
-        let mut low = self.hints[cell] as usize;
+        let mut low = self.hints[self.cell(customer)] as usize;
         low += (low < n && customer_at(reg, low) < customer) as usize;
         if low < n && customer_at(reg, low) < customer {
-            halve(reg, low + 1, self.hints[cell + 1] as usize, customer)
+            halve(reg, low + 1, n, customer)
         } else {
             low
         }
