@@ -10,7 +10,7 @@ use Rattle.types.specs.declared.Ground.the-variants.{Empty, NotNeighbour, AsSet
 use Rattle.types.specs.Roles.{isRouteServer}
 use Rattle.as_path.specs.declared.Scan.the-variants.{Clean}
 use Rattle.as_path.specs.declared.Grounded.the-variants.{By, Not}
-use Rattle.as_path.specs.Segments.{numberAt, numbersAt, typeAt, countAt, endOf, places, segmentAt, segments}
+use Rattle.as_path.specs.Segments.{numberAt, numbersAt, typeAt, countAt, endOf, starts, segmentAt, segments}
 use Rattle.as_path.specs.Faults.{faultAmong, firstFault}
 use Rattle.as_path.specs.Grounds.{hasSet, isNotNeighbour, groundOf}
 use Rattle.as_path.proofs.MergedPaths.{segments-none, segments-some}
@@ -19,7 +19,7 @@ use Rattle.as_path.proofs.Walking.{Whole, Stand, left, first, next, non
 module _ (w : ℕ) (xs : List ℕ) where
   -- An attribute without a fault begins with a whole segment, if with anything.
   pub first-whole : firstFault w xs ≡ Clean → 0 < length xs → Whole w xs 0 (faultAmong w xs (left (next (first w xs))))
-  unfolding firstFault places
+  unfolding firstFault starts
   first-whole e h = whole-here (first w xs) h e
 
 -- The walk for a set: what is left to find.
@@ -29,7 +29,7 @@ pub record Seeking (w : ℕ) (xs : List ℕ) (at : ℕ) : Type 0 where
   pub same : hasSet (segments w xs) ≡ hasSet (map (segmentAt w xs) (left stand))
 
 pub seeks : (w : ℕ) (xs : List ℕ) → firstFault w xs ≡ Clean → Seeking w xs 0
-unfolding firstFault places segments
+unfolding firstFault starts segments
 seeks w xs e = record { stand = first w xs; clean = e; same = refl }
 
 module _ {w : ℕ} {xs : List ℕ} {at : ℕ} (k : Seeking w xs at) where

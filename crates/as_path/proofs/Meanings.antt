@@ -1,4 +1,4 @@
--- What a fault says of the bytes at its place. Assumes nothing.
+-- What a fault says of the bytes at its offset. Assumes nothing.
 use Prim.Native.Nat.{ℕ, zero, suc, _+_, _-_, _*_, _≤_, _<_}
 use mathlib.Core.Path.{_≡_, refl}
 use mathlib.Core.Bool.{Bool, true, false, cond}
@@ -12,7 +12,7 @@ use Rattle.types.specs.declared.Fault.{Fault}
 use Rattle.types.specs.declared.Fault.the-variants.{CutShort, UnknownType, Confederation, NoNumbers, ZeroNumber}
 use Rattle.as_path.specs.declared.Scan.{Scan}
 use Rattle.as_path.specs.declared.Scan.the-variants.{Faulty}
-use Rattle.as_path.specs.Segments.{numberAt, typeAt, countAt, endOf, placesFrom, places}
+use Rattle.as_path.specs.Segments.{numberAt, typeAt, countAt, endOf, startsFrom, starts}
 use Rattle.as_path.specs.Faults.{numbersFault, segmentFault, faultAmong, firstFault}
 
 -- What holds of the bytes where a fault is: rows 12 to 16.
@@ -57,20 +57,20 @@ module _ (w : ℕ) (a : List ℕ) (g : Fault) (q : ℕ) where
       numbers-mean (countAt a p) (p + 2) x (ltb-false _ _ t6) rest))))))
 
   -- A fault found on the walk from p on says what its test says.
-  pub walk-means : (f p : ℕ) → faultAmong w a (placesFrom f w a p) ≡ Faulty g q → Meaning w a g q
-  unfolding placesFrom faultAmong
+  pub walk-means : (f p : ℕ) → faultAmong w a (startsFrom f w a p) ≡ Faulty g q → Meaning w a g q
+  unfolding startsFrom faultAmong
   walk-means zero p e = let z : _≡_ {A = ℕ} 0 1 = cc in absurd (omega arith)
   walk-means (suc f) p e = go (walk-means f (endOf w a p)) (leb (length a) p) refl e
     where
       ps : List ℕ
-      ps = placesFrom f w a (endOf w a p)
+      ps = startsFrom f w a (endOf w a p)
 
       go : (faultAmong w a ps ≡ Faulty g q → Meaning w a g q) → (t : Bool) → leb (length a) p ≡ t
           → faultAmong w a (cond t [] (p ∷ ps)) ≡ Faulty g q → Meaning w a g q
       go rest true t e = let z : _≡_ {A = ℕ} 0 1 = cc in absurd (omega arith)
       go rest false t e = segment-means p _ (leb-false _ _ t) rest e
 
--- What the first fault says of the bytes at its place.
+-- What the first fault says of the bytes at its offset.
 pub fault-means : (w : ℕ) (a : List ℕ) (f : Fault) (p : ℕ) → firstFault w a ≡ Faulty f p → Meaning w a f p
-unfolding firstFault places
+unfolding firstFault starts
 fault-means w a f p e = walk-means w a f p (length a) 0 e

@@ -10,7 +10,7 @@ use lib.Dec.{eqb}
 use lib.ListN.{length, getD}
 use Rattle.as_path.specs.declared.Scan.{Scan}
 use Rattle.as_path.specs.declared.Scan.the-variants.{Clean}
-use Rattle.as_path.specs.Segments.{numberAt, numbersAt, countAt, places, segmentAt, segments}
+use Rattle.as_path.specs.Segments.{numberAt, numbersAt, countAt, starts, segmentAt, segments}
 use Rattle.as_path.specs.Faults.{numbersFault, firstFault}
 use Rattle.as_path.specs.Merging.{runsAfter, mergeRuns, mergedPath}
 use Rattle.as_path.proofs.Walking.{clean-test, left, first, next, none-left, one-more, whole-here}
@@ -92,18 +92,18 @@ merged-no-runs (x ∷ l) i h e = no-runs-after x l i (omega arith) (rw add-one a
 
 -- No bytes, no segment.
 pub segments-none : (w : ℕ) (a : List ℕ) → length a ≡ 0 → segments w a ≡ []
-unfolding segments places
+unfolding segments starts
 segments-none w a e = rw (none-left (first w a) (omega arith))
 
--- Where there are bytes, the first segment is the one at place 0.
+-- Where there are bytes, the first segment is the one at offset 0.
 pub segments-some : (w : ℕ) (a : List ℕ) → 0 < length a → segments w a ≡ segmentAt w a 0 ∷ map (segmentAt w a) (left (next (first w a)))
-unfolding segments places
+unfolding segments starts
 segments-some w a h = rw (one-more (first w a) h)
 
 -- The merged path of an attribute with bytes and without a fault is not empty, and begins with the first segment's first number.
 pub merged-first : (w : ℕ) (a : List ℕ) → firstFault w a ≡ Clean → 0 < length a
     → (0 < length (mergedPath (segments w a))) × (getD (mergedPath (segments w a)) 0 0 ≡ numberAt w a 2)
-unfolding firstFault places mergedPath mergeRuns numbersAt
+unfolding firstFault starts mergedPath mergeRuns numbersAt
 merged-first w a e h = rw (segments-some w a h) (go (countAt a 0) (whole-here (first w a) h e .some) _)
   where
     go : (n : ℕ) → (n ≡ 0 → ⊥) → (m : List ℕ)

@@ -11,13 +11,13 @@ use lib.ListN.{length, length-append, List·getD-append}
 use lib.Seq.{getD-append-add}
 use Rattle.as_path.specs.declared.Scan.{Scan}
 use Rattle.as_path.specs.declared.Scan.the-variants.{Clean, Faulty}
-use Rattle.as_path.specs.Segments.{numberAt, numbersAt, typeAt, countAt, endOf, placesFrom, places, segmentAt, segments}
+use Rattle.as_path.specs.Segments.{numberAt, numbersAt, typeAt, countAt, endOf, startsFrom, starts, segmentAt, segments}
 use Rattle.as_path.specs.Faults.{numbersFault, segmentFault, faultAmong, firstFault}
 use Rattle.as_path.proofs.Walking.{Whole, clean-test, Stand, one-more}
 use Rattle.as_path.proofs.CleanWalks.{Walked, walked}
 use Rattle.as_path.proofs.CleanWalks.Walked.{done, step}
 
--- A result that names a place q bytes further on.
+-- A result that names a offset q bytes further on.
 abbrev pub moved : ℕ → Scan → Scan
 moved q Clean = Clean
 moved q (Faulty f p) = Faulty f (q + p)
@@ -39,7 +39,7 @@ leb-moved q m n = go (leb m n) refl
 pub ltb-moved : (q m n : ℕ) → ltb (q + m) (q + n) ≡ ltb m n
 ltb-moved q m n = let z : suc (q + m) ≡ q + suc m = omega arith in rw z (leb-moved q (suc m) n)
 
--- Moving places along goes past a test whether there is any.
+-- Moving starts along goes past a test whether there is any.
 pub map-cond : (q : ℕ) (t : Bool) (l : List ℕ) → map (λ p. q + p) (cond t [] l) ≡ cond t [] (map (λ p. q + p) l)
 map-cond q true l = refl
 map-cond q false l = refl
@@ -91,7 +91,7 @@ module _ (w : ℕ) (a b : List ℕ) where
         numbers-fault-after (countAt b p) (p + 2) rest,
       ))
 
-  -- After any bytes, the first fault at places of what follows is its own, moved along.
+  -- After any bytes, the first fault at starts of what follows is its own, moved along.
   pub among-after : (ps : List ℕ) → faultAmong w (a ++ b) (map (λ p. length a + p) ps) ≡ moved (length a) (faultAmong w b ps)
   unfolding faultAmong
   among-after [] = refl
@@ -108,19 +108,19 @@ module _ (w : ℕ) (a b : List ℕ) where
         numbers-after (countAt b p) (p + 2),
       )
 
-  -- After any bytes, the segments at places of what follows are its own.
+  -- After any bytes, the segments at starts of what follows are its own.
   pub segments-after : (ps : List ℕ) → map (segmentAt w (a ++ b)) (map (λ p. length a + p) ps) ≡ map (segmentAt w b) ps
   segments-after [] = refl
   segments-after (p ∷ ps) = rw (segment-after p, segments-after ps)
 
-  -- After any bytes, with enough fuel on both sides, the places of what follows are its own, moved along.
-  pub places-after : (f g q : ℕ) → length b ≤ q + f → length b ≤ q + g
-      → placesFrom g w (a ++ b) (length a + q) ≡ map (λ p. length a + p) (placesFrom f w b q)
-  unfolding placesFrom
-  places-after zero zero q h k = refl
-  places-after zero (suc g) q h k = rw (length-append a b, le-leb (length a + length b) (length a + q) (omega arith))
-  places-after (suc f) zero q h k = rw (le-leb (length b) q (omega arith))
-  places-after (suc f) (suc g) q h k =
+  -- After any bytes, with enough fuel on both sides, the starts of what follows are its own, moved along.
+  pub starts-after : (f g q : ℕ) → length b ≤ q + f → length b ≤ q + g
+      → startsFrom g w (a ++ b) (length a + q) ≡ map (λ p. length a + p) (startsFrom f w b q)
+  unfolding startsFrom
+  starts-after zero zero q h k = refl
+  starts-after zero (suc g) q h k = rw (length-append a b, le-leb (length a + length b) (length a + q) (omega arith))
+  starts-after (suc f) zero q h k = rw (le-leb (length b) q (omega arith))
+  starts-after (suc f) (suc g) q h k =
       let y : length a + q + 2 + w * countAt b q ≡ length a + endOf w b q = omega arith in
       rw (
         length-append a b,
@@ -128,7 +128,7 @@ module _ (w : ℕ) (a b : List ℕ) where
         add-assoc (length a) q 1,
         getD-append-add a b (q + 1) 0,
         y,
-        places-after f g (endOf w b q) (omega arith) (omega arith),
+        starts-after f g (endOf w b q) (omega arith) (omega arith),
         map-cond (length a),
       )
 
@@ -164,18 +164,18 @@ module _ (w : ℕ) (a b : List ℕ) where
       (numbers-fault-before (countAt a p) (p + 2) x y (s .body) (s .numbers))
 
   -- Bytes without a fault are walked to their end, then what follows from its start.
-  pub places-before : {p : ℕ} {ps : List ℕ} → Walked w a p ps → (g : ℕ) → length a + length b ≤ p + g
-      → placesFrom g w (a ++ b) p ≡ ps ++ map (λ q. length a + q) (places w b)
-  unfolding places
-  places-before {p} (done e) g h =
+  pub starts-before : {p : ℕ} {ps : List ℕ} → Walked w a p ps → (g : ℕ) → length a + length b ≤ p + g
+      → startsFrom g w (a ++ b) p ≡ ps ++ map (λ q. length a + q) (starts w b)
+  unfolding starts
+  starts-before {p} (done e) g h =
       let z : p ≡ length a + 0 = omega arith in
-      rw z (places-after (length b) g 0 (omega arith) (omega arith))
-  places-before {p} (step s r) g h =
+      rw z (starts-after (length b) g 0 (omega arith) (omega arith))
+  starts-before {p} (step s r) g h =
       let l : length (a ++ b) ≡ length a + length b = length-append a b in
       let t : Stand w (a ++ b) p = record { fuel = g; enough = omega arith } in
-      rw (one-more t (omega arith), List·getD-append a b 0 (p + 1) (omega arith), places-before r (pred g) (omega arith))
+      rw (one-more t (omega arith), List·getD-append a b 0 (p + 1) (omega arith), starts-before r (pred g) (omega arith))
 
-  -- Before any bytes, the first fault is not among the places of bytes without a fault.
+  -- Before any bytes, the first fault is not among the starts of bytes without a fault.
   pub among-before : {p : ℕ} {ps : List ℕ} → Walked w a p ps → (qs : List ℕ) → faultAmong w (a ++ b) (ps ++ qs) ≡ faultAmong w (a ++ b) qs
   unfolding faultAmong
   among-before (done e) qs = refl
@@ -193,17 +193,17 @@ module _ (w : ℕ) (a b : List ℕ) where
       )
 
   module _ (e : firstFault w a ≡ Clean) where
-    -- After bytes without a fault, the places are theirs, then those of what follows, moved along.
-    pub places-append : places w (a ++ b) ≡ places w a ++ map (λ p. length a + p) (places w b)
-    unfolding places
-    places-append = places-before (walked w a e) (length (a ++ b)) (omega (arith, length-append a b))
+    -- After bytes without a fault, the starts are theirs, then those of what follows, moved along.
+    pub starts-append : starts w (a ++ b) ≡ starts w a ++ map (λ p. length a + p) (starts w b)
+    unfolding starts
+    starts-append = starts-before (walked w a e) (length (a ++ b)) (omega (arith, length-append a b))
 
     -- After bytes without a fault, the first fault is that of what follows, moved along.
     pub any-position : firstFault w (a ++ b) ≡ moved (length a) (firstFault w b)
     unfolding firstFault
-    any-position = rw places-append (among-before (walked w a e) _ ∙ among-after (places w b))
+    any-position = rw starts-append (among-before (walked w a e) _ ∙ among-after (starts w b))
 
     -- After bytes without a fault, the segments are theirs, then those of what follows.
     pub segments-append : segments w (a ++ b) ≡ segments w a ++ segments w b
     unfolding segments
-    segments-append = rw (places-append, map-append, segments-before (walked w a e), segments-after (places w b))
+    segments-append = rw (starts-append, map-append, segments-before (walked w a e), segments-after (starts w b))

@@ -12,7 +12,7 @@ use lib.Seq.{getD-take, getD-drop}
 use Rattle.types.specs.declared.Fault.the-variants.{CutShort, UnknownType, Confederation, NoNumbers, ZeroNumber}
 use Rattle.as_path.specs.declared.Scan.{Scan}
 use Rattle.as_path.specs.declared.Scan.the-variants.{Clean, Faulty}
-use Rattle.as_path.specs.Segments.{numberAt, numbersAt, typeAt, countAt, endOf, places, placesFrom}
+use Rattle.as_path.specs.Segments.{numberAt, numbersAt, typeAt, countAt, endOf, starts, startsFrom}
 use Rattle.as_path.specs.Faults.{numbersFault, segmentFault, faultAmong, firstFault}
 use Rattle.as_path.proofs.Walking.{Stand, left, first, next, none-left, one-more}
 
@@ -40,7 +40,7 @@ pub record Outer (w : ℕ) (xs : List ℕ) (at : ℕ) : Type 0 where
   pub same : firstFault w xs ≡ faultAmong w xs (left stand)
 
 pub start : (w : ℕ) (xs : List ℕ) → Outer w xs 0
-unfolding firstFault places
+unfolding firstFault starts
 start w xs = record { stand = first w xs; within = omega arith; same = refl }
 
 module _ {w : ℕ} {xs : List ℕ} {p : ℕ} (o : Outer w xs p) where

@@ -11,7 +11,7 @@ use lib.Dec.{eqb}
 use lib.ListN.{length, set, take, drop, length-append, length-take, length-drop, length-set}
 use lib.Seq.{sets, length-sets}
 use Rattle.as_path.specs.declared.Scan.the-variants.{Clean}
-use Rattle.as_path.specs.Segments.{numberAt, numbersAt, countAt, places, segmentAt, segments}
+use Rattle.as_path.specs.Segments.{numberAt, numbersAt, countAt, starts, segmentAt, segments}
 use Rattle.as_path.specs.Faults.{faultAmong, firstFault}
 use Rattle.as_path.specs.Merging.{runsAfter, mergeRuns, mergedPath}
 use Rattle.as_path.specs.Reading.{Stored}
@@ -140,7 +140,7 @@ pub record Gathering (w : ℕ) (xs path₀ path : List ℕ) (n at : ℕ) : Type 
   pub index : length (mergedPath (segments w xs)) ≡ n + length (mergedPath (map (segmentAt w xs) (left stand)))
 
 pub gathers : (w : ℕ) (xs path : List ℕ) → firstFault w xs ≡ Clean → Gathering w xs path path 0 0
-unfolding firstFault places segments
+unfolding firstFault starts segments
 gathers w xs path e =
     record {
       stand = first w xs;

@@ -1,4 +1,4 @@
--- A walk over the segments, once for every loop over them: which places are left, and what a segment without a fault shows. Assumes nothing.
+-- A walk over the segments, once for every loop over them: which starts are left, and what a segment without a fault shows. Assumes nothing.
 use Prim.Native.Nat.{ℕ, zero, suc, pred, _+_, _-_, _*_, _≤_, _<_}
 use mathlib.Core.Path.{_≡_, refl}
 use mathlib.Core.Bool.{Bool, true, false, cond}
@@ -10,7 +10,7 @@ use lib.ListN.{length}
 use Rattle.types.specs.declared.Fault.{Fault}
 use Rattle.as_path.specs.declared.Scan.{Scan}
 use Rattle.as_path.specs.declared.Scan.the-variants.{Clean, Faulty}
-use Rattle.as_path.specs.Segments.{numberAt, typeAt, countAt, endOf, placesFrom}
+use Rattle.as_path.specs.Segments.{numberAt, typeAt, countAt, endOf, startsFrom}
 use Rattle.as_path.specs.Faults.{numbersFault, segmentFault, faultAmong}
 
 -- A test whose fault was not found did not pass.
@@ -60,7 +60,7 @@ pub record Stand (w : ℕ) (xs : List ℕ) (at : ℕ) : Type 0 where
   pub enough : length xs ≤ at + fuel
 
 abbrev pub left : {w : ℕ} {xs : List ℕ} {at : ℕ} → Stand w xs at → List ℕ
-left {w} {xs} {at} s = placesFrom (s .fuel) w xs at
+left {w} {xs} {at} s = startsFrom (s .fuel) w xs at
 
 abbrev pub first : (w : ℕ) (xs : List ℕ) → Stand w xs 0
 first w xs = record { fuel = length xs; enough = omega arith }
@@ -70,18 +70,18 @@ next s = record { fuel = pred (s .fuel); enough = omega (arith, s .enough) }
 
 module _ {w : ℕ} {xs : List ℕ} {at : ℕ} (s : Stand w xs at) where
   pub none-left : length xs ≤ at → left s ≡ []
-  unfolding placesFrom
+  unfolding startsFrom
   none-left h = go (s .fuel)
     where
-      go : (f : ℕ) → placesFrom f w xs at ≡ []
+      go : (f : ℕ) → startsFrom f w xs at ≡ []
       go zero = refl
       go (suc f) = rw (le-leb (length xs) at h)
 
   pub one-more : at < length xs → left s ≡ at ∷ left (next s)
-  unfolding placesFrom
+  unfolding startsFrom
   one-more h = go (s .fuel) (s .enough)
     where
-      go : (f : ℕ) → length xs ≤ at + f → placesFrom f w xs at ≡ at ∷ placesFrom (pred f) w xs (endOf w xs at)
+      go : (f : ℕ) → length xs ≤ at + f → startsFrom f w xs at ≡ at ∷ startsFrom (pred f) w xs (endOf w xs at)
       go zero e = absurd (omega arith)
       go (suc f) e = rw (lt-leb (length xs) at h)
 

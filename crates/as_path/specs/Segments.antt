@@ -6,17 +6,17 @@ use mathlib.Core.Bool.{cond}
 use lib.ListN.{length, getD}
 use lib.Dec.{leb}
 
--- The number of w bytes at place p, high byte first.
+-- The number of w bytes at offset p, high byte first.
 unfoldable pub numberAt : ℕ → List ℕ → ℕ → ℕ
 numberAt zero xs p = 0
 numberAt (suc w) xs p = getD xs p 0 * 256 ^ w + numberAt w xs (p + 1)
 
--- The n numbers from place p on.
+-- The n numbers from offset p on.
 unfoldable pub numbersAt : ℕ → ℕ → List ℕ → ℕ → List ℕ
 numbersAt w zero xs p = []
 numbersAt w (suc n) xs p = numberAt w xs p ∷ numbersAt w n xs (p + w)
 
--- Of the segment at place p: its type byte, its count byte, and where the next segment starts.
+-- Of the segment at offset p: its type byte, its count byte, and where the next segment starts.
 abbrev pub typeAt : List ℕ → ℕ → ℕ
 typeAt xs p = getD xs p 0
 
@@ -26,14 +26,14 @@ countAt xs p = getD xs (p + 1) 0
 abbrev pub endOf : ℕ → List ℕ → ℕ → ℕ
 endOf w xs p = p + 2 + w * countAt xs p
 
--- Where the segments start, from place p on. The first argument bounds how many there are.
-unfoldable pub placesFrom : ℕ → ℕ → List ℕ → ℕ → List ℕ
-placesFrom zero w xs p = []
-placesFrom (suc f) w xs p = cond (leb (length xs) p) [] (p ∷ placesFrom f w xs (endOf w xs p))
+-- Where the segments start, from offset p on. The first argument bounds how many there are.
+unfoldable pub startsFrom : ℕ → ℕ → List ℕ → ℕ → List ℕ
+startsFrom zero w xs p = []
+startsFrom (suc f) w xs p = cond (leb (length xs) p) [] (p ∷ startsFrom f w xs (endOf w xs p))
 
 -- Each segment has at least a byte, so there are at most as many as bytes.
-unfoldable pub places : ℕ → List ℕ → List ℕ
-places w xs = placesFrom (length xs) w xs 0
+unfoldable pub starts : ℕ → List ℕ → List ℕ
+starts w xs = startsFrom (length xs) w xs 0
 
 pub record Segment : Type 0 where
   pub kind : ℕ
@@ -43,4 +43,4 @@ abbrev pub segmentAt : ℕ → List ℕ → ℕ → Segment
 segmentAt w xs p = record { kind = typeAt xs p; numbers = numbersAt w (countAt xs p) xs (p + 2) }
 
 unfoldable pub segments : ℕ → List ℕ → List Segment
-segments w xs = map (segmentAt w xs) (places w xs)
+segments w xs = map (segmentAt w xs) (starts w xs)

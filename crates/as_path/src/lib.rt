@@ -18,7 +18,7 @@ ghost use Rattle.as_path.specs.Reading.{Stored, contentOf, readingOf, bu
 // The most numbers of a merged path.
 pub const MOST_NUMBERS: usize = 64;
 
-// The first fault of an attribute, with its place.
+// The first fault of an attribute, with its offset.
 pub enum Scan {
     Clean,
     Faulty(Fault, usize),

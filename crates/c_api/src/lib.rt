@@ -10,9 +10,9 @@ use types::Removal;
 use types::RouteNumber;
 use types::Verdict;
 ghost use mathlib.Core.Path.{_≡_};
-ghost use Rattle.register.specs.Calls.{fileStep, withdrawStep, clearStep};
-ghost use Rattle.routes.specs.Calls.{dropStep};
-ghost use Rattle.filter.specs.Calls.{judgeAnswer, keepStep, rejudgeStep};
+ghost use Rattle.register.specs.Calls.{fileEffect, withdrawEffect, clearEffect};
+ghost use Rattle.ledger.specs.Calls.{dropEffect};
+ghost use Rattle.filter.specs.Calls.{judgeAnswer, keepEffect, rejudgeEffect};
 ghost use Rattle.c_api.specs.Answers.{placeWord, filedRow, filedWords, removalRow, clearedRow, clearedWords, rejudgedRow, rejudgedWords, verdictWords, judgedRow, judgedWords, judgedGap};
 
 fn place_word(r: Refusal) -> u32
@@ -77,7 +77,7 @@ pub extern "C" fn aspa_file(
     providers: &[u32],
     out: &mut [u32; 1],
 ) -> u32
-    ensures { λ r. ⌜ (r ≡ filedRow (fileStep (now (register .entry)) source customer (now (providers .entry)) .answer)) × (now (out .exit) ≡ filedWords (fileStep (now (register .entry)) source customer (now (providers .entry)) .answer)) × (now (register .exit) ≡ fileStep (now (register .entry)) source customer (now (providers .entry)) .words) ⌝ }
+    ensures { λ r. ⌜ (r ≡ filedRow (fileEffect (now (register .entry)) source customer (now (providers .entry)) .answer)) × (now (out .exit) ≡ filedWords (fileEffect (now (register .entry)) source customer (now (providers .entry)) .answer)) × (now (register .exit) ≡ fileEffect (now (register .entry)) source customer (now (providers .entry)) .words) ⌝ }
 {
     match filter::file(register, source, AsNumber(customer), providers) {
         Filed::New => {
@@ -97,7 +97,7 @@ pub extern "C" fn aspa_file(
 
 #[no_mangle]
 pub extern "C" fn aspa_withdraw(register: &mut [u32], source: u32, customer: u32) -> u32
-    ensures { λ r. ⌜ (r ≡ removalRow (withdrawStep (now (register .entry)) source customer .answer)) × (now (register .exit) ≡ withdrawStep (now (register .entry)) source customer .words) ⌝ }
+    ensures { λ r. ⌜ (r ≡ removalRow (withdrawEffect (now (register .entry)) source customer .answer)) × (now (register .exit) ≡ withdrawEffect (now (register .entry)) source customer .words) ⌝ }
 {
     match filter::withdraw(register, source, AsNumber(customer)) {
         Removal::Done => 0,
@@ -107,7 +107,7 @@ pub extern "C" fn aspa_withdraw(register: &mut [u32], source: u32, customer: u32
 
 #[no_mangle]
 pub extern "C" fn aspa_clear(register: &mut [u32], source: u32, out: &mut [u32; 1]) -> u32
-    ensures { λ r. ⌜ (r ≡ clearedRow (clearStep (now (register .entry)) source .answer)) × (now (out .exit) ≡ clearedWords (clearStep (now (register .entry)) source .answer)) × (now (register .exit) ≡ clearStep (now (register .entry)) source .words) ⌝ }
+    ensures { λ r. ⌜ (r ≡ clearedRow (clearEffect (now (register .entry)) source .answer)) × (now (out .exit) ≡ clearedWords (clearEffect (now (register .entry)) source .answer)) × (now (register .exit) ≡ clearEffect (now (register .entry)) source .words) ⌝ }
 {
     match filter::clear(register, source) {
         Cleared::Gone(n) => {
@@ -150,7 +150,7 @@ pub extern "C" fn aspa_keep(
     out: &mut [u32; 6],
     gap: &mut i32,
 ) -> u32
-    ensures { λ r. ⌜ (r ≡ judgedRow (keepStep (now (register .entry)) (now (ledger .entry)) number role neighbour (now (attribute .entry)) .answer)) × (now (out .exit) ≡ judgedWords (keepStep (now (register .entry)) (now (ledger .entry)) number role neighbour (now (attribute .entry)) .answer)) × (now (gap .exit) ≡ judgedGap (keepStep (now (register .entry)) (now (ledger .entry)) number role neighbour (now (attribute .entry)) .answer)) × (now (ledger .exit) ≡ keepStep (now (register .entry)) (now (ledger .entry)) number role neighbour (now (attribute .entry)) .words) ⌝ }
+    ensures { λ r. ⌜ (r ≡ judgedRow (keepEffect (now (register .entry)) (now (ledger .entry)) number role neighbour (now (attribute .entry)) .answer)) × (now (out .exit) ≡ judgedWords (keepEffect (now (register .entry)) (now (ledger .entry)) number role neighbour (now (attribute .entry)) .answer)) × (now (gap .exit) ≡ judgedGap (keepEffect (now (register .entry)) (now (ledger .entry)) number role neighbour (now (attribute .entry)) .answer)) × (now (ledger .exit) ≡ keepEffect (now (register .entry)) (now (ledger .entry)) number role neighbour (now (attribute .entry)) .words) ⌝ }
 {
     tell(
         filter::keep(
@@ -168,7 +168,7 @@ pub extern "C" fn aspa_keep(
 
 #[no_mangle]
 pub extern "C" fn aspa_drop(ledger: &mut [u32], number: u32) -> u32
-    ensures { λ r. ⌜ (r ≡ removalRow (dropStep (now (ledger .entry)) number .answer)) × (now (ledger .exit) ≡ dropStep (now (ledger .entry)) number .words) ⌝ }
+    ensures { λ r. ⌜ (r ≡ removalRow (dropEffect (now (ledger .entry)) number .answer)) × (now (ledger .exit) ≡ dropEffect (now (ledger .entry)) number .words) ⌝ }
 {
     match filter::drop(ledger, RouteNumber(number)) {
         Removal::Done => 0,
@@ -178,7 +178,7 @@ pub extern "C" fn aspa_drop(ledger: &mut [u32], number: u32) -> u32
 
 #[no_mangle]
 pub extern "C" fn aspa_rejudge(register: &[u32], ledger: &mut [u32], out: &mut [u32; 1]) -> u32
-    ensures { λ r. ⌜ (r ≡ rejudgedRow (rejudgeStep (now (register .entry)) (now (ledger .entry)) .answer)) × (now (out .exit) ≡ rejudgedWords (rejudgeStep (now (register .entry)) (now (ledger .entry)) .answer)) × (now (ledger .exit) ≡ rejudgeStep (now (register .entry)) (now (ledger .entry)) .words) ⌝ }
+    ensures { λ r. ⌜ (r ≡ rejudgedRow (rejudgeEffect (now (register .entry)) (now (ledger .entry)) .answer)) × (now (out .exit) ≡ rejudgedWords (rejudgeEffect (now (register .entry)) (now (ledger .entry)) .answer)) × (now (ledger .exit) ≡ rejudgeEffect (now (register .entry)) (now (ledger .entry)) .words) ⌝ }
 {
     match filter::rejudge(register, ledger) {
         Rejudged::Changed(n) => {

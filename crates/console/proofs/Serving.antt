@@ -7,7 +7,7 @@ use borrow.Author.Tests.{ne-eqb}
 use lib.ListN.{length, take, drop, length-drop, drop-of-length-le, replicate}
 use lib.Seq.{take-all, drop-drop}
 use Rattle.register.specs.Register.{registerWords}
-use Rattle.routes.specs.Routes.{ledgerWords}
+use Rattle.ledger.specs.Routes.{ledgerWords}
 use Rattle.protocol.specs.declared.State.{State}
 use Rattle.protocol.specs.declared.Lent.{Lent}
 use Rattle.protocol.specs.Commands.{mostWords}

@@ -190,7 +190,7 @@ fn main() {
     let first = State {
         lent: Lent {
             register: register::WORDS,
-            ledger: routes::WORDS,
+            ledger: ledger::WORDS,
         },
         line: 0,
         out: 0,

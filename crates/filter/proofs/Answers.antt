@@ -12,28 +12,28 @@ use Rattle.types.specs.declared.Refusal.{Refusal}
 use Rattle.types.specs.declared.Judged.the-variants.{Answered}
 use Rattle.types.specs.declared.Rejudged.{Rejudged}
 use Rattle.types.specs.declared.Rejudged.the-variants as rejudged
-use Rattle.types.specs.Numbers.{verdictNumber, verdictGround, placeA, placeB}
-use Rattle.types.specs.Rows.{firstGiven, Step, unlessRefused}
+use Rattle.types.specs.Numbers.{verdictNumber, verdictGround, placeA, placeB, verdictOf}
+use Rattle.types.specs.Rows.{firstGiven, Effect, unlessRefused}
 use Rattle.types.proofs.Refusing.{accepted-none}
 use Rattle.as_path.specs.Reading.{contentOf}
-use Rattle.verdict.specs.Judging.{judgedRoute}
-use Rattle.routes.specs.Routes.{Route, routesOf, wordsOf, routeAt, routesOk}
-use Rattle.routes.specs.Calls.{putRoute, differs, countDiffering}
-use Rattle.routes.proofs.Entries.{routes-of-words}
-use Rattle.routes.proofs.Holding.{has-room, room-routes, room-paths, routes-ok}
-use Rattle.routes.proofs.Keeping.{findRoute, stored-finds}
-use Rattle.routes.proofs.Refusals.{Ledger}
+use Rattle.rules.specs.Judging.{judgedRoute}
+use Rattle.ledger.specs.Routes.{Route, routesOf, ledgerOf, routeAt, routesOk}
+use Rattle.ledger.specs.Calls.{putRoute, differs, countDiffering}
+use Rattle.ledger.proofs.Entries.{routes-of-words}
+use Rattle.ledger.proofs.Holding.{has-room, room-routes, room-paths, routes-ok}
+use Rattle.ledger.proofs.Changes.{findRoute, stored-finds}
+use Rattle.ledger.proofs.Refusals.{Ledger}
 use Rattle.register.proofs.Refusals.{Register}
-use Rattle.rejudge.specs.Rejudging.{verdictOf, rejudgedRoute}
+use Rattle.rejudge.specs.Rejudging.{rejudgedRoute}
 use Rattle.rejudge.proofs.Rejudgements.{rejudged-ok, ground-stays, all-once}
 use Rattle.rejudge.proofs.Differences.{countBelow, changed-is, second-none}
-use Rattle.filter.specs.Calls.{hopIn, refusalIn, pathIn, judgeAnswer, keptRoute, keepRows, keepStep, rejudgeRows, rejudgeStep}
+use Rattle.filter.specs.Calls.{hopIn, refusalIn, pathIn, judgeAnswer, keptRoute, keepRows, keepEffect, rejudgeRows, rejudgeEffect}
 use Rattle.filter.proofs.Judgings.{judge-answers}
 use Rattle.filter.proofs.Refusals.{keep-reads}
-use Rattle.filter.proofs.Tables.{Accepted, accepted, kept-routes-ok, passed-tables, rejudge-accepts, rejudge-keeps}
+use Rattle.filter.proofs.Tables.{Accepted, accepted, kept-routes-ok, passed-tables, rejudge-accepts, rejudge-preserves}
 
 -- Routes that keep the rules are read back from their words.
-pub read-back : (rs : List Route) → routesOk rs ≡ true → routesOf (wordsOf rs) ≡ rs
+pub read-back : (rs : List Route) → routesOk rs ≡ true → routesOf (ledgerOf rs) ≡ rs
 read-back rs e = let room = has-room rs e in routes-of-words rs (room-routes rs room) (room-paths rs room)
 
 -- ---- Keep
@@ -50,7 +50,7 @@ pub record KeptWith (answer : Answer) (number role neighbour : ℕ) (attribute :
   pub path-is : r .path ≡ pathIn (contentOf role neighbour attribute)
 
 module _ (reg led : List ℕ) (number role neighbour : ℕ) (attribute : List ℕ)
-    {answer : Answer} (h : keepStep reg led number role neighbour attribute .answer ≡ Answered answer) where
+    {answer : Answer} (h : keepEffect reg led number role neighbour attribute .answer ≡ Answered answer) where
   -- An accepted Keep is given no row.
   pub keep-given : firstGiven (keepRows reg led number role neighbour attribute) ≡ none
   keep-given = sym (keep-reads reg led number role neighbour attribute) ∙ ap refusalIn h
@@ -61,7 +61,7 @@ module _ (reg led : List ℕ) (number role neighbour : ℕ) (attribute : List �
 
   -- It answers what its judging answers.
   keep-judged : judgedRoute (hopIn reg) role neighbour attribute ≡ Answered answer
-  unfolding keepStep
+  unfolding keepEffect
   keep-judged = rw keep-given at h
 
   -- An accepted Keep answers what Judge answers.
@@ -72,9 +72,9 @@ module _ (reg led : List ℕ) (number role neighbour : ℕ) (attribute : List �
 
   -- It leaves the routes with the kept one.
   pub keep-leaves-routes :
-      routesOf (keepStep reg led number role neighbour attribute .words)
+      routesOf (keepEffect reg led number role neighbour attribute .words)
       ≡ putRoute (keptRoute reg number role neighbour attribute) (routesOf led)
-  unfolding keepStep
+  unfolding keepEffect
   keep-leaves-routes =
       rw keep-given
       (read-back (putRoute (keptRoute reg number role neighbour attribute) (routesOf led))
@@ -82,7 +82,7 @@ module _ (reg led : List ℕ) (number role neighbour : ℕ) (attribute : List �
 
   -- Under its own number the kept route is found, and under every other what was found before.
   pub keep-stores : (k : ℕ)
-      → findRoute k (routesOf (keepStep reg led number role neighbour attribute .words))
+      → findRoute k (routesOf (keepEffect reg led number role neighbour attribute .words))
       ≡ cond (eqb k number) (some (keptRoute reg number role neighbour attribute)) (findRoute k (routesOf led))
   keep-stores k =
       ap (findRoute k) keep-leaves-routes ∙ stored-finds k (keptRoute reg number role neighbour attribute) (routesOf led)
@@ -112,38 +112,38 @@ module _ (reg led : List ℕ) (w : Register reg) (l : Ledger led) where
   after = map (rejudgedRoute (hopIn reg)) (routesOf led)
 
   -- It leaves the routes judged anew.
-  pub rejudge-leaves-routes : routesOf (rejudgeStep reg led .words) ≡ after
+  pub rejudge-leaves-routes : routesOf (rejudgeEffect reg led .words) ≡ after
   rejudge-leaves-routes =
       ap (λ s. routesOf (s .words)) (rejudge-accepts reg led w l) ∙ read-back after (rejudged-ok (hopIn reg) before (routes-ok led (l .ok)))
 
   -- A second Re-judge changes nothing, and answers so.
   pub rejudge-twice :
-      rejudgeStep reg (rejudgeStep reg led .words) ≡ record { answer = rejudged.Changed 0; words = rejudgeStep reg led .words }
+      rejudgeEffect reg (rejudgeEffect reg led .words) ≡ record { answer = rejudged.Changed 0; words = rejudgeEffect reg led .words }
   rejudge-twice =
-      rejudge-accepts reg (rejudgeStep reg led .words) w (rejudge-keeps reg led l)
+      rejudge-accepts reg (rejudgeEffect reg led .words) w (rejudge-preserves reg led l)
       ∙ ap step rejudge-leaves-routes
       ∙ (λ i. record { answer = rejudged.Changed (second-none (hopIn reg) before i); words = words i })
     where
-      step : List Route → Step Rejudged
+      step : List Route → Effect Rejudged
       step rs =
           record {
             answer = rejudged.Changed (countDiffering rs (map (rejudgedRoute (hopIn reg)) rs));
-            words = wordsOf (map (rejudgedRoute (hopIn reg)) rs);
+            words = ledgerOf (map (rejudgedRoute (hopIn reg)) rs);
           }
 
-      words : wordsOf (map (rejudgedRoute (hopIn reg)) after) ≡ rejudgeStep reg led .words
-      words = ap wordsOf (all-once (hopIn reg) before) ∙ sym (ap (λ s. s .words) (rejudge-accepts reg led w l))
+      words : ledgerOf (map (rejudgedRoute (hopIn reg)) after) ≡ rejudgeEffect reg led .words
+      words = ap ledgerOf (all-once (hopIn reg) before) ∙ sym (ap (λ s. s .words) (rejudge-accepts reg led w l))
 
 -- A Re-judge that is accepted had well-formed tables.
-pub rejudge-accepted : (reg led : List ℕ) {n : ℕ} → rejudgeStep reg led .answer ≡ rejudged.Changed n → Register reg × Ledger led
-unfolding rejudgeStep
+pub rejudge-accepted : (reg led : List ℕ) {n : ℕ} → rejudgeEffect reg led .answer ≡ rejudged.Changed n → Register reg × Ledger led
+unfolding rejudgeEffect
 rejudge-accepted reg led {n} = go (firstGiven (rejudgeRows reg led)) refl
   where
     go : (o : Option Refusal) → firstGiven (rejudgeRows reg led) ≡ o
         → unlessRefused o rejudged.Refused led
         (record {
           answer = rejudged.Changed (countDiffering (routesOf led) (map (rejudgedRoute (hopIn reg)) (routesOf led)));
-          words = wordsOf (map (rejudgedRoute (hopIn reg)) (routesOf led));
+          words = ledgerOf (map (rejudgedRoute (hopIn reg)) (routesOf led));
         }) .answer ≡ rejudged.Changed n → Register reg × Ledger led
     go (some r) e h = let z : _≡_ {A = ℕ} 0 1 = cc in absurd (omega arith)
     go none e h =
@@ -156,9 +156,9 @@ at-map f [] i d h = absurd (omega arith)
 at-map f (x ∷ xs) zero d h = refl
 at-map f (x ∷ xs) (suc i) d h = at-map f xs i d (omega arith)
 
-module _ (reg led : List ℕ) {n : ℕ} (h : rejudgeStep reg led .answer ≡ rejudged.Changed n) where
+module _ (reg led : List ℕ) {n : ℕ} (h : rejudgeEffect reg led .answer ≡ rejudged.Changed n) where
   abbrev left : List Route
-  left = routesOf (rejudgeStep reg led .words)
+  left = routesOf (rejudgeEffect reg led .words)
 
   -- The routes after an accepted Re-judge are those before it, judged anew.
   pub rejudge-routes : left ≡ map (rejudgedRoute (hopIn reg)) (routesOf led)

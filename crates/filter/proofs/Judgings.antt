@@ -29,9 +29,9 @@ use Rattle.as_path.specs.declared.Reading.the-variants as reading
 use Rattle.as_path.specs.Reading.{mostNumbers, Content, faulty, grounded, merged, contentOf, readingOf, bufferAfter}
 use Rattle.as_path.proofs.Contents.{Merged, merged-means}
 use Rattle.as_path.proofs.MergedPaths.{merged-first}
-use Rattle.verdict.specs.Hops.{HopFunction}
-use Rattle.verdict.specs.Verdicts.{judged}
-use Rattle.verdict.specs.Judging.{mostBytes, argumentRows, answerTo, judgedRoute}
+use Rattle.rules.specs.Hops.{HopFunction}
+use Rattle.rules.specs.Verdicts.{judged}
+use Rattle.rules.specs.Judging.{mostBytes, argumentRows, answerTo, judgedRoute}
 use Rattle.register.specs.Register.{registerWords, registerOk}
 use Rattle.filter.specs.declared.Known.{Known}
 use Rattle.filter.specs.declared.Known.the-variants as known

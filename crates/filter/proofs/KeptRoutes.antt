@@ -16,7 +16,7 @@ use Rattle.types.specs.declared.Cause.the-variants.{ByGround, ByHops}
 use Rattle.types.specs.declared.Verdict.{Verdict}
 use Rattle.types.specs.declared.Verdict.the-variants.{Valid, Invalid, Unknown}
 use Rattle.types.specs.declared.Answer.the-variants.{Plain, WithGap}
-use Rattle.types.specs.Numbers.{groundNumber, verdictNumber, verdictGround, placeA, placeB}
+use Rattle.types.specs.Numbers.{groundNumber, verdictNumber, verdictGround, placeA, placeB, verdictOf}
 use Rattle.types.specs.Roles.{isRole, isRouteServer, isUpstream}
 use Rattle.types.specs.Rows.{firstGiven}
 use Rattle.as_path.specs.declared.Scan.{Scan}
@@ -32,13 +32,12 @@ use Rattle.as_path.proofs.MergedPaths.{segments-some, merged-no-zero, merged-fi
 use Rattle.as_path.proofs.Grounding.{first-whole, first-number, ground-empty, ground-is}
 use Rattle.keyed.proofs.Orders.{both-intro, above-zero}
 use Rattle.keyed.proofs.Puts.{neither-left}
-use Rattle.verdict.specs.Hops.{HopFunction}
-use Rattle.verdict.specs.Verdicts.{lowestNotPlus, lowestUnattested, highestNotPlus, rampUp, rampDown, gapOf, upstream, downstream, judged}
-use Rattle.verdict.specs.Judging.{judgeRows}
-use Rattle.verdict.proofs.Judges.{Judgement, on-ground, on-path, judgement, judged-arguments}
-use Rattle.routes.specs.Routes.{noZero, pathOk, groundOk, routeOk}
-use Rattle.routes.specs.Calls.{routeFor, stamped}
-use Rattle.rejudge.specs.Rejudging.{verdictOf}
+use Rattle.rules.specs.Hops.{HopFunction}
+use Rattle.rules.specs.Verdicts.{lowestNotPlus, lowestUnattested, highestNotPlus, rampUp, rampDown, gapOf, upstream, downstream, judged}
+use Rattle.rules.specs.Judging.{judgeRows}
+use Rattle.rules.proofs.Judges.{Judgement, on-ground, on-path, judgement, judged-arguments}
+use Rattle.ledger.specs.Routes.{noZero, pathOk, groundOk, routeOk}
+use Rattle.ledger.specs.Calls.{routeFor, stamped}
 use Rattle.rejudge.proofs.Rejudgements.{still-ok}
 use Rattle.filter.specs.Calls.{hopIn, keptRoute}
 

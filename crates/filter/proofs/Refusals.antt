@@ -17,17 +17,17 @@ use Rattle.types.specs.declared.Judged.the-variants.{Answered, Refused}
 use Rattle.types.specs.declared.Rejudged.the-variants as rejudged
 use Rattle.types.specs.Numbers.{refusalNumber, faultNumber}
 use Rattle.types.specs.Roles.{isRole}
-use Rattle.types.specs.Rows.{rowIf, orElse, firstGiven, unlessRefused}
+use Rattle.types.specs.Rows.{rowIf, orElse, firstGiven, unlessRefused, FirstAt, Numbered, Ranged}
 use Rattle.types.proofs.Clashes.{some-not-none}
-use Rattle.types.proofs.Refusing.{FirstAt, refused-first, first-refuses, accepted-none, answers-first, refusal-leaves, Numbered, numbered}
+use Rattle.types.proofs.Refusing.{refused-first, first-refuses, accepted-none, answers-first, refusal-leaves, numbered}
 use Rattle.as_path.specs.Reading.{mostNumbers, Content, faulty, grounded, merged, contentOf}
-use Rattle.verdict.specs.Judging.{mostBytes, contentRow, judgeRows, unlessGiven, judgedRoute}
-use Rattle.verdict.proofs.Judges.{first-append, judged-reads}
+use Rattle.rules.specs.Judging.{mostBytes, contentRow, judgeRows, unlessGiven, judgedRoute}
+use Rattle.rules.proofs.Judges.{first-append, judged-reads}
 use Rattle.register.specs.Register.{registerWords, registerOk}
 use Rattle.register.specs.Calls.{tableRow, registerRow}
-use Rattle.routes.specs.Routes.{ledgerWords, routesOf, wordsOf, roomFor, ledgerOk}
-use Rattle.routes.specs.Calls.{holdsRoute, putRoute}
-use Rattle.filter.specs.Calls.{hopIn, refusalIn, judgeAnswer, keptRoute, keepRows, keepStep, rejudgeRows, rejudgeStep}
+use Rattle.ledger.specs.Routes.{ledgerWords, routesOf, ledgerOf, roomFor, ledgerOk}
+use Rattle.ledger.specs.Calls.{holdsRoute, putRoute}
+use Rattle.filter.specs.Calls.{hopIn, refusalIn, judgeAnswer, keptRoute, keepRows, keepEffect, rejudgeRows, rejudgeEffect}
 
 -- The rows of Judge: 1, 2, 9 to 17.
 abbrev pub judgeRowsOver : List ℕ → ℕ → ℕ → List ℕ → List (Option Refusal)
@@ -79,27 +79,27 @@ module _ (reg led : List ℕ) (number role neighbour : ℕ) (attribute : List �
   keeping = keepRows reg led number role neighbour attribute
 
   -- Keep is refused as its rows refuse it.
-  pub keep-reads : refusalIn (keepStep reg led number role neighbour attribute .answer) ≡ firstGiven keeping
-  unfolding keepStep
+  pub keep-reads : refusalIn (keepEffect reg led number role neighbour attribute .answer) ≡ firstGiven keeping
+  unfolding keepEffect
   keep-reads = go (firstGiven keeping) refl
     where
       go : (o : Option Refusal) → firstGiven keeping ≡ o
           → refusalIn (unlessRefused o Refused led
           (record {
             answer = judgedRoute (hopIn reg) role neighbour attribute;
-            words = wordsOf (putRoute (keptRoute reg number role neighbour attribute) (routesOf led));
+            words = ledgerOf (putRoute (keptRoute reg number role neighbour attribute) (routesOf led));
           }) .answer) ≡ o
       go (some r) e = refl
       go none e = accepted-none keeping e 3
 
   -- Keep answers a refusal exactly when that is the first of its rows that is given.
-  pub keep-refuses : (r : Refusal) → (keepStep reg led number role neighbour attribute .answer ≡ Refused r) ↔ ((i : ℕ) × FirstAt keeping i r)
-  keep-refuses = refuses-first (keepStep reg led number role neighbour attribute .answer) keeping keep-reads
+  pub keep-refuses : (r : Refusal) → (keepEffect reg led number role neighbour attribute .answer ≡ Refused r) ↔ ((i : ℕ) × FirstAt keeping i r)
+  keep-refuses = refuses-first (keepEffect reg led number role neighbour attribute .answer) keeping keep-reads
 
   -- Refused, it leaves the ledger's words.
-  pub keep-leaves : (r : Refusal) → keepStep reg led number role neighbour attribute .answer ≡ Refused r
-      → keepStep reg led number role neighbour attribute .words ≡ led
-  unfolding keepStep
+  pub keep-leaves : (r : Refusal) → keepEffect reg led number role neighbour attribute .answer ≡ Refused r
+      → keepEffect reg led number role neighbour attribute .words ≡ led
+  unfolding keepEffect
   keep-leaves r h = rw (sym keep-reads ∙ ap refusalIn h)
 
 -- A Re-judge that is accepted is not refused.
@@ -112,23 +112,16 @@ rejudged-same r s e = cc
 
 module _ (reg led : List ℕ) (r : Refusal) where
   -- Re-judge answers a refusal exactly when that is the first of its rows that is given.
-  pub rejudge-refuses : (rejudgeStep reg led .answer ≡ rejudged.Refused r) ↔ ((i : ℕ) × FirstAt (rejudgeRows reg led) i r)
-  unfolding rejudgeStep
+  pub rejudge-refuses : (rejudgeEffect reg led .answer ≡ rejudged.Refused r) ↔ ((i : ℕ) × FirstAt (rejudgeRows reg led) i r)
+  unfolding rejudgeEffect
   rejudge-refuses = answers-first (rejudgeRows reg led) rejudged.Refused led _ rejudged-same (rejudged-apart _) r
 
   -- Refused, it leaves the ledger's words.
-  pub rejudge-leaves : rejudgeStep reg led .answer ≡ rejudged.Refused r → rejudgeStep reg led .words ≡ led
-  unfolding rejudgeStep
+  pub rejudge-leaves : rejudgeEffect reg led .answer ≡ rejudged.Refused r → rejudgeEffect reg led .words ≡ led
+  unfolding rejudgeEffect
   rejudge-leaves = refusal-leaves (rejudgeRows reg led) rejudged.Refused led _ (rejudged-apart _) r
 
 -- ---- the rows in the order of their numbers
-
--- Each row, where it is given, has a number from the first to the second of its pair.
-abbrev pub Ranged : List (Option Refusal) → List (ℕ × ℕ) → Type 0
-Ranged [] [] = Unit
-Ranged [] (n ∷ ns) = ⊥
-Ranged (row ∷ rows) [] = ⊥
-Ranged (row ∷ rows) (n ∷ ns) = ((r : Refusal) → row ≡ some r → (n .0 ≤ refusalNumber r) × (refusalNumber r ≤ n .1)) × Ranged rows ns
 
 -- A row with one refusal has its number.
 ranged : (b : Bool) (s r : Refusal) → rowIf b s ≡ some r → (refusalNumber s ≤ refusalNumber r) × (refusalNumber r ≤ refusalNumber s)

@@ -9,13 +9,13 @@ use lib.ListN.{length}
 use Rattle.types.specs.declared.Refusal.the-variants.{TableLength, RegisterMalformed, RoutesMalformed}
 use Rattle.types.specs.declared.Rejudged.{Rejudged}
 use Rattle.types.specs.declared.Rejudged.the-variants.{Changed, Refused}
-use Rattle.types.specs.Rows.{firstGiven, Step}
+use Rattle.types.specs.Rows.{firstGiven, Effect}
 use Rattle.register.specs.Register.{registerWords, registerOk}
-use Rattle.routes.specs.Routes.{ledgerWords, mostRoutes, Route, routesOf, wordsOf, ledgerOk}
-use Rattle.routes.specs.Calls.{differs, countDiffering}
-use Rattle.routes.proofs.Holding.{routes-ok, has-room, room-routes}
+use Rattle.ledger.specs.Routes.{ledgerWords, mostRoutes, Route, routesOf, ledgerOf, ledgerOk}
+use Rattle.ledger.specs.Calls.{differs, countDiffering}
+use Rattle.ledger.proofs.Holding.{routes-ok, has-room, room-routes}
 use Rattle.rejudge.specs.Rejudging.{rejudgedRoute}
-use Rattle.filter.specs.Calls.{hopIn, rejudgeStep}
+use Rattle.filter.specs.Calls.{hopIn, rejudgeEffect}
 
 -- No more routes differ than there are.
 count-within : (rs ss : List Route) → countDiffering rs ss ≤ length rs
@@ -33,30 +33,30 @@ module _ (reg led : List ℕ) where
   abbrev anew : List Route
   anew = map (rejudgedRoute (hopIn reg)) (routesOf led)
 
-  pub rejudge-register-length : (length reg ≡ registerWords → ⊥) → rejudgeStep reg led ≡ record { answer = Refused TableLength; words = led }
-  unfolding rejudgeStep firstGiven
+  pub rejudge-register-length : (length reg ≡ registerWords → ⊥) → rejudgeEffect reg led ≡ record { answer = Refused TableLength; words = led }
+  unfolding rejudgeEffect firstGiven
   rejudge-register-length a = rw (ne-eqb (length reg) registerWords a)
 
   module _ (a : length reg ≡ registerWords) where
-    pub rejudge-ledger-length : (length led ≡ ledgerWords → ⊥) → rejudgeStep reg led ≡ record { answer = Refused TableLength; words = led }
-    unfolding rejudgeStep firstGiven
+    pub rejudge-ledger-length : (length led ≡ ledgerWords → ⊥) → rejudgeEffect reg led ≡ record { answer = Refused TableLength; words = led }
+    unfolding rejudgeEffect firstGiven
     rejudge-ledger-length b = rw (eq-eqb (length reg) registerWords a, ne-eqb (length led) ledgerWords b)
 
     module _ (b : length led ≡ ledgerWords) where
-      pub rejudge-register-malformed : registerOk reg ≡ false → rejudgeStep reg led ≡ record { answer = Refused RegisterMalformed; words = led }
-      unfolding rejudgeStep firstGiven
+      pub rejudge-register-malformed : registerOk reg ≡ false → rejudgeEffect reg led ≡ record { answer = Refused RegisterMalformed; words = led }
+      unfolding rejudgeEffect firstGiven
       rejudge-register-malformed c = rw (eq-eqb (length reg) registerWords a, eq-eqb (length led) ledgerWords b, c)
 
       module _ (c : registerOk reg ≡ true) where
-        pub rejudge-ledger-malformed : ledgerOk led ≡ false → rejudgeStep reg led ≡ record { answer = Refused RoutesMalformed; words = led }
-        unfolding rejudgeStep firstGiven
+        pub rejudge-ledger-malformed : ledgerOk led ≡ false → rejudgeEffect reg led ≡ record { answer = Refused RoutesMalformed; words = led }
+        unfolding rejudgeEffect firstGiven
         rejudge-ledger-malformed d = rw (eq-eqb (length reg) registerWords a, eq-eqb (length led) ledgerWords b, c, d)
 
         module _ (d : ledgerOk led ≡ true) where
           pub few-changed : {n : ℕ} → n ≡ countDiffering (routesOf led) anew → n ≤ mostRoutes
           few-changed e = omega (arith, count-within (routesOf led) anew, room-routes (routesOf led) (has-room (routesOf led) (routes-ok led d)))
 
-          pub rejudge-done : {n : ℕ} {led' : List ℕ} → led' ≡ wordsOf anew → n ≡ countDiffering (routesOf led) anew
-              → (Changed n ≡ rejudgeStep reg led .answer) × (led' ≡ rejudgeStep reg led .words)
-          unfolding rejudgeStep firstGiven
+          pub rejudge-done : {n : ℕ} {led' : List ℕ} → led' ≡ ledgerOf anew → n ≡ countDiffering (routesOf led) anew
+              → (Changed n ≡ rejudgeEffect reg led .answer) × (led' ≡ rejudgeEffect reg led .words)
+          unfolding rejudgeEffect firstGiven
           rejudge-done e f = rw (eq-eqb (length reg) registerWords a, eq-eqb (length led) ledgerWords b, c, d, ← f) (refl, e)

@@ -12,22 +12,22 @@ use Rattle.types.specs.declared.Refusal.{Refusal}
 use Rattle.types.specs.declared.Judged.the-variants.{Refused}
 use Rattle.types.specs.declared.Rejudged.the-variants as rejudged
 use Rattle.types.specs.Numbers.{refusalNumber}
-use Rattle.types.specs.Rows.{firstGiven, unlessRefused}
+use Rattle.types.specs.Rows.{firstGiven, unlessRefused, FirstAt}
 use Rattle.types.proofs.Clashes.{some-not-none}
-use Rattle.types.proofs.Refusing.{FirstAt, accepted-none, row-passed}
+use Rattle.types.proofs.Refusing.{accepted-none, row-passed}
 use Rattle.keyed.proofs.Orders.{both-left, both-right}
-use Rattle.verdict.specs.Judging.{judgeRows, judgedRoute}
+use Rattle.rules.specs.Judging.{judgeRows, judgedRoute}
 use Rattle.register.specs.Register.{registerWords}
 use Rattle.register.specs.Calls.{tableRow, registerRow}
 use Rattle.register.proofs.Refusals.{Register}
-use Rattle.routes.specs.Routes.{ledgerWords, routesOf, wordsOf, roomFor, routesOk}
-use Rattle.routes.specs.Calls.{ledgerRow, holdsRoute, putRoute, countDiffering}
-use Rattle.routes.proofs.Holding.{routes-ok}
-use Rattle.routes.proofs.Keeping.{put-ok}
-use Rattle.routes.proofs.Refusals.{Ledger, routes-ledger}
+use Rattle.ledger.specs.Routes.{ledgerWords, routesOf, ledgerOf, roomFor, routesOk}
+use Rattle.ledger.specs.Calls.{ledgerRow, holdsRoute, putRoute, countDiffering}
+use Rattle.ledger.proofs.Holding.{routes-ok}
+use Rattle.ledger.proofs.Changes.{put-ok}
+use Rattle.ledger.proofs.Refusals.{Ledger, routes-ledger}
 use Rattle.rejudge.specs.Rejudging.{rejudgedRoute}
 use Rattle.rejudge.proofs.Rejudgements.{rejudged-ok}
-use Rattle.filter.specs.Calls.{hopIn, judgeAnswer, tablesRow, keptRoute, keepRows, keepStep, rejudgeRows, rejudgeStep}
+use Rattle.filter.specs.Calls.{hopIn, judgeAnswer, tablesRow, keptRoute, keepRows, keepEffect, rejudgeRows, rejudgeEffect}
 use Rattle.filter.proofs.KeptRoutes.{kept-ok}
 use Rattle.filter.proofs.Refusals.{judgeRowsOver, judged-row, judge-refuses, keep-refuses, judge-numbers, keep-numbers}
 
@@ -44,17 +44,17 @@ module _ (reg led : List ℕ) (w : Register reg) (l : Ledger led) where
 
   -- Re-judge never refuses them: it counts and rewrites.
   pub rejudge-accepts :
-      rejudgeStep reg led
+      rejudgeEffect reg led
       ≡ record {
         answer = rejudged.Changed (countDiffering (routesOf led) (map (rejudgedRoute (hopIn reg)) (routesOf led)));
-        words = wordsOf (map (rejudgedRoute (hopIn reg)) (routesOf led));
+        words = ledgerOf (map (rejudgedRoute (hopIn reg)) (routesOf led));
       }
-  unfolding rejudgeStep firstGiven
+  unfolding rejudgeEffect firstGiven
   rejudge-accepts = rw (tables-pass .0, tables-pass .1, tables-pass .2)
 
   module _ (number role neighbour : ℕ) (attribute : List ℕ) where
     -- Keep refuses them by no row before 9.
-    pub keep-passes : (r : Refusal) → keepStep reg led number role neighbour attribute .answer ≡ Refused r → 9 ≤ refusalNumber r
+    pub keep-passes : (r : Refusal) → keepEffect reg led number role neighbour attribute .answer ≡ Refused r → 9 ≤ refusalNumber r
     keep-passes r e = let p = keep-refuses reg led number role neighbour attribute r .0 e in go (p .0) (p .1)
       where
         go : (i : ℕ) → FirstAt (keepRows reg led number role neighbour attribute) i r → 9 ≤ refusalNumber r
@@ -123,29 +123,29 @@ module _ (reg led : List ℕ) (number role neighbour : ℕ) (attribute : List �
       (kept-ok reg number role neighbour attribute (a .argued)) (a .room)
 
   -- Keep leaves a well-formed ledger well formed.
-  pub keep-keeps : Ledger led → Ledger (keepStep reg led number role neighbour attribute .words)
-  unfolding keepStep
-  keep-keeps l = go (firstGiven rows) refl
+  pub keep-preserves : Ledger led → Ledger (keepEffect reg led number role neighbour attribute .words)
+  unfolding keepEffect
+  keep-preserves l = go (firstGiven rows) refl
     where
       go : (o : Option Refusal) → firstGiven rows ≡ o
           → Ledger (unlessRefused o Refused led
           (record {
             answer = judgedRoute (hopIn reg) role neighbour attribute;
-            words = wordsOf (putRoute (keptRoute reg number role neighbour attribute) (routesOf led));
+            words = ledgerOf (putRoute (keptRoute reg number role neighbour attribute) (routesOf led));
           }) .words)
       go (some _) e = l
       go none e = routes-ledger (putRoute (keptRoute reg number role neighbour attribute) (routesOf led)) (kept-routes-ok (accepted e))
 
 -- Re-judge leaves a well-formed ledger well formed.
-pub rejudge-keeps : (reg led : List ℕ) → Ledger led → Ledger (rejudgeStep reg led .words)
-unfolding rejudgeStep
-rejudge-keeps reg led l = go (firstGiven (rejudgeRows reg led))
+pub rejudge-preserves : (reg led : List ℕ) → Ledger led → Ledger (rejudgeEffect reg led .words)
+unfolding rejudgeEffect
+rejudge-preserves reg led l = go (firstGiven (rejudgeRows reg led))
   where
     go : (o : Option Refusal)
         → Ledger (unlessRefused o rejudged.Refused led
         (record {
           answer = rejudged.Changed (countDiffering (routesOf led) (map (rejudgedRoute (hopIn reg)) (routesOf led)));
-          words = wordsOf (map (rejudgedRoute (hopIn reg)) (routesOf led));
+          words = ledgerOf (map (rejudgedRoute (hopIn reg)) (routesOf led));
         }) .words)
     go (some _) = l
     go none = routes-ledger (map (rejudgedRoute (hopIn reg)) (routesOf led)) (rejudged-ok (hopIn reg) (routesOf led) (routes-ok led (l .ok)))

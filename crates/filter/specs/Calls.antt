@@ -6,6 +6,7 @@ use mathlib.Core.List.{List, [], _∷_, map}
 use mathlib.Core.Option.{Option, none, some}
 use lib.Dec.{eqb}
 use lib.ListN.{length}
+use Rattle.types.specs.Numbers.{verdictOf}
 use Rattle.types.specs.declared.Verdict.{Verdict}
 use Rattle.types.specs.declared.Verdict.the-variants.{Valid}
 use Rattle.types.specs.declared.Answer.{Answer}
@@ -15,17 +16,17 @@ use Rattle.types.specs.declared.Judged.{Judged}
 use Rattle.types.specs.declared.Judged.the-variants.{Answered, Refused}
 use Rattle.types.specs.declared.Rejudged.{Rejudged}
 use Rattle.types.specs.declared.Rejudged.the-variants as rejudged
-use Rattle.types.specs.Rows.{rowIf, firstGiven, Step, unlessRefused}
+use Rattle.types.specs.Rows.{rowIf, firstGiven, Effect, unlessRefused}
 use Rattle.as_path.specs.Reading.{Content, faulty, grounded, merged, contentOf}
-use Rattle.verdict.specs.Hops.{HopFunction}
-use Rattle.verdict.specs.Records.{hopOf}
-use Rattle.verdict.specs.Verdicts.{judged}
-use Rattle.verdict.specs.Judging.{argumentRows, unlessGiven, judgedRoute}
+use Rattle.rules.specs.Hops.{HopFunction}
+use Rattle.rules.specs.Records.{hopOf}
+use Rattle.rules.specs.Verdicts.{judged}
+use Rattle.rules.specs.Judging.{argumentRows, unlessGiven, judgedRoute}
 use Rattle.register.specs.Register.{registerWords, recordsOf, registerOk}
 use Rattle.register.specs.Calls.{tableRow, registerRow}
-use Rattle.routes.specs.Routes.{ledgerWords, Route, routesOf, wordsOf, roomFor, ledgerOk}
-use Rattle.routes.specs.Calls.{ledgerRow, holdsRoute, putRoute, routeFor, storeRows, countDiffering}
-use Rattle.rejudge.specs.Rejudging.{verdictOf, rejudgedRoute}
+use Rattle.ledger.specs.Routes.{ledgerWords, Route, routesOf, ledgerOf, roomFor, ledgerOk}
+use Rattle.ledger.specs.Calls.{ledgerRow, holdsRoute, putRoute, routeFor, storeRows, countDiffering}
+use Rattle.rejudge.specs.Rejudging.{rejudgedRoute}
 
 -- The hops that a register's records make.
 abbrev pub hopIn : List ℕ → HopFunction
@@ -74,18 +75,18 @@ keepRows reg led number role neighbour attribute =
     ∷ []
 
 -- Keep answers what Judge answers; the words are the ledger's.
-unfoldable pub keepStep : List ℕ → List ℕ → ℕ → ℕ → ℕ → List ℕ → Step Judged
-keepStep reg led number role neighbour attribute =
+unfoldable pub keepEffect : List ℕ → List ℕ → ℕ → ℕ → ℕ → List ℕ → Effect Judged
+keepEffect reg led number role neighbour attribute =
     unlessRefused (firstGiven (keepRows reg led number role neighbour attribute)) Refused led
     (record {
       answer = judgedRoute (hopIn reg) role neighbour attribute;
-      words = wordsOf (putRoute (keptRoute reg number role neighbour attribute) (routesOf led));
+      words = ledgerOf (putRoute (keptRoute reg number role neighbour attribute) (routesOf led));
     })
 
 -- The end of a keeping that is answered: rows 18 and 20, and the store.
-abbrev pub storedStep : List ℕ → Route → Answer → Step Judged
-storedStep led r answer =
-    unlessRefused (firstGiven (storeRows led r)) Refused led (record { answer = Answered answer; words = wordsOf (putRoute r (routesOf led)) })
+abbrev pub storedEffect : List ℕ → Route → Answer → Effect Judged
+storedEffect led r answer =
+    unlessRefused (firstGiven (storeRows led r)) Refused led (record { answer = Answered answer; words = ledgerOf (putRoute r (routesOf led)) })
 
 -- A keeping that passed rows 1, 2, 3, 9, 10 and 11.
 pub record Ready (reg led : List ℕ) (role neighbour : ℕ) (attribute : List ℕ) : Type 0 where
@@ -100,10 +101,10 @@ pub record Ready (reg led : List ℕ) (role neighbour : ℕ) (attribute : List �
 abbrev pub rejudgeRows : List ℕ → List ℕ → List (Option Refusal)
 rejudgeRows reg led = tablesRow reg led ∷ registerRow reg ∷ ledgerRow led ∷ []
 
-unfoldable pub rejudgeStep : List ℕ → List ℕ → Step Rejudged
-rejudgeStep reg led =
+unfoldable pub rejudgeEffect : List ℕ → List ℕ → Effect Rejudged
+rejudgeEffect reg led =
     unlessRefused (firstGiven (rejudgeRows reg led)) rejudged.Refused led
     (record {
       answer = rejudged.Changed (countDiffering (routesOf led) (map (rejudgedRoute (hopIn reg)) (routesOf led)));
-      words = wordsOf (map (rejudgedRoute (hopIn reg)) (routesOf led));
+      words = ledgerOf (map (rejudgedRoute (hopIn reg)) (routesOf led));
     })

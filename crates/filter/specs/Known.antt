@@ -8,7 +8,7 @@ use Rattle.types.specs.declared.RoleRead.{RoleRead}
 use Rattle.types.specs.declared.RoleRead.the-variants.{Is, Nothing}
 use Rattle.types.specs.declared.Refusal.the-variants.{RoleNumber, NeighbourZero, AttributeLength}
 use Rattle.types.specs.Numbers.{roleOf}
-use Rattle.verdict.specs.Judging.{mostBytes}
+use Rattle.rules.specs.Judging.{mostBytes}
 use Rattle.filter.specs.declared.Known.{Known}
 use Rattle.filter.specs.declared.Known.the-variants as known
 

@@ -6,19 +6,19 @@ use mathlib.Core.Option.{none}
 use lib.ListN.{replicate}
 use Rattle.types.specs.declared.Judged.{Judged}
 use Rattle.types.specs.Rows.{firstGiven}
-use Rattle.verdict.specs.Records.{hopOf}
-use Rattle.verdict.specs.Judging.{unlessGiven, judgedRoute}
-use Rattle.verdict.specs.Vectors as verdict
-use Rattle.verdict.specs.Vectors.{registerD, sequence, Vector, vectors, wanted}
-use Rattle.table.specs.Table.{rows, bodies, pad, encode, decodeRows, decode, rowsOk, allZero, wellFormed}
+use Rattle.rules.specs.Records.{hopOf}
+use Rattle.rules.specs.Judging.{unlessGiven, judgedRoute}
+use Rattle.rules.specs.Vectors as rules
+use Rattle.rules.specs.Vectors.{registerD, sequence, Vector, vectors, wanted}
+use Rattle.table.specs.Table.{slots, bodies, pad, encode, decodeSlots, decode, slotsOk, allZero, wellFormed}
 use Rattle.keyed.specs.Keyed.{ascendsFrom, ascends, holds, put, every}
-use Rattle.register.specs.Register.{registerWords, recordsOf, wordsOf, listed, risesFrom, rises, listOk, recordOk, roomFor, recordsOk, registerOk}
-use Rattle.register.specs.Calls.{tableRow, registerRow, fileStep}
+use Rattle.register.specs.Register.{registerWords, recordsOf, registerOf, listed, risesFrom, rises, listOk, recordOk, roomFor, recordsOk, registerOk}
+use Rattle.register.specs.Calls.{tableRow, registerRow, fileEffect}
 use Rattle.filter.specs.Calls.{judgeAnswer}
 
 -- The words that a filing of source 0 leaves.
 abbrev filed : ℕ → List ℕ → List ℕ → List ℕ
-filed customer providers ws = fileStep ws 0 customer providers .words
+filed customer providers ws = fileEffect ws 0 customer providers .words
 
 -- The six filings of register D, from all zeros.
 abbrev pub wordsD : List ℕ
@@ -58,27 +58,27 @@ packedD =
     ++ replicate 12257 0
 
 step₁ : filed 10 (20 ∷ 30 ∷ []) (replicate registerWords 0) ≡ after₁
-unfolding fileStep firstGiven rows bodies pad encode decodeRows decode rowsOk allZero wellFormed ascendsFrom ascends holds put every recordsOf wordsOf listed risesFrom rises listOk recordOk roomFor recordsOk registerOk
+unfolding fileEffect firstGiven slots bodies pad encode decodeSlots decode slotsOk allZero wellFormed ascendsFrom ascends holds put every recordsOf registerOf listed risesFrom rises listOk recordOk roomFor recordsOk registerOk
 step₁ = refl
 
 step₂ : filed 20 (40 ∷ []) after₁ ≡ after₂
-unfolding fileStep firstGiven rows bodies pad encode decodeRows decode rowsOk allZero wellFormed ascendsFrom ascends holds put every recordsOf wordsOf listed risesFrom rises listOk recordOk roomFor recordsOk registerOk
+unfolding fileEffect firstGiven slots bodies pad encode decodeSlots decode slotsOk allZero wellFormed ascendsFrom ascends holds put every recordsOf registerOf listed risesFrom rises listOk recordOk roomFor recordsOk registerOk
 step₂ = refl
 
 step₃ : filed 40 (0 ∷ []) after₂ ≡ after₃
-unfolding fileStep firstGiven rows bodies pad encode decodeRows decode rowsOk allZero wellFormed ascendsFrom ascends holds put every recordsOf wordsOf listed risesFrom rises listOk recordOk roomFor recordsOk registerOk
+unfolding fileEffect firstGiven slots bodies pad encode decodeSlots decode slotsOk allZero wellFormed ascendsFrom ascends holds put every recordsOf registerOf listed risesFrom rises listOk recordOk roomFor recordsOk registerOk
 step₃ = refl
 
 step₄ : filed 50 (40 ∷ []) after₃ ≡ after₄
-unfolding fileStep firstGiven rows bodies pad encode decodeRows decode rowsOk allZero wellFormed ascendsFrom ascends holds put every recordsOf wordsOf listed risesFrom rises listOk recordOk roomFor recordsOk registerOk
+unfolding fileEffect firstGiven slots bodies pad encode decodeSlots decode slotsOk allZero wellFormed ascendsFrom ascends holds put every recordsOf registerOf listed risesFrom rises listOk recordOk roomFor recordsOk registerOk
 step₄ = refl
 
 step₅ : filed 70 (80 ∷ []) after₄ ≡ after₅
-unfolding fileStep firstGiven rows bodies pad encode decodeRows decode rowsOk allZero wellFormed ascendsFrom ascends holds put every recordsOf wordsOf listed risesFrom rises listOk recordOk roomFor recordsOk registerOk
+unfolding fileEffect firstGiven slots bodies pad encode decodeSlots decode slotsOk allZero wellFormed ascendsFrom ascends holds put every recordsOf registerOf listed risesFrom rises listOk recordOk roomFor recordsOk registerOk
 step₅ = refl
 
 step₆ : filed 80 (70 ∷ []) after₅ ≡ packedD
-unfolding fileStep firstGiven rows bodies pad encode decodeRows decode rowsOk allZero wellFormed ascendsFrom ascends holds put every recordsOf wordsOf listed risesFrom rises listOk recordOk roomFor recordsOk registerOk
+unfolding fileEffect firstGiven slots bodies pad encode decodeSlots decode slotsOk allZero wellFormed ascendsFrom ascends holds put every recordsOf registerOf listed risesFrom rises listOk recordOk roomFor recordsOk registerOk
 step₆ = refl
 
 -- The six filings leave register D, word by word.
@@ -93,12 +93,12 @@ whole-register =
 
 -- Neither row 1 nor row 2 is given to them.
 passed : firstGiven (tableRow packedD ∷ registerRow packedD ∷ []) ≡ none
-unfolding firstGiven decodeRows decode rowsOk allZero wellFormed ascendsFrom ascends every recordsOf listed risesFrom rises listOk recordOk roomFor recordsOk registerOk
+unfolding firstGiven decodeSlots decode slotsOk allZero wellFormed ascendsFrom ascends every recordsOf listed risesFrom rises listOk recordOk roomFor recordsOk registerOk
 passed = refl
 
 -- They hold register D's records.
 records-d : recordsOf packedD ≡ registerD
-unfolding recordsOf decodeRows decode
+unfolding recordsOf decodeSlots decode
 records-d = refl
 
 -- What Judge answers to a vector.
@@ -106,16 +106,16 @@ abbrev pub given : Vector → Judged
 given v = judgeAnswer wordsD (v .role) (v .neighbour) (sequence (v .path))
 
 -- Over them Judge answers as the definitions do over register D.
-over-d : (v : Vector) → given v ≡ verdict.given v
+over-d : (v : Vector) → given v ≡ rules.given v
 unfolding judgeAnswer
 over-d v =
     ap (λ ws. judgeAnswer ws (v .role) (v .neighbour) (sequence (v .path))) whole-register
     ∙ (λ i. unlessGiven (passed i) (judgedRoute (hopOf (records-d i)) (v .role) (v .neighbour) (sequence (v .path))))
 
-all-over-d : (vs : List Vector) → map given vs ≡ map verdict.given vs
+all-over-d : (vs : List Vector) → map given vs ≡ map rules.given vs
 all-over-d [] = refl
 all-over-d (v ∷ vs) = λ i. over-d v i ∷ all-over-d vs i
 
 -- Judge answers every vector over them as the rules want.
 pub starred : map given vectors ≡ map wanted vectors
-starred = all-over-d vectors ∙ verdict.starred
+starred = all-over-d vectors ∙ rules.starred

@@ -1,6 +1,6 @@
 // The calls of the filter. Each takes any tables and any arguments, and tests its rows in their order.
 use as_path::Reading;
-use routes::Kept;
+use ledger::Kept;
 use types::Answer;
 use types::AsNumber;
 use types::Cause;
@@ -17,16 +17,15 @@ use types::Verdict;
 ghost use mathlib.Core.Path.{_≡_};
 ghost use mathlib.Core.Bool.{true};
 ghost use lib.ListN.{length};
-ghost use Rattle.types.specs.Numbers.{roleNumber};
+ghost use Rattle.types.specs.Numbers.{roleNumber, verdictOf};
 ghost use Rattle.as_path.specs.Reading.{contentOf};
-ghost use Rattle.verdict.specs.Judging.{answerTo};
+ghost use Rattle.rules.specs.Judging.{answerTo};
 ghost use Rattle.register.specs.Register.{registerOk};
 ghost use Rattle.filter.specs.Known.{knownFrom};
-ghost use Rattle.register.specs.Calls.{fileStep, withdrawStep, clearStep};
-ghost use Rattle.routes.specs.Routes.{ledgerWords, ledgerOk};
-ghost use Rattle.routes.specs.Calls.{routeFor, dropStep};
-ghost use Rattle.rejudge.specs.Rejudging.{verdictOf};
-ghost use Rattle.filter.specs.Calls.{hopIn, judgeAnswer, storedStep, Ready, keepStep, rejudgeStep};
+ghost use Rattle.register.specs.Calls.{fileEffect, withdrawEffect, clearEffect};
+ghost use Rattle.ledger.specs.Routes.{ledgerWords, ledgerOk};
+ghost use Rattle.ledger.specs.Calls.{routeFor, dropEffect};
+ghost use Rattle.filter.specs.Calls.{hopIn, judgeAnswer, storedEffect, Ready, keepEffect, rejudgeEffect};
 
 // The most bytes of an attribute.
 const MOST_BYTES: usize = 1024;
@@ -63,7 +62,7 @@ fn judge_known(reg: &[u32], role: Role, neighbour: AsNumber, attribute: &[u8]) -
         Reading::OnGround(g) => Judged::Answered(Answer::Plain(Verdict::Invalid(Cause::ByGround(
             g,
         )))),
-        Reading::Path(n) => Judged::Answered(verify::judge(reg, role, &path[..n])),
+        Reading::Path(n) => Judged::Answered(verdict::judge(reg, role, &path[..n])),
     }
 }
 
@@ -92,14 +91,14 @@ fn keep_answer(
     path: &[u32],
 ) -> Judged
     requires { ⌜ (length (now led) ≡ ledgerWords) × (ledgerOk (now led) ≡ true) ⌝ }
-    ensures { λ r. ⌜ (r ≡ storedStep (now (led .entry)) (routeFor (number .0) (roleNumber role) (neighbour .0) (verdictOf answer) (now (path .entry))) answer .answer) × (now (led .exit) ≡ storedStep (now (led .entry)) (routeFor (number .0) (roleNumber role) (neighbour .0) (verdictOf answer) (now (path .entry))) answer .words) ⌝ }
+    ensures { λ r. ⌜ (r ≡ storedEffect (now (led .entry)) (routeFor (number .0) (roleNumber role) (neighbour .0) (verdictOf answer) (now (path .entry))) answer .answer) × (now (led .exit) ≡ storedEffect (now (led .entry)) (routeFor (number .0) (roleNumber role) (neighbour .0) (verdictOf answer) (now (path .entry))) answer .words) ⌝ }
 {
-    match routes::store(
+    match ledger::store(
         led,
         number,
         role,
         neighbour,
-        rejudge::verdict_of(answer),
+        answer.verdict(),
         path,
     ) {
         Kept::Done => Judged::Answered(answer),
@@ -117,7 +116,7 @@ fn keep_known(
     attribute: &[u8],
 ) -> Judged
     requires { ⌜ Ready (now reg) (now led) (roleNumber role) (neighbour .0) (now attribute) ⌝ }
-    ensures { λ r. ⌜ (r ≡ keepStep (now (reg .entry)) (now (led .entry)) (number .0) (roleNumber role) (neighbour .0) (now (attribute .entry)) .answer) × (now (led .exit) ≡ keepStep (now (reg .entry)) (now (led .entry)) (number .0) (roleNumber role) (neighbour .0) (now (attribute .entry)) .words) ⌝ }
+    ensures { λ r. ⌜ (r ≡ keepEffect (now (reg .entry)) (now (led .entry)) (number .0) (roleNumber role) (neighbour .0) (now (attribute .entry)) .answer) × (now (led .exit) ≡ keepEffect (now (reg .entry)) (now (led .entry)) (number .0) (roleNumber role) (neighbour .0) (now (attribute .entry)) .words) ⌝ }
 {
     let mut path = [0u32; 64];
     match as_path::read(role, neighbour, attribute, &mut path) {
@@ -127,7 +126,7 @@ fn keep_known(
             keep_answer(led, number, role, neighbour, answer, &path[..0])
         }
         Reading::Path(n) => {
-            let answer = verify::judge(reg, role, &path[..n]);
+            let answer = verdict::judge(reg, role, &path[..n]);
             keep_answer(led, number, role, neighbour, answer, &path[..n])
         }
     }
@@ -141,18 +140,18 @@ pub fn keep(
     neighbour: AsNumber,
     attribute: &[u8],
 ) -> Judged
-    ensures { λ r. ⌜ (r ≡ keepStep (now (reg .entry)) (now (led .entry)) (number .0) role (neighbour .0) (now (attribute .entry)) .answer) × (now (led .exit) ≡ keepStep (now (reg .entry)) (now (led .entry)) (number .0) role (neighbour .0) (now (attribute .entry)) .words) ⌝ }
+    ensures { λ r. ⌜ (r ≡ keepEffect (now (reg .entry)) (now (led .entry)) (number .0) role (neighbour .0) (now (attribute .entry)) .answer) × (now (led .exit) ≡ keepEffect (now (reg .entry)) (now (led .entry)) (number .0) role (neighbour .0) (now (attribute .entry)) .words) ⌝ }
 {
     if reg.len() != register::WORDS {
         return Judged::Refused(Refusal::TableLength);
     }
-    if led.len() != routes::WORDS {
+    if led.len() != ledger::WORDS {
         return Judged::Refused(Refusal::TableLength);
     }
     if !register::is_register(reg) {
         return Judged::Refused(Refusal::RegisterMalformed);
     }
-    if !routes::is_ledger(led) {
+    if !ledger::is_ledger(led) {
         return Judged::Refused(Refusal::RoutesMalformed);
     }
     match know(role, neighbour.0, attribute) {
@@ -162,24 +161,24 @@ pub fn keep(
 }
 
 pub fn drop(led: &mut [u32], number: RouteNumber) -> Removal
-    ensures { λ r. ⌜ (r ≡ dropStep (now (led .entry)) (number .0) .answer) × (now (led .exit) ≡ dropStep (now (led .entry)) (number .0) .words) ⌝ }
+    ensures { λ r. ⌜ (r ≡ dropEffect (now (led .entry)) (number .0) .answer) × (now (led .exit) ≡ dropEffect (now (led .entry)) (number .0) .words) ⌝ }
 {
-    routes::drop(led, number)
+    ledger::drop(led, number)
 }
 
 pub fn rejudge(reg: &[u32], led: &mut [u32]) -> Rejudged
-    ensures { λ r. ⌜ (r ≡ rejudgeStep (now (reg .entry)) (now (led .entry)) .answer) × (now (led .exit) ≡ rejudgeStep (now (reg .entry)) (now (led .entry)) .words) ⌝ }
+    ensures { λ r. ⌜ (r ≡ rejudgeEffect (now (reg .entry)) (now (led .entry)) .answer) × (now (led .exit) ≡ rejudgeEffect (now (reg .entry)) (now (led .entry)) .words) ⌝ }
 {
     if reg.len() != register::WORDS {
         return Rejudged::Refused(Refusal::TableLength);
     }
-    if led.len() != routes::WORDS {
+    if led.len() != ledger::WORDS {
         return Rejudged::Refused(Refusal::TableLength);
     }
     if !register::is_register(reg) {
         return Rejudged::Refused(Refusal::RegisterMalformed);
     }
-    if !routes::is_ledger(led) {
+    if !ledger::is_ledger(led) {
         return Rejudged::Refused(Refusal::RoutesMalformed);
     }
     let changed = rejudge::rejudge_all(reg, led);
@@ -187,19 +186,19 @@ pub fn rejudge(reg: &[u32], led: &mut [u32]) -> Rejudged
 }
 
 pub fn file(reg: &mut [u32], source: u32, customer: AsNumber, providers: &[u32]) -> Filed
-    ensures { λ r. ⌜ (r ≡ fileStep (now (reg .entry)) source (customer .0) (now (providers .entry)) .answer) × (now (reg .exit) ≡ fileStep (now (reg .entry)) source (customer .0) (now (providers .entry)) .words) ⌝ }
+    ensures { λ r. ⌜ (r ≡ fileEffect (now (reg .entry)) source (customer .0) (now (providers .entry)) .answer) × (now (reg .exit) ≡ fileEffect (now (reg .entry)) source (customer .0) (now (providers .entry)) .words) ⌝ }
 {
     register::file(reg, source, customer, providers)
 }
 
 pub fn withdraw(reg: &mut [u32], source: u32, customer: AsNumber) -> Removal
-    ensures { λ r. ⌜ (r ≡ withdrawStep (now (reg .entry)) source (customer .0) .answer) × (now (reg .exit) ≡ withdrawStep (now (reg .entry)) source (customer .0) .words) ⌝ }
+    ensures { λ r. ⌜ (r ≡ withdrawEffect (now (reg .entry)) source (customer .0) .answer) × (now (reg .exit) ≡ withdrawEffect (now (reg .entry)) source (customer .0) .words) ⌝ }
 {
     register::withdraw(reg, source, customer)
 }
 
 pub fn clear(reg: &mut [u32], source: u32) -> Cleared
-    ensures { λ r. ⌜ (r ≡ clearStep (now (reg .entry)) source .answer) × (now (reg .exit) ≡ clearStep (now (reg .entry)) source .words) ⌝ }
+    ensures { λ r. ⌜ (r ≡ clearEffect (now (reg .entry)) source .answer) × (now (reg .exit) ≡ clearEffect (now (reg .entry)) source .words) ⌝ }
 {
     register::clear(reg, source)
 }

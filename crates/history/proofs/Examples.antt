@@ -8,11 +8,11 @@ use native.Mathlib.Omega.{arith}
 use lib.ListN.{length, replicate}
 use Rattle.types.specs.declared.Refusal.the-variants.{RegisterFull}
 use Rattle.types.specs.Rows.{firstGiven}
-use Rattle.table.specs.Table.{rows, bodies, pad, encode}
+use Rattle.table.specs.Table.{slots, bodies, pad, encode}
 use Rattle.keyed.specs.Keyed.{find, holds, put, without}
-use Rattle.verdict.specs.Draft.{each}
-use Rattle.verdict.proofs.Drafting.{each-no}
-use Rattle.register.specs.Register.{wordsOf, listed, rises, risesFrom, listOk, roomFor, recordsOf}
+use Rattle.rules.specs.Draft.{each}
+use Rattle.rules.proofs.Drafting.{each-no}
+use Rattle.register.specs.Register.{registerOf, listed, rises, risesFrom, listOk, roomFor, recordsOf}
 use Rattle.history.specs.Calls.{Call, file, withdraw, said, last}
 use Rattle.history.specs.Replies.{refused, shown, forRoom}
 use Rattle.history.specs.Model.{refusal, after, replyAt, final, written}
@@ -40,7 +40,7 @@ both = (refl, refl)
 
 -- It is written as these words.
 register-words : written (final one-first) .register ≡ (2 ∷ 3 ∷ 65010 ∷ 0 ∷ 0 ∷ 1 ∷ 65010 ∷ 2 ∷ 1 ∷ 2 ∷ 65003 ∷ 65001 ∷ 65002 ∷ []) ++ replicate 12277 0
-unfolding written wordsOf encode pad rows bodies after refusal firstGiven find holds put listed rises risesFrom listOk roomFor
+unfolding written registerOf encode pad slots bodies after refusal firstGiven find holds put listed rises risesFrom listOk roomFor
 register-words = refl
 
 -- ---- room

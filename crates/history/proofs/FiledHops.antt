@@ -12,8 +12,8 @@ use Rattle.keyed.specs.Keyed.{samePair, beforePair, every, ascendsFrom, ascends
 use Rattle.keyed.proofs.Orders.{ordered-pairs, ordered-ℕ, same-flip, both-left, both-right}
 use Rattle.keyed.proofs.Ranks.{from-ascends}
 use Rattle.keyed.proofs.Finds.{none-from}
-use Rattle.verdict.specs.Draft as draft
-use Rattle.verdict.specs.Records.{Record, isIn, attested, united, hopOf}
+use Rattle.rules.specs.Draft as draft
+use Rattle.rules.specs.Records.{Record, isIn, attested, united, hopOf}
 use Rattle.register.specs.Register.{lastSource, keyOf, recordOk, recordsOk}
 use Rattle.register.proofs.Holding.{each-ok, in-order}
 use Rattle.register.proofs.Uniting.{in-append}

@@ -9,7 +9,7 @@ use Rattle.types.specs.declared.Refusal.{Refusal}
 use Rattle.keyed.specs.Keyed.{samePair, beforePair, find}
 use Rattle.keyed.proofs.Orders.{ordered-pairs, ordered-ℕ, same-flip}
 use Rattle.keyed.proofs.Finds.{find-put, find-without}
-use Rattle.verdict.specs.Records.{Record}
+use Rattle.rules.specs.Records.{Record}
 use Rattle.register.specs.Register.{keyOf}
 use Rattle.register.specs.Calls.{recordFor, holdsRecord, ofSource}
 use Rattle.history.specs.Calls.{Call, file, withdraw, clear, keep, drop, rejudge, callAt, said, KeptRoute, routeRead}

@@ -7,20 +7,21 @@ use mathlib.Core.Option.{none}
 use borrow.Author.Tests.{eqb-true}
 use lib.Dec.{eqb}
 use lib.ListN.{length}
+use Rattle.types.specs.Numbers.{verdictOf}
 use Rattle.types.specs.declared.Verdict.{Verdict}
 use Rattle.types.specs.declared.Answer.the-variants.{Plain, WithGap}
 use Rattle.types.specs.Roles.{isUpstream}
 use Rattle.types.specs.Rows.{firstGiven}
 use Rattle.keyed.proofs.Orders.{both-left, both-right}
-use Rattle.verdict.specs.Hops.{HopFunction}
-use Rattle.verdict.specs.Verdicts.{gapOf, upstream, downstream, judged}
-use Rattle.verdict.specs.Draft.{outcomeOf, draftUpstream, draftDownstream}
-use Rattle.verdict.specs.Judging.{judgeRows}
-use Rattle.verdict.proofs.Drafting.{draft-upstream, draft-downstream}
-use Rattle.verdict.proofs.Judges.{Judgement, on-ground, on-path, judgement}
-use Rattle.routes.specs.Routes.{Route, groundOk, routeOk}
-use Rattle.routes.specs.Calls.{stamped}
-use Rattle.rejudge.specs.Rejudging.{verdictOf, rejudgedRoute}
+use Rattle.rules.specs.Hops.{HopFunction}
+use Rattle.rules.specs.Verdicts.{gapOf, upstream, downstream, judged}
+use Rattle.rules.specs.Draft.{outcomeOf, draftUpstream, draftDownstream}
+use Rattle.rules.specs.Judging.{judgeRows}
+use Rattle.rules.proofs.Drafting.{draft-upstream, draft-downstream}
+use Rattle.rules.proofs.Judges.{Judgement, on-ground, on-path, judgement}
+use Rattle.ledger.specs.Routes.{Route, groundOk, routeOk}
+use Rattle.ledger.specs.Calls.{stamped}
+use Rattle.rejudge.specs.Rejudging.{rejudgedRoute}
 use Rattle.rejudge.proofs.Rejudgements.{by-ground}
 use Rattle.filter.specs.Calls.{keptRoute, hopIn}
 use Rattle.filter.proofs.KeptRoutes.{judged-ground}

@@ -14,7 +14,7 @@ use Rattle.keyed.specs.Keyed.{Ordered, samePair, beforePair, ascends, find, wit
 use Rattle.keyed.proofs.Orders.{ordered-pairs, ordered-ℕ, same-flip}
 use Rattle.keyed.proofs.Puts.{ascends-put, ascends-without}
 use Rattle.keyed.proofs.Finds.{isSome, find-holds, find-none, find-put, find-without, same-finds}
-use Rattle.verdict.specs.Records.{Record}
+use Rattle.rules.specs.Records.{Record}
 use Rattle.register.specs.Register.{keyOf}
 use Rattle.register.specs.Calls.{recordFor, holdsRecord, ofSource, countRecords}
 use Rattle.history.specs.Calls.{Call, file, withdraw, clear, keep, drop, rejudge, callAt, KeptRoute, routeRead}

@@ -4,7 +4,7 @@ use mathlib.Core.Path.{_≡_, refl, ap, _∙_}
 use mathlib.Core.List.{List, [], _∷_, map}
 use lib.ListN.{length, length-append, length-map}
 use Rattle.table.specs.Table.{bodies}
-use Rattle.routes.specs.Routes.{Route, entryOf, pathWords, roomFor}
+use Rattle.ledger.specs.Routes.{Route, entryOf, pathWords, roomFor}
 use Rattle.history.specs.Model.{pathNumbers, roomForRoutes}
 use Rattle.history.specs.Demands.{known}
 

@@ -13,13 +13,13 @@ use Rattle.types.specs.declared.Refusal.the-variants.{RegisterFull, RoutesFull}
 use Rattle.types.specs.Rows.{rowIf, orElse, firstGiven}
 use Rattle.types.proofs.Clashes.{not-both, some-not-none}
 use Rattle.keyed.proofs.Orders.{ordered-pairs, ordered-ℕ}
-use Rattle.verdict.proofs.Judges.{first-append}
+use Rattle.rules.proofs.Judges.{first-append}
 use Rattle.register.specs.Register.{roomFor}
 use Rattle.register.specs.Calls.{recordFor, putRecord}
 use Rattle.history.specs.Calls.{Call, file, withdraw, clear, keep, drop, rejudge, callAt, routeRead}
 use Rattle.history.specs.Replies.{refused, forRoom}
 use Rattle.history.specs.Model.{Model, putKept, argumentRows, heldRows, roomRows, roomForRoutes, refusal, answer, change, replyUnless, changeUnless, replyTo, after, replyAt, final}
-use Rattle.history.specs.Reorderings.{OnPair, Clears, OfSource, OnRoute, Tied, same-pair, clear-first, clear-second, same-route, IsStep, Step, Reordering}
+use Rattle.history.specs.Reorderings.{OnPair, Clears, OfSource, OnRoute, Tied, same-pair, clear-first, clear-second, same-route, IsStep, StepAt, Reordering}
 use Rattle.history.proofs.Keys.{Key, pair, route, look, hits, freeRefusal, freeReply, freeNext, freeAfter, miss, alike, free-in-order, same-model, reply-alike}
 
 -- A test that cannot pass fails.
@@ -167,7 +167,7 @@ in-range k l x h = go (decLt x (length l))
 
 module _ (l m : List Call) (r : Reordering l m) where
   -- With room without end, each step is answered alike in both lists,
-  free-replies : (i : ℕ) → Step l i → freeReply (freeAfter l i) (callAt l i) ≡ freeReply (freeAfter m (r .to i)) (callAt m (r .to i))
+  free-replies : (i : ℕ) → StepAt l i → freeReply (freeAfter l i) (callAt l i) ≡ freeReply (freeAfter m (r .to i)) (callAt m (r .to i))
   free-replies i s =
       reply-alike (freeAfter l i) (freeAfter m (r .to i)) (callAt l i) (free-in-order l i) (free-in-order m (r .to i))
       (λ k h. same-found k l m r i (r .to i) (cut-at k l m r i h))
@@ -237,7 +237,7 @@ reply-free l h i =
 
 module _ (l m : List Call) (r : Reordering l m) (h : RoomyModel l) (g : RoomyModel m) where
   -- Each step is answered alike in both lists.
-  pub same-replies : (i : ℕ) → Step l i → replyAt l i ≡ replyAt m (r .to i)
+  pub same-replies : (i : ℕ) → StepAt l i → replyAt l i ≡ replyAt m (r .to i)
   same-replies i s = reply-free l h i ∙ free-replies l m r i s ∙ sym (reply-free m g (r .to i))
 
   -- And the model is the same at the end.

@@ -6,7 +6,7 @@ use native.Mathlib.Omega.{arith}
 use native.Mathlib.Decide.{decLt}
 use lib.Dec.{lit<}
 use Rattle.history.specs.Calls.{Call, file, clear, keep, drop, rejudge, callAt}
-use Rattle.history.specs.Reorderings.{Tied, same-pair, clear-first, clear-second, same-route, Step, Reordering}
+use Rattle.history.specs.Reorderings.{Tied, same-pair, clear-first, clear-second, same-route, StepAt, Reordering}
 
 -- A list is a reordering of itself.
 pub itself : (l : List Call) → Reordering l l
@@ -33,10 +33,10 @@ chain l m n p q = record {
       q .in-order (p .to i) (p .to j) (moved i s) (moved j t) (p .in-order i j s t h d) (rw (p .to-same i s, p .to-same j t) d);
 }
   where
-    moved : (i : ℕ) → Step l i → Step m (p .to i)
+    moved : (i : ℕ) → StepAt l i → StepAt m (p .to i)
     moved i s = rw (p .to-same i s) s
 
-    back : (j : ℕ) → Step n j → Step m (q .from j)
+    back : (j : ℕ) → StepAt n j → StepAt m (q .from j)
     back j s = rw (q .from-same j s) s
 
 -- To be tied goes both ways.
@@ -58,10 +58,10 @@ back l m r = record {
   in-order = order;
 }
   where
-    step : (j : ℕ) → Step m j → Step l (r .from j)
+    step : (j : ℕ) → StepAt m j → StepAt l (r .from j)
     step j s = rw (r .from-same j s) s
 
-    order : (i j : ℕ) → Step m i → Step m j → i < j → Tied (callAt m i) (callAt m j) → r .from i < r .from j
+    order : (i j : ℕ) → StepAt m i → StepAt m j → i < j → Tied (callAt m i) (callAt m j) → r .from i < r .from j
     order i j s t h d = go (decLt (r .from i) (r .from j)) (decLt (r .from j) (r .from i))
       where
         go : Dec (r .from i < r .from j) → Dec (r .from j < r .from i) → r .from i < r .from j
@@ -92,7 +92,7 @@ one-more c l m r = record {
   in-order = order;
 }
   where
-    order : (i j : ℕ) → Step (c ∷ l) i → Step (c ∷ l) j → i < j → Tied (callAt (c ∷ l) i) (callAt (c ∷ l) j) → under (r .to) i < under (r .to) j
+    order : (i j : ℕ) → StepAt (c ∷ l) i → StepAt (c ∷ l) j → i < j → Tied (callAt (c ∷ l) i) (callAt (c ∷ l) j) → under (r .to) i < under (r .to) j
     order zero zero s t h d = omega arith
     order zero (suc j) s t h d = omega arith
     order (suc i) zero s t h d = omega arith
@@ -122,7 +122,7 @@ swap-first a b l n = record {
   in-order = order;
 }
   where
-    same : (a b : Call) (i : ℕ) → Step (a ∷ b ∷ l) i → callAt (b ∷ a ∷ l) (exchanged i) ≡ callAt (a ∷ b ∷ l) i
+    same : (a b : Call) (i : ℕ) → StepAt (a ∷ b ∷ l) i → callAt (b ∷ a ∷ l) (exchanged i) ≡ callAt (a ∷ b ∷ l) i
     same a b zero s = refl
     same a b (suc zero) s = refl
     same a b (suc (suc i)) s = refl
@@ -132,7 +132,7 @@ swap-first a b l n = record {
     twice (suc zero) = refl
     twice (suc (suc i)) = refl
 
-    order : (i j : ℕ) → Step (a ∷ b ∷ l) i → Step (a ∷ b ∷ l) j → i < j → Tied (callAt (a ∷ b ∷ l) i) (callAt (a ∷ b ∷ l) j) → exchanged i < exchanged j
+    order : (i j : ℕ) → StepAt (a ∷ b ∷ l) i → StepAt (a ∷ b ∷ l) j → i < j → Tied (callAt (a ∷ b ∷ l) i) (callAt (a ∷ b ∷ l) j) → exchanged i < exchanged j
     order zero zero s t h d = omega arith
     order zero (suc zero) s t h d = absurd (n d)
     order zero (suc (suc j)) s t h d = omega arith
@@ -165,11 +165,11 @@ rejudge-first l = record {
   in-order = λ i j s t h d. omega arith;
 }
   where
-    same : (j : ℕ) → Step (rejudge ∷ l) j → callAt l (earlier j) ≡ callAt (rejudge ∷ l) j
+    same : (j : ℕ) → StepAt (rejudge ∷ l) j → callAt l (earlier j) ≡ callAt (rejudge ∷ l) j
     same zero s = absurd s
     same (suc j) s = refl
 
-    forth : (j : ℕ) → Step (rejudge ∷ l) j → suc (earlier j) ≡ j
+    forth : (j : ℕ) → StepAt (rejudge ∷ l) j → suc (earlier j) ≡ j
     forth zero s = absurd s
     forth (suc j) s = refl
 
@@ -178,7 +178,7 @@ pub rejudge-anywhere : (k l : List Call) → Reordering (k ++ l) (k ++ (rejudge 
 rejudge-anywhere k l = more k l (rejudge ∷ l) (rejudge-first l)
 
 -- Two calls that are tied, and of which neither is the other or a re-judging, are not changed about.
-stays : (a b : Call) → Step (a ∷ b ∷ []) 0 → Step (a ∷ b ∷ []) 1 → (a ≡ b → ⊥) → (rejudge ≡ a → ⊥) → (rejudge ≡ b → ⊥) → Tied a b
+stays : (a b : Call) → StepAt (a ∷ b ∷ []) 0 → StepAt (a ∷ b ∷ []) 1 → (a ≡ b → ⊥) → (rejudge ≡ a → ⊥) → (rejudge ≡ b → ⊥) → Tied a b
     → Reordering (a ∷ b ∷ []) (b ∷ a ∷ []) → ⊥
 stays a b s t n x y d r = go (r .to 0) (r .to 1) (r .to-same 0 s) (r .to-same 1 t) (r .in-order 0 1 s t (lit< tt) d)
   where

@@ -15,37 +15,37 @@ use Rattle.types.specs.declared.Judged.the-variants as judging
 use Rattle.types.specs.declared.Rejudged.the-variants as rejudging
 use Rattle.types.specs.declared.Refusal.{Refusal}
 use Rattle.types.specs.declared.Refusal.the-variants.{TableLength, RouteTaken, RoutesFull}
-use Rattle.types.specs.Rows.{rowIf, orElse, firstGiven, Step, unlessRefused}
+use Rattle.types.specs.Rows.{rowIf, orElse, firstGiven, Effect, unlessRefused}
 use Rattle.types.proofs.Clashes.{some-not-none}
 use Rattle.types.proofs.Refusing.{row-passed, accepted-none}
-use Rattle.table.specs.Table.{rows, bodies, pad, encode}
+use Rattle.table.specs.Table.{slots, bodies, pad, encode}
 use Rattle.keyed.specs.Keyed.{samePair, every, ascends}
 use Rattle.keyed.proofs.Orders.{ordered-ℕ, same-flip, both-left, both-right}
 use Rattle.keyed.proofs.Finds.{find-put, find-without}
 use Rattle.keyed.proofs.Mapping.{find-map, holds-map, put-map, without-map}
-use Rattle.verdict.specs.Records.{Record, hopOf}
-use Rattle.verdict.specs.Hops.{HopFunction}
-use Rattle.verdict.specs.Judging.{judgeRows, judgedRoute}
-use Rattle.verdict.proofs.Judges.{first-append, judged-reads, Judgement, on-ground, on-path, judgement}
+use Rattle.rules.specs.Records.{Record, hopOf}
+use Rattle.rules.specs.Hops.{HopFunction}
+use Rattle.rules.specs.Judging.{judgeRows, judgedRoute}
+use Rattle.rules.proofs.Judges.{first-append, judged-reads, Judgement, on-ground, on-path, judgement}
 use Rattle.register.specs.Register.{registerWords, recordsOf, recordsOk, roomFor}
 use Rattle.register.specs.Register as register
-use Rattle.register.specs.Calls.{tableRow, registerRow, recordFor, holdsRecord, putRecord, eraseRecord, clearRecords, countRecords, ofSource, filedAs, fileStep, withdrawStep, clearStep}
+use Rattle.register.specs.Calls.{tableRow, registerRow, recordFor, holdsRecord, putRecord, eraseRecord, clearRecords, countRecords, ofSource, filedAs, fileEffect, withdrawEffect, clearEffect}
 use Rattle.register.proofs.Entries.{records-of-words}
 use Rattle.register.proofs.Holding.{room-records, room-lists}
 use Rattle.register.proofs.Holding as holding
-use Rattle.register.proofs.Keeping.{record-ok}
-use Rattle.register.proofs.Keeping as keeping
+use Rattle.register.proofs.Changes.{record-ok}
+use Rattle.register.proofs.Changes as changes
 use Rattle.register.proofs.Refusals.{Register, records-register}
-use Rattle.routes.specs.Routes.{ledgerWords, Route, routesOf, routeOk, routesOk, keyOf}
-use Rattle.routes.specs.Routes as routes
-use Rattle.routes.specs.Calls.{ledgerRow, holdsRoute, putRoute, eraseRoute, dropStep, countDiffering}
-use Rattle.routes.proofs.Entries.{routes-of-words}
-use Rattle.routes.proofs.Holding.{room-routes, room-paths, has-room, each-ok}
-use Rattle.routes.proofs.Keeping.{put-ok, without-ok}
-use Rattle.routes.proofs.Refusals.{Ledger, routes-ledger}
+use Rattle.ledger.specs.Routes.{ledgerWords, Route, routesOf, routeOk, routesOk, keyOf}
+use Rattle.ledger.specs.Routes as ledger
+use Rattle.ledger.specs.Calls.{ledgerRow, holdsRoute, putRoute, eraseRoute, dropEffect, countDiffering}
+use Rattle.ledger.proofs.Entries.{routes-of-words}
+use Rattle.ledger.proofs.Holding.{room-routes, room-paths, has-room, each-ok}
+use Rattle.ledger.proofs.Changes.{put-ok, without-ok}
+use Rattle.ledger.proofs.Refusals.{Ledger, routes-ledger}
 use Rattle.rejudge.specs.Rejudging.{rejudgedRoute}
 use Rattle.rejudge.proofs.Rejudgements.{rejudged-ok}
-use Rattle.filter.specs.Calls.{hopIn, tablesRow, refusalIn, keptRoute, keepRows, keepStep, rejudgeStep}
+use Rattle.filter.specs.Calls.{hopIn, tablesRow, refusalIn, keptRoute, keepRows, keepEffect, rejudgeEffect}
 use Rattle.filter.proofs.KeptRoutes.{kept-ok}
 use Rattle.history.specs.Calls.{Call, file, withdraw, clear, keep, drop, rejudge, rejudged, Tables, routeRead, says, leaves, blank, callAt, tables, said, last}
 use Rattle.history.specs.Replies.{ModelReply, refused, done, replaced, new, shownFiled, shownRemoval, shownCleared, shownJudged, shownRejudged, shown, accepted}
@@ -60,7 +60,7 @@ use Rattle.history.proofs.KeptRoutes.{kept-known, rejudged-written, rej
 
 -- The tables of words.
 abbrev pub tablesOf : List Record → List Route → Tables
-tablesOf lists stored = record { register = register.wordsOf lists; ledger = routes.wordsOf stored }
+tablesOf lists stored = record { register = register.registerOf lists; ledger = ledger.ledgerOf stored }
 
 -- The model.
 abbrev pub modelOf : List Record → List Route → Model
@@ -90,45 +90,45 @@ pub record Simulated (t : Tables) (m : Model) (c : Call) : Type 0 where
 
 module _ (lists : List Record) (ok : recordsOk lists ≡ true) where
   -- The register holds the lists.
-  pub records-are : recordsOf (register.wordsOf lists) ≡ lists
+  pub records-are : recordsOf (register.registerOf lists) ≡ lists
   records-are = let room = holding.has-room lists ok in records-of-words lists (room-records lists room) (room-lists lists room)
 
   -- It keeps the word rules.
-  pub is-register : Register (register.wordsOf lists)
+  pub is-register : Register (register.registerOf lists)
   is-register = records-register lists ok
 
   -- Rows 1 and 2 are not given.
-  pub register-passes : (rows : List (Option Refusal))
-      → firstGiven (tableRow (register.wordsOf lists) ∷ registerRow (register.wordsOf lists) ∷ rows) ≡ firstGiven rows
+  pub register-passes : (slots : List (Option Refusal))
+      → firstGiven (tableRow (register.registerOf lists) ∷ registerRow (register.registerOf lists) ∷ slots) ≡ firstGiven slots
   unfolding firstGiven
-  register-passes rows = rw (is-register .long, is-register .ok)
+  register-passes slots = rw (is-register .long, is-register .ok)
 
 module _ (stored : List Route) (ok : routesOk stored ≡ true) where
   -- The ledger holds the stored routes.
-  pub routes-are : routesOf (routes.wordsOf stored) ≡ stored
+  pub routes-are : routesOf (ledger.ledgerOf stored) ≡ stored
   routes-are = let room = has-room stored ok in routes-of-words stored (room-routes stored room) (room-paths stored room)
 
   -- It keeps the word rules.
-  pub is-ledger : Ledger (routes.wordsOf stored)
+  pub is-ledger : Ledger (ledger.ledgerOf stored)
   is-ledger = routes-ledger stored ok
 
   -- Rows 1 and 3 are not given.
-  ledger-passes : (rows : List (Option Refusal))
-      → firstGiven (rowIf (not (eqb (length (routes.wordsOf stored)) ledgerWords)) TableLength ∷ ledgerRow (routes.wordsOf stored) ∷ rows) ≡ firstGiven rows
+  ledger-passes : (slots : List (Option Refusal))
+      → firstGiven (rowIf (not (eqb (length (ledger.ledgerOf stored)) ledgerWords)) TableLength ∷ ledgerRow (ledger.ledgerOf stored) ∷ slots) ≡ firstGiven slots
   unfolding firstGiven
-  ledger-passes rows = rw (is-ledger .long, is-ledger .ok)
+  ledger-passes slots = rw (is-ledger .long, is-ledger .ok)
 
 -- Rows 1, 2 and 3 are not given.
-tables-pass : (lists : List Record) (stored : List Route) → recordsOk lists ≡ true → routesOk stored ≡ true → (rows : List (Option Refusal))
-    → firstGiven (tablesRow (register.wordsOf lists) (routes.wordsOf stored) ∷ registerRow (register.wordsOf lists) ∷ ledgerRow (routes.wordsOf stored) ∷ rows)
-    ≡ firstGiven rows
+tables-pass : (lists : List Record) (stored : List Route) → recordsOk lists ≡ true → routesOk stored ≡ true → (slots : List (Option Refusal))
+    → firstGiven (tablesRow (register.registerOf lists) (ledger.ledgerOf stored) ∷ registerRow (register.registerOf lists) ∷ ledgerRow (ledger.ledgerOf stored) ∷ slots)
+    ≡ firstGiven slots
 unfolding firstGiven
-tables-pass lists stored ok fine rows =
+tables-pass lists stored ok fine slots =
     rw (is-register lists ok .long, is-register lists ok .ok, is-ledger stored fine .long, is-ledger stored fine .ok)
 
 -- What is shown of a refused call is the refusal.
 shown-unless : {A : Type 0} (show : A → ModelReply) (refuse : Refusal → A) → ((r : Refusal) → show (refuse r) ≡ refused r)
-    → (o : Option Refusal) (ws : List ℕ) (accepted : Step A) → show (unlessRefused o refuse ws accepted .answer) ≡ replyUnless o (show (accepted .answer))
+    → (o : Option Refusal) (ws : List ℕ) (accepted : Effect A) → show (unlessRefused o refuse ws accepted .answer) ≡ replyUnless o (show (accepted .answer))
 shown-unless show refuse e (some r) ws accepted = e r
 shown-unless show refuse e none ws accepted = refl
 
@@ -155,8 +155,8 @@ module _ (lists : List Record) (stored : List Route) (ok : recordsOk lists ≡ t
       → (o ≡ none → recordsOk after ≡ true)
       → Holds
       (record {
-        register = unlessRefused o refuse (register.wordsOf lists) (record { answer = reply; words = register.wordsOf after }) .words;
-        ledger = routes.wordsOf stored;
+        register = unlessRefused o refuse (register.registerOf lists) (record { answer = reply; words = register.registerOf after }) .words;
+        ledger = ledger.ledgerOf stored;
       })
       (changeUnless o (modelOf lists stored) (modelOf after stored))
   register-held (some r) refuse reply after h = held
@@ -168,8 +168,8 @@ module _ (lists : List Record) (stored : List Route) (ok : recordsOk lists ≡ t
       → (o ≡ none → routesOk after ≡ true) → (o ≡ none → n ≡ modelOf lists after)
       → Holds
       (record {
-        register = register.wordsOf lists;
-        ledger = unlessRefused o refuse (routes.wordsOf stored) (record { answer = reply; words = routes.wordsOf after }) .words;
+        register = register.registerOf lists;
+        ledger = unlessRefused o refuse (ledger.ledgerOf stored) (record { answer = reply; words = ledger.ledgerOf after }) .words;
       })
       (changeUnless o (modelOf lists stored) n)
   ledger-held (some r) refuse reply after n h g = held
@@ -179,22 +179,22 @@ module _ (lists : List Record) (stored : List Route) (ok : recordsOk lists ≡ t
   -- What is stored under a number after a call on the ledger.
   ledger-stores : (o : Option Refusal) {A : Type 0} (refuse : Refusal → A) (reply : A) (after : List Route) (number : ℕ) (v : Option Route)
       → (o ≡ none → routesOk after ≡ true) → findRoute number after ≡ v
-      → findRoute number (routesOf (unlessRefused o refuse (routes.wordsOf stored) (record { answer = reply; words = routes.wordsOf after }) .words))
-      ≡ cond (accepted (replyUnless o done)) v (findRoute number (routesOf (routes.wordsOf stored)))
+      → findRoute number (routesOf (unlessRefused o refuse (ledger.ledgerOf stored) (record { answer = reply; words = ledger.ledgerOf after }) .words))
+      ≡ cond (accepted (replyUnless o done)) v (findRoute number (routesOf (ledger.ledgerOf stored)))
   ledger-stores (some r) refuse reply after number v h e = refl
   ledger-stores none refuse reply after number v h e = ap (findRoute number) (routes-are after (h refl)) ∙ e
 
   -- What was stored under a number before it.
-  stored-before : (number : ℕ) → findRoute number (routesOf (routes.wordsOf stored)) ≡ findRoute number stored
+  stored-before : (number : ℕ) → findRoute number (routesOf (ledger.ledgerOf stored)) ≡ findRoute number stored
   stored-before number = ap (findRoute number) (routes-are stored fine)
 
   module _ (s c : ℕ) (list : List ℕ) where
     -- File, as the model refuses it.
     file-step :
-        fileStep (register.wordsOf lists) s c list
-        ≡ unlessRefused (refusal (modelOf lists stored) (file s c list)) filing.Refused (register.wordsOf lists)
-        (record { answer = filedAs (recordFor s c list) lists; words = register.wordsOf (putRecord (recordFor s c list) lists) })
-    unfolding fileStep refusal
+        fileEffect (register.registerOf lists) s c list
+        ≡ unlessRefused (refusal (modelOf lists stored) (file s c list)) filing.Refused (register.registerOf lists)
+        (record { answer = filedAs (recordFor s c list) lists; words = register.registerOf (putRecord (recordFor s c list) lists) })
+    unfolding fileEffect refusal
     file-step = rw (register-passes lists ok, records-are lists ok)
 
     -- Its answer is the one that the model gives.
@@ -207,7 +207,7 @@ module _ (lists : List Record) (stored : List Route) (ok : recordsOk lists ≡ t
     unfolding refusal
     filed-ok e =
         let given = accepted-none _ e in
-        keeping.put-ok lists ok (recordFor s c list)
+        changes.put-ok lists ok (recordFor s c list)
         (record-ok (recordFor s c list) (row-passed _ _ (given 0)) (row-passed _ _ (given 1)) (not-false _ (row-passed _ _ (given 2))))
         (not-false _ (row-passed _ _ (given 3)))
 
@@ -225,10 +225,10 @@ module _ (lists : List Record) (stored : List Route) (ok : recordsOk lists ≡ t
   module _ (s c : ℕ) where
     -- Withdraw, as the model refuses it.
     withdraw-step :
-        withdrawStep (register.wordsOf lists) s c
-        ≡ unlessRefused (refusal (modelOf lists stored) (withdraw s c)) removal.Refused (register.wordsOf lists)
-        (record { answer = removal.Done; words = register.wordsOf (eraseRecord c s lists) })
-    unfolding withdrawStep refusal
+        withdrawEffect (register.registerOf lists) s c
+        ≡ unlessRefused (refusal (modelOf lists stored) (withdraw s c)) removal.Refused (register.registerOf lists)
+        (record { answer = removal.Done; words = register.registerOf (eraseRecord c s lists) })
+    unfolding withdrawEffect refusal
     withdraw-step = rw (register-passes lists ok, records-are lists ok)
 
     -- Withdrawing.
@@ -238,17 +238,17 @@ module _ (lists : List Record) (stored : List Route) (ok : recordsOk lists ≡ t
           ap (λ x. shownRemoval (x .answer)) withdraw-step
           ∙ shown-unless shownRemoval removal.Refused (λ r. refl) (refusal (modelOf lists stored) (withdraw s c)) _ _;
       holds = rw withdraw-step
-          (register-held (refusal (modelOf lists stored) (withdraw s c)) removal.Refused _ _ (λ e. keeping.without-ok lists ok (samePair (c, s))));
+          (register-held (refusal (modelOf lists stored) (withdraw s c)) removal.Refused _ _ (λ e. changes.without-ok lists ok (samePair (c, s))));
       stores = λ number. sym (either-way (accepted (replyTo (modelOf lists stored) (withdraw s c))) _);
     }
 
   module _ (s : ℕ) where
     -- Clear, as the model refuses it.
     clear-step :
-        clearStep (register.wordsOf lists) s
-        ≡ unlessRefused (refusal (modelOf lists stored) (clear s)) clearing.Refused (register.wordsOf lists)
-        (record { answer = clearing.Gone (countRecords s lists); words = register.wordsOf (clearRecords s lists) })
-    unfolding clearStep refusal
+        clearEffect (register.registerOf lists) s
+        ≡ unlessRefused (refusal (modelOf lists stored) (clear s)) clearing.Refused (register.registerOf lists)
+        (record { answer = clearing.Gone (countRecords s lists); words = register.registerOf (clearRecords s lists) })
+    unfolding clearEffect refusal
     clear-step = rw (register-passes lists ok, records-are lists ok)
 
     -- Clearing.
@@ -258,17 +258,17 @@ module _ (lists : List Record) (stored : List Route) (ok : recordsOk lists ≡ t
           ap (λ x. shownCleared (x .answer)) clear-step
           ∙ shown-unless shownCleared clearing.Refused (λ r. refl) (refusal (modelOf lists stored) (clear s)) _ _;
       holds = rw clear-step
-          (register-held (refusal (modelOf lists stored) (clear s)) clearing.Refused _ _ (λ e. keeping.without-ok lists ok (ofSource s)));
+          (register-held (refusal (modelOf lists stored) (clear s)) clearing.Refused _ _ (λ e. changes.without-ok lists ok (ofSource s)));
       stores = λ number. sym (either-way (accepted (replyTo (modelOf lists stored) (clear s))) _);
     }
 
   module _ (n : ℕ) where
     -- Drop, as the model refuses it.
     drop-step :
-        dropStep (routes.wordsOf stored) n
-        ≡ unlessRefused (refusal (modelOf lists stored) (drop n)) removal.Refused (routes.wordsOf stored)
-        (record { answer = removal.Done; words = routes.wordsOf (eraseRoute n stored) })
-    unfolding dropStep refusal
+        dropEffect (ledger.ledgerOf stored) n
+        ≡ unlessRefused (refusal (modelOf lists stored) (drop n)) removal.Refused (ledger.ledgerOf stored)
+        (record { answer = removal.Done; words = ledger.ledgerOf (eraseRoute n stored) })
+    unfolding dropEffect refusal
     drop-step = rw (ledger-passes stored fine, routes-are stored fine, holds-map keyOf numberOf eqb ltb known (λ r. refl) n stored)
 
     -- Dropping.
@@ -289,22 +289,22 @@ module _ (lists : List Record) (stored : List Route) (ok : recordsOk lists ≡ t
   module _ (n role neighbour : ℕ) (attribute : List ℕ) where
     -- A keeping whose arguments bar it not asks of the model and of the ledger for the same room.
     same-room : firstGiven (judgeRows role neighbour attribute) ≡ none
-        → routes.roomFor (putRoute (keptRoute (register.wordsOf lists) n role neighbour attribute) stored)
+        → ledger.roomFor (putRoute (keptRoute (register.registerOf lists) n role neighbour attribute) stored)
         ≡ roomForRoutes (putKept (routeRead n role neighbour attribute) (map known stored))
     same-room e =
-        room-known (putRoute (keptRoute (register.wordsOf lists) n role neighbour attribute) stored)
-        ∙ ap roomForRoutes (sym (put-map keyOf numberOf eqb ltb known (λ r. refl) (keptRoute (register.wordsOf lists) n role neighbour attribute) stored))
-        ∙ ap (λ r. roomForRoutes (putKept r (map known stored))) (kept-known (register.wordsOf lists) n role neighbour attribute e)
+        room-known (putRoute (keptRoute (register.registerOf lists) n role neighbour attribute) stored)
+        ∙ ap roomForRoutes (sym (put-map keyOf numberOf eqb ltb known (λ r. refl) (keptRoute (register.registerOf lists) n role neighbour attribute) stored))
+        ∙ ap (λ r. roomForRoutes (putKept r (map known stored))) (kept-known (register.registerOf lists) n role neighbour attribute e)
 
     -- Keep is refused as by the model.
-    keep-refusal : firstGiven (keepRows (register.wordsOf lists) (routes.wordsOf stored) n role neighbour attribute)
+    keep-refusal : firstGiven (keepRows (register.registerOf lists) (ledger.ledgerOf stored) n role neighbour attribute)
         ≡ refusal (modelOf lists stored) (keep n role neighbour attribute)
     unfolding refusal firstGiven
     keep-refusal =
         tables-pass lists stored ok fine later
         ∙ rw (
           routes-are stored fine,
-          judged-reads (hopIn (register.wordsOf lists)) role neighbour attribute refusalIn (λ r. refl) (λ a. refl),
+          judged-reads (hopIn (register.registerOf lists)) role neighbour attribute refusalIn (λ r. refl) (λ a. refl),
           ← holds-map keyOf numberOf eqb ltb known (λ r. refl) n stored,
           first-append (judgeRows role neighbour attribute) (heldRows (modelOf lists stored) (keep n role neighbour attribute)
               ++ roomRows (modelOf lists stored) (keep n role neighbour attribute)),
@@ -312,20 +312,20 @@ module _ (lists : List Record) (stored : List Route) (ok : recordsOk lists ≡ t
       where
         later : List (Option Refusal)
         later =
-            refusalIn (judgedRoute (hopIn (register.wordsOf lists)) role neighbour attribute)
-            ∷ rowIf (holdsRoute n (routesOf (routes.wordsOf stored))) RouteTaken
-            ∷ rowIf (not (routes.roomFor (putRoute (keptRoute (register.wordsOf lists) n role neighbour attribute) (routesOf (routes.wordsOf stored))))) RoutesFull
+            refusalIn (judgedRoute (hopIn (register.registerOf lists)) role neighbour attribute)
+            ∷ rowIf (holdsRoute n (routesOf (ledger.ledgerOf stored))) RouteTaken
+            ∷ rowIf (not (ledger.roomFor (putRoute (keptRoute (register.registerOf lists) n role neighbour attribute) (routesOf (ledger.ledgerOf stored))))) RoutesFull
             ∷ []
 
         go : (o : Option Refusal) → firstGiven (judgeRows role neighbour attribute) ≡ o
             → orElse o (orElse (rowIf (holdsKept n (map known stored)) RouteTaken)
-            (orElse (rowIf (not (routes.roomFor (putRoute (keptRoute (register.wordsOf lists) n role neighbour attribute) stored))) RoutesFull) none))
+            (orElse (rowIf (not (ledger.roomFor (putRoute (keptRoute (register.registerOf lists) n role neighbour attribute) stored))) RoutesFull) none))
             ≡ orElse o (orElse (rowIf (holdsKept n (map known stored)) RouteTaken)
             (orElse (rowIf (not (roomForRoutes (putKept (routeRead n role neighbour attribute) (map known stored)))) RoutesFull) none))
         go (some r) e = refl
         go none e = rw (same-room e)
 
-    -- A keeping that is not refused passed rows 9 to 17 and has room.
+    -- A keeping that is not refused passed slots 9 to 17 and has room.
     passed : refusal (modelOf lists stored) (keep n role neighbour attribute) ≡ none
         → (firstGiven (judgeRows role neighbour attribute) ≡ none)
         × (roomForRoutes (putKept (routeRead n role neighbour attribute) (map known stored)) ≡ true)
@@ -345,16 +345,16 @@ module _ (lists : List Record) (stored : List Route) (ok : recordsOk lists ≡ t
 
     -- Keep, as the model refuses it.
     pub keep-step :
-        keepStep (register.wordsOf lists) (routes.wordsOf stored) n role neighbour attribute
-        ≡ unlessRefused (refusal (modelOf lists stored) (keep n role neighbour attribute)) judging.Refused (routes.wordsOf stored)
+        keepEffect (register.registerOf lists) (ledger.ledgerOf stored) n role neighbour attribute
+        ≡ unlessRefused (refusal (modelOf lists stored) (keep n role neighbour attribute)) judging.Refused (ledger.ledgerOf stored)
         (record {
           answer = judgedRoute (hopOf lists) role neighbour attribute;
-          words = routes.wordsOf (putRoute (keptRoute (register.wordsOf lists) n role neighbour attribute) stored);
+          words = ledger.ledgerOf (putRoute (keptRoute (register.registerOf lists) n role neighbour attribute) stored);
         })
-    unfolding keepStep
+    unfolding keepEffect
     keep-step = rw (keep-refusal, routes-are stored fine, records-are lists ok)
 
-    -- A judging that rows 9 to 17 do not refuse is answered.
+    -- A judging that slots 9 to 17 do not refuse is answered.
     judged-done : firstGiven (judgeRows role neighbour attribute) ≡ none → shownJudged (judgedRoute (hopOf lists) role neighbour attribute) ≡ done
     judged-done e = go (judgement (hopOf lists) role neighbour attribute e)
       where
@@ -380,7 +380,7 @@ module _ (lists : List Record) (stored : List Route) (ok : recordsOk lists ≡ t
     }
       where
         r : Route
-        r = keptRoute (register.wordsOf lists) n role neighbour attribute
+        r = keptRoute (register.registerOf lists) n role neighbour attribute
 
         answered : (o : Option Refusal) → refusal (modelOf lists stored) (keep n role neighbour attribute) ≡ o
             → replyUnless o (shownJudged (judgedRoute (hopOf lists) role neighbour attribute)) ≡ replyUnless o done
@@ -390,22 +390,22 @@ module _ (lists : List Record) (stored : List Route) (ok : recordsOk lists ≡ t
         stays-ok : refusal (modelOf lists stored) (keep n role neighbour attribute) ≡ none → routesOk (putRoute r stored) ≡ true
         stays-ok e =
             let p = passed e in
-            put-ok stored fine r (kept-ok (register.wordsOf lists) n role neighbour attribute (p .0)) (same-room (p .0) ∙ p .1)
+            put-ok stored fine r (kept-ok (register.registerOf lists) n role neighbour attribute (p .0)) (same-room (p .0) ∙ p .1)
 
         same-routes : firstGiven (judgeRows role neighbour attribute) ≡ none
             → change (modelOf lists stored) (keep n role neighbour attribute) ≡ modelOf lists (putRoute r stored)
         same-routes e =
-            ap (λ k. record { lists = lists; routes = putKept k (map known stored) }) (sym (kept-known (register.wordsOf lists) n role neighbour attribute e))
+            ap (λ k. record { lists = lists; routes = putKept k (map known stored) }) (sym (kept-known (register.registerOf lists) n role neighbour attribute e))
             ∙ ap (λ rs. record { lists = lists; routes = rs }) (put-map keyOf numberOf eqb ltb known (λ r. refl) r stored)
 
   -- Re-judge, which the model does not refuse.
   pub rejudge-step :
-      rejudgeStep (register.wordsOf lists) (routes.wordsOf stored)
+      rejudgeEffect (register.registerOf lists) (ledger.ledgerOf stored)
       ≡ record {
         answer = rejudging.Changed (countDiffering stored (map (rejudgedRoute (hopOf lists)) stored));
-        words = routes.wordsOf (map (rejudgedRoute (hopOf lists)) stored);
+        words = ledger.ledgerOf (map (rejudgedRoute (hopOf lists)) stored);
       }
-  unfolding rejudgeStep firstGiven
+  unfolding rejudgeEffect firstGiven
   rejudge-step = rw (tables-pass lists stored ok fine, routes-are stored fine, records-are lists ok)
 
   -- Re-judging.
@@ -431,7 +431,7 @@ module _ (lists : List Record) (stored : List Route) (ok : recordsOk lists ≡ t
   -- A re-judging answers how many routes differ between the ledger before and after it.
   pub rejudge-counts :
       says (tablesOf lists stored) rejudge
-      ≡ rejudged (rejudging.Changed (countDiffering (routesOf (routes.wordsOf stored)) (routesOf (leaves (tablesOf lists stored) rejudge .ledger))))
+      ≡ rejudged (rejudging.Changed (countDiffering (routesOf (ledger.ledgerOf stored)) (routesOf (leaves (tablesOf lists stored) rejudge .ledger))))
   rejudge-counts =
       rw (
         rejudge-step,
@@ -452,8 +452,8 @@ module _ (lists : List Record) (stored : List Route) (ok : recordsOk lists ≡ t
   last-written : leaves (tablesOf lists stored) rejudge ≡ written (modelOf lists stored)
   unfolding written
   last-written =
-      ap (λ x. record { register = register.wordsOf lists; ledger = x .words }) rejudge-step
-      ∙ ap (λ rs. record { register = register.wordsOf lists; ledger = routes.wordsOf rs }) (written-rejudged (hopOf lists) stored (each-ok stored fine))
+      ap (λ x. record { register = register.registerOf lists; ledger = x .words }) rejudge-step
+      ∙ ap (λ rs. record { register = register.registerOf lists; ledger = ledger.ledgerOf rs }) (written-rejudged (hopOf lists) stored (each-ok stored fine))
 
 -- ---- whole lists of calls
 
@@ -463,17 +463,17 @@ simulated t m c h = rw (h .tables-are, h .model-is) (any-simulated (h .lists) (h
 
 -- Zeros hold nothing.
 zeros : (size : ℕ) → 2 ≤ size → replicate size 0 ≡ encode size []
-unfolding encode pad rows bodies
+unfolding encode pad slots bodies
 zeros size h = let e : 2 + (size - 2) ≡ size = omega arith in sym (replicate-append-replicate 2 (size - 2) 0 ∙ ap (λ n. replicate n 0) e)
 
 -- So the empty tables are the words of no lists and no routes,
 pub blank-tables : blank ≡ tablesOf [] []
-unfolding blank register.wordsOf routes.wordsOf
+unfolding blank register.registerOf ledger.ledgerOf
 blank-tables = λ i. record { register = zeros registerWords (lit≤ tt) i; ledger = zeros ledgerWords (lit≤ tt) i }
 
 -- which keep the rules,
 pub nothing-ok : (recordsOk [] ≡ true) × (routesOk [] ≡ true)
-unfolding recordsOk roomFor register.listed every ascends routesOk routes.roomFor routes.pathWords bodies
+unfolding recordsOk roomFor register.listed every ascends routesOk ledger.roomFor ledger.pathWords bodies
 nothing-ok = (refl, refl)
 
 -- and they hold the empty model.

@@ -23,33 +23,33 @@ use Rattle.types.specs.declared.Cleared.the-variants as clearing
 use Rattle.types.specs.declared.Judged.the-variants.{Answered, Refused}
 use Rattle.types.specs.declared.Rejudged.the-variants.{Changed}
 use Rattle.types.specs.declared.Refusal.{Refusal}
-use Rattle.types.specs.Numbers.{verdictNumber}
+use Rattle.types.specs.Numbers.{verdictNumber, verdictOf}
 use Rattle.types.specs.Rows.{firstGiven, unlessRefused}
 use Rattle.as_path.specs.Reading.{contentOf}
 use Rattle.keyed.specs.Keyed.{samePair, beforePair, find}
 use Rattle.keyed.proofs.Orders.{ordered-pairs, ordered-ℕ}
 use Rattle.keyed.proofs.Finds.{find-key, every-found, same-finds}
 use Rattle.keyed.proofs.Mapping.{find-map}
-use Rattle.verdict.specs.Hops.{HopFunction}
-use Rattle.verdict.specs.Records.{Record, hopOf}
-use Rattle.verdict.specs.Verdicts.{judged}
-use Rattle.verdict.specs.Judging.{judgeRows, judgedRoute}
-use Rattle.verdict.specs.Draft.{outcomeOf}
-use Rattle.verdict.proofs.Judges.{judged-reads, Judgement, on-ground, on-path, judgement}
+use Rattle.rules.specs.Hops.{HopFunction}
+use Rattle.rules.specs.Records.{Record, hopOf}
+use Rattle.rules.specs.Verdicts.{judged}
+use Rattle.rules.specs.Judging.{judgeRows, judgedRoute}
+use Rattle.rules.specs.Draft.{outcomeOf}
+use Rattle.rules.proofs.Judges.{judged-reads, Judgement, on-ground, on-path, judgement}
 use Rattle.register.specs.Register.{registerWords, recordsOf, registerOk}
 use Rattle.register.specs.Register as register
 use Rattle.register.specs.Calls.{recordFor}
 use Rattle.register.proofs.Holding as holding
 use Rattle.register.proofs.Refusals.{Register}
-use Rattle.routes.specs.Routes.{ledgerWords, ledgerOk, Route, routesOf, routeOk, keyOf}
-use Rattle.routes.specs.Routes as routes
-use Rattle.routes.specs.Calls.{stamped, countDiffering}
-use Rattle.routes.proofs.Holding.{each-ok, in-order}
-use Rattle.routes.proofs.Paths.{path-some}
-use Rattle.routes.proofs.Refusals.{Ledger}
-use Rattle.rejudge.specs.Rejudging.{verdictOf, rejudgedRoute}
+use Rattle.ledger.specs.Routes.{ledgerWords, ledgerOk, Route, routesOf, routeOk, keyOf}
+use Rattle.ledger.specs.Routes as ledger
+use Rattle.ledger.specs.Calls.{stamped, countDiffering}
+use Rattle.ledger.proofs.Holding.{each-ok, in-order}
+use Rattle.ledger.proofs.Paths.{path-some}
+use Rattle.ledger.proofs.Refusals.{Ledger}
+use Rattle.rejudge.specs.Rejudging.{rejudgedRoute}
 use Rattle.rejudge.proofs.Rejudgements.{some-numbers, rejudged-ok}
-use Rattle.filter.specs.Calls.{hopIn, judgeAnswer, refusalIn, keepStep, rejudgeStep}
+use Rattle.filter.specs.Calls.{hopIn, judgeAnswer, refusalIn, keepEffect, rejudgeEffect}
 use Rattle.filter.proofs.KeptRoutes.{path-ok}
 use Rattle.history.specs.Calls.{Call, file, withdraw, clear, keep, drop, rejudge, filed, removed, cleared, kept, rejudged, Tables, tables, says, callAt, said, last}
 use Rattle.history.specs.Replies.{ModelReply, new, replaced, done, gone, refused, shownFiled, shownRemoval, shownCleared, shown, forRoom, accepted}
@@ -100,10 +100,10 @@ module _ (l : List Call) (i : ℕ) where
   holds-at = history-holds l i
 
   -- The register is the words of the model's lists, the ledger those of the stored routes.
-  register-is : tables l i .register ≡ register.wordsOf (holds-at .lists)
+  register-is : tables l i .register ≡ register.registerOf (holds-at .lists)
   register-is = ap (λ t. t .register) (holds-at .tables-are)
 
-  ledger-is : tables l i .ledger ≡ routes.wordsOf (holds-at .stored)
+  ledger-is : tables l i .ledger ≡ ledger.ledgerOf (holds-at .stored)
   ledger-is = ap (λ t. t .ledger) (holds-at .tables-are)
 
   -- The records are the model's lists.
@@ -120,12 +120,12 @@ module _ (l : List Call) (i : ℕ) where
   -- Both tables keep the word rules.
   formed-register : (length (tables l i .register) ≡ registerWords) × (registerOk (tables l i .register) ≡ true)
   formed-register =
-      let r : Register (register.wordsOf (holds-at .lists)) = is-register (holds-at .lists) (holds-at .lists-ok) in
+      let r : Register (register.registerOf (holds-at .lists)) = is-register (holds-at .lists) (holds-at .lists-ok) in
       rw register-is (r .long, r .ok)
 
   formed-ledger : (length (tables l i .ledger) ≡ ledgerWords) × (ledgerOk (tables l i .ledger) ≡ true)
   formed-ledger =
-      let r : Ledger (routes.wordsOf (holds-at .stored)) = is-ledger (holds-at .stored) (holds-at .routes-ok) in
+      let r : Ledger (ledger.ledgerOf (holds-at .stored)) = is-ledger (holds-at .stored) (holds-at .routes-ok) in
       rw ledger-is (r .long, r .ok)
 
   -- The stored routes, but for their verdicts, are those kept.
@@ -146,11 +146,11 @@ module _ (l : List Call) (i : ℕ) where
 
   -- So does a keeping that is answered.
   keep-answer : (number role neighbour : ℕ) (attribute : List ℕ) (a : Answer)
-      → kept (keepStep (tables l i .register) (tables l i .ledger) number role neighbour attribute .answer) ≡ kept (Answered a)
+      → kept (keepEffect (tables l i .register) (tables l i .ledger) number role neighbour attribute .answer) ≡ kept (Answered a)
       → judgedRoute (hopsAt l i) role neighbour attribute ≡ Answered a
   keep-answer number role neighbour attribute a e =
       let step = keep-step (holds-at .lists) (holds-at .stored) (holds-at .lists-ok) (holds-at .routes-ok) number role neighbour attribute in
-      let f : keepStep (tables l i .register) (tables l i .ledger) number role neighbour attribute .answer ≡ Answered a = cc in
+      let f : keepEffect (tables l i .register) (tables l i .ledger) number role neighbour attribute .answer ≡ Answered a = cc in
       let o : Option Refusal = refusal (modelOf (holds-at .lists) (holds-at .stored)) (keep number role neighbour attribute) in
       rw (← hops-are) (keep-answered o _ role neighbour attribute _ _ a (rw (register-is, ledger-is, step) at f))
 
@@ -189,7 +189,7 @@ record-found k rs = go (findRecord k rs) refl
 module _ (l m : List Call) (i j : ℕ) where
   -- The same lists filed: the same register.
   registers-alike : ((source customer : ℕ) → filedList l i source customer ≡ filedList m j source customer) → tables l i .register ≡ tables m j .register
-  registers-alike e = register-is l i ∙ ap register.wordsOf same ∙ sym (register-is m j)
+  registers-alike e = register-is l i ∙ ap register.registerOf same ∙ sym (register-is m j)
     where
       there : (n : List Call) (x : ℕ) (k : ℕ × ℕ)
           → findRecord k (holds-at n x .lists) ≡ Option·map (λ list. recordFor (k .1) (k .0) list) (filedList n x (k .1) (k .0))
@@ -206,7 +206,7 @@ module _ (l m : List Call) (i j : ℕ) where
 
   -- The same routes stored: the same ledger.
   ledgers-alike : ((number : ℕ) → storedAt l i number ≡ storedAt m j number) → tables l i .ledger ≡ tables m j .ledger
-  ledgers-alike e = ledger-is l i ∙ ap routes.wordsOf same ∙ sym (ledger-is m j)
+  ledgers-alike e = ledger-is l i ∙ ap ledger.ledgerOf same ∙ sym (ledger-is m j)
     where
       there : (n : List Call) (x number : ℕ) → findRoute number (holds-at n x .stored) ≡ storedAt n x number
       there n x number =
@@ -348,7 +348,7 @@ last-verdicts l number r e = rw (← hops-are l (length l)) (go (findRoute numbe
 
     routes-left : routesOf (last l .ledger) ≡ map (rejudgedRoute hop) stored
     routes-left =
-        ap (λ t. routesOf (rejudgeStep (t .register) (t .ledger) .words)) (held .tables-are)
+        ap (λ t. routesOf (rejudgeEffect (t .register) (t .ledger) .words)) (held .tables-are)
         ∙ ap (λ s. routesOf (s .words)) (rejudge-step (held .lists) stored (held .lists-ok) (held .routes-ok))
         ∙ routes-are (map (rejudgedRoute hop) stored) (rejudged-ok hop stored (held .routes-ok))
 

@@ -10,10 +10,10 @@ use Rattle.types.specs.declared.Rejudged.{Rejudged}
 use Rattle.types.specs.Numbers.{groundNumber}
 use Rattle.as_path.specs.Reading.{Content, faulty, grounded, merged, contentOf}
 use Rattle.register.specs.Register.{registerWords}
-use Rattle.register.specs.Calls.{fileStep, withdrawStep, clearStep}
-use Rattle.routes.specs.Routes.{ledgerWords}
-use Rattle.routes.specs.Calls.{dropStep}
-use Rattle.filter.specs.Calls.{pathIn, keepStep, rejudgeStep}
+use Rattle.register.specs.Calls.{fileEffect, withdrawEffect, clearEffect}
+use Rattle.ledger.specs.Routes.{ledgerWords}
+use Rattle.ledger.specs.Calls.{dropEffect}
+use Rattle.filter.specs.Calls.{pathIn, keepEffect, rejudgeEffect}
 
 -- The calls that can change a table, with their arguments: any numbers and any bytes.
 pub data Call : Type 0 where
@@ -39,22 +39,22 @@ pub record Tables : Type 0 where
 
 -- The answer to a call that is lent the tables.
 abbrev pub says : Tables → Call → Reply
-says t (file source customer list) = filed (fileStep (t .register) source customer list .answer)
-says t (withdraw source customer) = removed (withdrawStep (t .register) source customer .answer)
-says t (clear source) = cleared (clearStep (t .register) source .answer)
-says t (keep number role neighbour attribute) = kept (keepStep (t .register) (t .ledger) number role neighbour attribute .answer)
-says t (drop number) = removed (dropStep (t .ledger) number .answer)
-says t rejudge = rejudged (rejudgeStep (t .register) (t .ledger) .answer)
+says t (file source customer list) = filed (fileEffect (t .register) source customer list .answer)
+says t (withdraw source customer) = removed (withdrawEffect (t .register) source customer .answer)
+says t (clear source) = cleared (clearEffect (t .register) source .answer)
+says t (keep number role neighbour attribute) = kept (keepEffect (t .register) (t .ledger) number role neighbour attribute .answer)
+says t (drop number) = removed (dropEffect (t .ledger) number .answer)
+says t rejudge = rejudged (rejudgeEffect (t .register) (t .ledger) .answer)
 
 -- The tables as it leaves them. A table that it is not lent, or is lent only to be read, stays.
 abbrev pub leaves : Tables → Call → Tables
-leaves t (file source customer list) = record { register = fileStep (t .register) source customer list .words; ledger = t .ledger }
-leaves t (withdraw source customer) = record { register = withdrawStep (t .register) source customer .words; ledger = t .ledger }
-leaves t (clear source) = record { register = clearStep (t .register) source .words; ledger = t .ledger }
+leaves t (file source customer list) = record { register = fileEffect (t .register) source customer list .words; ledger = t .ledger }
+leaves t (withdraw source customer) = record { register = withdrawEffect (t .register) source customer .words; ledger = t .ledger }
+leaves t (clear source) = record { register = clearEffect (t .register) source .words; ledger = t .ledger }
 leaves t (keep number role neighbour attribute) =
-    record { register = t .register; ledger = keepStep (t .register) (t .ledger) number role neighbour attribute .words }
-leaves t (drop number) = record { register = t .register; ledger = dropStep (t .ledger) number .words }
-leaves t rejudge = record { register = t .register; ledger = rejudgeStep (t .register) (t .ledger) .words }
+    record { register = t .register; ledger = keepEffect (t .register) (t .ledger) number role neighbour attribute .words }
+leaves t (drop number) = record { register = t .register; ledger = dropEffect (t .ledger) number .words }
+leaves t rejudge = record { register = t .register; ledger = rejudgeEffect (t .register) (t .ledger) .words }
 
 -- Register and ledger empty: zeros, of the right lengths.
 unfoldable pub blank : Tables

@@ -9,28 +9,27 @@ use lib.ListN.{length}
 use Rattle.types.specs.declared.Answer.{Answer}
 use Rattle.types.specs.declared.Judged.the-variants.{Answered}
 use Rattle.types.specs.declared.Rejudged.the-variants.{Changed}
-use Rattle.types.specs.Numbers.{verdictNumber, placeA, placeB}
+use Rattle.types.specs.Numbers.{verdictNumber, placeA, placeB, verdictOf}
 use Rattle.types.specs.Roles.{isUpstream}
 use Rattle.as_path.specs.Reading.{Content, faulty, grounded, merged, contentOf}
 use Rattle.keyed.specs.Keyed.{samePair, beforePair, find}
-use Rattle.verdict.specs.Hops.{HopFunction}
-use Rattle.verdict.specs.Records.{Record}
-use Rattle.verdict.specs.Verdicts.{judged}
-use Rattle.verdict.specs.Judging.{judgedRoute}
-use Rattle.verdict.specs.Draft.{Outcome, outcomeOf, draftUpstream, draftDownstream}
-use Rattle.verdict.specs.Draft as draft
+use Rattle.rules.specs.Hops.{HopFunction}
+use Rattle.rules.specs.Records.{Record}
+use Rattle.rules.specs.Verdicts.{judged}
+use Rattle.rules.specs.Judging.{judgedRoute}
+use Rattle.rules.specs.Draft.{Outcome, outcomeOf, draftUpstream, draftDownstream}
+use Rattle.rules.specs.Draft as draft
 use Rattle.register.specs.Register.{registerWords, recordsOf, registerOk}
 use Rattle.register.specs.Register as register
-use Rattle.routes.specs.Routes.{ledgerWords, Route, routesOf, ledgerOk}
-use Rattle.routes.specs.Routes as routes
-use Rattle.routes.specs.Calls.{countDiffering}
-use Rattle.rejudge.specs.Rejudging.{verdictOf}
+use Rattle.ledger.specs.Routes.{ledgerWords, Route, routesOf, ledgerOk}
+use Rattle.ledger.specs.Routes as ledger
+use Rattle.ledger.specs.Calls.{countDiffering}
 use Rattle.filter.specs.Calls.{judgeAnswer}
 use Rattle.history.specs.Calls.{Call, keep, rejudge, kept, rejudged, KeptRoute, tables, callAt, said, last}
 use Rattle.history.specs.Replies.{shown, forRoom}
 use Rattle.history.specs.Model.{after, replyAt, final, written}
 use Rattle.history.specs.Filings.{filedList, keptRouteAt, hopsAt, storedAt}
-use Rattle.history.specs.Reorderings.{IsRegisterStep, Step, Reordering}
+use Rattle.history.specs.Reorderings.{IsRegisterStep, StepAt, Reordering}
 
 -- ---- what the tables hold
 
@@ -39,7 +38,7 @@ abbrev pub findRecord : ℕ × ℕ → List Record → Option Record
 findRecord k rs = find register.keyOf samePair beforePair k rs
 
 abbrev pub findRoute : ℕ → List Route → Option Route
-findRoute number rs = find routes.keyOf eqb ltb number rs
+findRoute number rs = find ledger.keyOf eqb ltb number rs
 
 -- Its list.
 abbrev pub providersOf : Option Record → Option (List ℕ)
@@ -125,6 +124,6 @@ pub record Demand3 : Type 0 where
   -- Two lists, one a reordering of the other, neither refused for room: each register call gets the same answer in both;
   pub same-answers : (l m : List Call) (r : Reordering l m) → Roomy l → Roomy m → (i : ℕ) → IsRegisterStep (callAt l i) → said l i ≡ said m (r .to i)
   -- each keeping and dropping is done in both, or refused in both by the same row and place;
-  pub same-ends : (l m : List Call) (r : Reordering l m) → Roomy l → Roomy m → (i : ℕ) → Step l i → shown (said l i) ≡ shown (said m (r .to i))
+  pub same-ends : (l m : List Call) (r : Reordering l m) → Roomy l → Roomy m → (i : ℕ) → StepAt l i → shown (said l i) ≡ shown (said m (r .to i))
   -- and after one last re-judging in each, both tables are equal word for word.
   pub same-tables : (l m : List Call) → Reordering l m → Roomy l → Roomy m → last l ≡ last m

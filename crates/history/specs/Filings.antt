@@ -6,12 +6,12 @@ use mathlib.Core.Option.{Option, none, some, Option·map}
 use lib.Dec.{eqb}
 use Rattle.types.specs.declared.Hop.the-variants.{NoAttestation, ProviderPlus, NotProviderPlus}
 use Rattle.as_path.specs.Reading.{contentOf}
-use Rattle.verdict.specs.Hops.{HopFunction}
-use Rattle.verdict.specs.Records.{isIn}
-use Rattle.verdict.specs.Judging.{judgedRoute}
-use Rattle.verdict.specs.Draft as draft
-use Rattle.routes.specs.Routes.{Route}
-use Rattle.routes.specs.Calls.{routeFor}
+use Rattle.rules.specs.Hops.{HopFunction}
+use Rattle.rules.specs.Records.{isIn}
+use Rattle.rules.specs.Judging.{judgedRoute}
+use Rattle.rules.specs.Draft as draft
+use Rattle.ledger.specs.Routes.{Route}
+use Rattle.ledger.specs.Calls.{routeFor}
 use Rattle.rejudge.specs.Rejudging.{rejudgedRoute}
 use Rattle.filter.specs.Calls.{verdictIn, pathIn}
 use Rattle.history.specs.Calls.{Call, file, withdraw, clear, keep, drop, rejudge, callAt, said, KeptRoute, routeRead}

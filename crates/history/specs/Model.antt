@@ -8,18 +8,17 @@ use lib.ListN.{length}
 use Rattle.types.specs.declared.Verdict.{Verdict}
 use Rattle.types.specs.declared.Refusal.{Refusal}
 use Rattle.types.specs.declared.Refusal.the-variants.{ProviderList, NoRecord, RegisterFull, RouteTaken, NoRoute, RoutesFull}
-use Rattle.types.specs.Numbers.{verdictNumber, placeA, placeB}
+use Rattle.types.specs.Numbers.{verdictNumber, placeA, placeB, verdictOf}
 use Rattle.types.specs.Rows.{rowIf, firstGiven}
 use Rattle.keyed.specs.Keyed.{holds, put, without}
-use Rattle.verdict.specs.Hops.{HopFunction}
-use Rattle.verdict.specs.Records.{Record, hopOf}
-use Rattle.verdict.specs.Verdicts.{judged}
-use Rattle.verdict.specs.Judging.{judgeRows}
+use Rattle.rules.specs.Hops.{HopFunction}
+use Rattle.rules.specs.Records.{Record, hopOf}
+use Rattle.rules.specs.Verdicts.{judged}
+use Rattle.rules.specs.Judging.{judgeRows}
 use Rattle.register.specs.Register as register
 use Rattle.register.specs.Calls.{sourceRow, customerRow, recordFor, holdsRecord, putRecord, eraseRecord, clearRecords, countRecords}
-use Rattle.routes.specs.Routes.{Route, mostRoutes, mostPathWords}
-use Rattle.routes.specs.Routes as routes
-use Rattle.rejudge.specs.Rejudging.{verdictOf}
+use Rattle.ledger.specs.Routes.{Route, mostRoutes, mostPathWords}
+use Rattle.ledger.specs.Routes as ledger
 use Rattle.history.specs.Calls.{Call, file, withdraw, clear, keep, drop, rejudge, Tables, callAt, KeptRoute, routeRead}
 use Rattle.history.specs.Replies.{ModelReply, new, replaced, done, gone, refused}
 
@@ -164,6 +163,6 @@ judgedKept hop r = cond (eqb (r .ground) 0) (withWords r (verdictOf (judged hop 
 unfoldable pub written : Model → Tables
 written m =
     record {
-      register = register.wordsOf (m .lists);
-      ledger = routes.wordsOf (map (judgedKept (hopOf (m .lists))) (m .routes));
+      register = register.registerOf (m .lists);
+      ledger = ledger.ledgerOf (map (judgedKept (hopOf (m .lists))) (m .routes));
     }

@@ -66,16 +66,16 @@ IsRegisterStep (drop n) = ⊥
 IsRegisterStep rejudge = ⊥
 
 -- At place i of the list stands a step.
-abbrev pub Step : List Call → ℕ → Type 0
-Step l i = IsStep (callAt l i)
+abbrev pub StepAt : List Call → ℕ → Type 0
+StepAt l i = IsStep (callAt l i)
 
 -- But for re-judgings both lists have the same calls, matched one to one: the step at place i of l is the one at place `to i` of m, and back by
 -- `from`. Steps that are tied stand in the same order in both. Re-judgings may stand anywhere, any number of them.
 pub record Reordering (l m : List Call) : Type 0 where
   pub to : ℕ → ℕ
   pub from : ℕ → ℕ
-  pub to-same : (i : ℕ) → Step l i → callAt m (to i) ≡ callAt l i
-  pub from-same : (j : ℕ) → Step m j → callAt l (from j) ≡ callAt m j
-  pub from-to : (i : ℕ) → Step l i → from (to i) ≡ i
-  pub to-from : (j : ℕ) → Step m j → to (from j) ≡ j
-  pub in-order : (i j : ℕ) → Step l i → Step l j → i < j → Tied (callAt l i) (callAt l j) → to i < to j
+  pub to-same : (i : ℕ) → StepAt l i → callAt m (to i) ≡ callAt l i
+  pub from-same : (j : ℕ) → StepAt m j → callAt l (from j) ≡ callAt m j
+  pub from-to : (i : ℕ) → StepAt l i → from (to i) ≡ i
+  pub to-from : (j : ℕ) → StepAt m j → to (from j) ≡ j
+  pub in-order : (i j : ℕ) → StepAt l i → StepAt l j → i < j → Tied (callAt l i) (callAt l j) → to i < to j

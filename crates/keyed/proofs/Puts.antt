@@ -1,4 +1,4 @@
--- `put` and `without` by place: at the rank of the key. Both keep the order. Assumes nothing.
+-- `put` and `without` by position: at the rank of the key. Both keep the order. Assumes nothing.
 use mathlib.Core.Path.{_≡_, refl, ap, _∙_}
 use mathlib.Core.Bool.{Bool, true, false, cond, _||_}
 use mathlib.Core.List.{List, [], _∷_, _++_}
@@ -65,7 +65,7 @@ module _ {E K : Type 0} (key : E → K) (same before : K → K → Bool) (o : Or
       go true p ih = rw (before-not-back same before o (key f) (key e) p) (ap (λ l. f ∷ l) ih)
       go false p ih = rw (o .either (key f) (key e) (same-flip same before o (key f) (key e) ∙ n) p)
 
-  -- An entry under a key that is held goes in the place of the one at its rank.
+  -- An entry under a key that is held goes in the position of the one at its rank.
   pub put-over : (e : E) (es : List E) → ascends key same before es ≡ true → holds key same before (key e) es ≡ true
       → put key same before e es ≡ take (rank key same before (key e) es) es ++ (e ∷ drop (suc (rank key same before (key e) es)) es)
   unfolding ascends holds put rank

@@ -179,7 +179,7 @@ module _ {E K : Type 0} (key : E → K) (same before : K → K → Bool) (o : Or
       go false p = refl
       go true p = cc (holds-at k es d a p .1)
 
-  -- Where the rank is a place of the list, the key is held if and only if the entry there has it.
+  -- Where the rank is a position of the list, the key is held if and only if the entry there has it.
   pub holds-is : (k : K) (es : List E) (d : E) → ascends key same before es ≡ true → rank key same before k es < length es
       → holds key same before k es ≡ same k (key (getD es (rank key same before k es) d))
   holds-is k es d a l = go (same k (key (getD es (rank key same before k es) d))) refl

@@ -51,7 +51,7 @@ module _ {E K : Type 0} (key : E → K) (same before : K → K → Bool) where
   rank k [] = 0
   rank k (e ∷ es) = cond (before (key e) k) (suc (rank k es)) 0
 
-  -- An entry goes in at its key, in the place of the one that is there.
+  -- An entry goes in at its key, in the position of the one that is there.
   unfoldable pub put : E → List E → List E
   put e [] = e ∷ []
   put e (f ∷ fs) = cond (same (key e) (key f)) (e ∷ fs) (cond (before (key e) (key f)) (e ∷ (f ∷ fs)) (f ∷ put e fs))

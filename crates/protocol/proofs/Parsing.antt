@@ -18,9 +18,9 @@ use Rattle.lines.specs.Words.{allNumbers, numbersIn, listRead, listCount}
 use Rattle.lines.proofs.Readings.{read-list, read-all, read-bytes-in}
 use Rattle.types.specs.declared.Filed.{Filed}
 use Rattle.types.specs.declared.Judged as judged
-use Rattle.types.specs.Rows.{Step}
-use Rattle.register.specs.Calls.{fileStep}
-use Rattle.filter.specs.Calls.{judgeAnswer, keepStep}
+use Rattle.types.specs.Rows.{Effect}
+use Rattle.register.specs.Calls.{fileEffect}
+use Rattle.filter.specs.Calls.{judgeAnswer, keepEffect}
 use Rattle.protocol.specs.declared.Reply.the-variants as reply
 use Rattle.protocol.specs.Commands.{Command, bad, ofWords, withNumber, withBytes, withNumbers, upTo, fileCommand, judgeCommand, keepCommand}
 use Rattle.protocol.specs.Replies.{Outcome, both, outcome, performed}
@@ -126,10 +126,10 @@ module _ (reg led : List ℕ) (ws : List (List ℕ)) {after : List ℕ} {k : ℕ
   pub keeps :
       {route : ℕ} {led' : List ℕ} → length ws ≡ 5 → numberOf (getD ws 1 []) ≡ number.Is route → numberOf (getD ws 2 []) ≡ number.Is role
       → numberOf (getD ws 3 []) ≡ number.Is neighbour → Attribute (getD ws 4 []) after k
-      → j ≡ keepStep reg led route role neighbour (take k after) .answer → led' ≡ keepStep reg led route role neighbour (take k after) .words
+      → j ≡ keepEffect reg led route role neighbour (take k after) .answer → led' ≡ keepEffect reg led route role neighbour (take k after) .words
       → outcome (reply.Judged j) reg led' ≡ performed (both reg led) (keepCommand ws)
   keeps {route = route} l m r n a e f =
-      let step : List ℕ → Step judged.Judged = λ b. keepStep reg led route role neighbour b in
+      let step : List ℕ → Effect judged.Judged = λ b. keepEffect reg led route role neighbour b in
       does reg led (keepCommand ws)
       (right-count ws 5 _ l ∙ number-is ws 1 _ m ∙ number-is ws 2 _ r ∙ number-is ws 3 _ n ∙ bytes-are ws 4 _ (a .length-read))
       (λ i. outcome (reply.Judged ((e ∙ ap (λ b. step b .answer) (a .bytes-read)) i)) reg ((f ∙ ap (λ b. step b .words) (a .bytes-read)) i))
@@ -138,10 +138,10 @@ pub files :
     (reg led : List ℕ) (ws : List (List ℕ)) (into : List ℕ) {after : List ℕ} {k source customer : ℕ} {r : list-type.List} {filed : Filed} {reg' : List ℕ} → 3 ≤ length ws
     → numberOf (getD ws 1 []) ≡ number.Is source → numberOf (getD ws 2 []) ≡ number.Is customer → r ≡ listRead (drop 3 ws)
     → after ≡ sets into 0 (numbersIn (drop 3 ws)) → listCount r ≤ length into → r ≡ list.Read k
-    → filed ≡ fileStep reg source customer (take k after) .answer → reg' ≡ fileStep reg source customer (take k after) .words
+    → filed ≡ fileEffect reg source customer (take k after) .answer → reg' ≡ fileEffect reg source customer (take k after) .words
     → outcome (reply.Filed filed) reg' led ≡ performed (both reg led) (fileCommand ws)
 files reg led ws into {after = after} {k = k} {source = source} {customer = customer} l s c p q b e f g =
-    let step : List ℕ → Step Filed = λ x. fileStep reg source customer x in
+    let step : List ℕ → Effect Filed = λ x. fileEffect reg source customer x in
     let given : take k after ≡ numbersIn (drop 3 ws) = numbers-given (drop 3 ws) into p q b e in
     does reg led (fileCommand ws)
     (enough-words ws _ l ∙ number-is ws 1 _ s ∙ number-is ws 2 _ c ∙ numbers-are ws 3 _ (read-all (drop 3 ws) k (sym p ∙ e)))

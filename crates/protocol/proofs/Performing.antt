@@ -4,7 +4,7 @@ use mathlib.Core.Path.{_≡_, refl, _∙_}
 use mathlib.Core.List.{List}
 use lib.ListN.{take, replicate}
 use Rattle.register.specs.Register.{registerWords}
-use Rattle.routes.specs.Routes.{ledgerWords}
+use Rattle.ledger.specs.Routes.{ledgerWords}
 use Rattle.history.specs.Calls.{blank}
 use Rattle.protocol.specs.declared.Lent.{Lent}
 use Rattle.protocol.specs.declared.Reply.{Reply}

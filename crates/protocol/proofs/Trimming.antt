@@ -10,7 +10,7 @@ use borrow.Author.Tests.{lt-ltb, le-ltb, ne-eqb}
 use lib.Dec.{eqb}
 use lib.ListN.{length, take, drop, set, getD, replicate, drop-of-length-le}
 use lib.Seq.{length-take-le, take-suc, take-all, set-out}
-use Rattle.words.specs.Words.{zeroed}
+use Rattle.runs.specs.Words.{zeroed}
 use Rattle.table.specs.Table.{pad, allZero}
 use Rattle.protocol.specs.declared.Reply.the-variants.{Done, Error}
 use Rattle.protocol.specs.Replies.{pokeReply, withoutZeros}

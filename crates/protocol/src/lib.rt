@@ -144,7 +144,7 @@ fn empty(line: &[u8], n: usize, s: Lent, reg: &mut [u32], led: &mut [u32]) -> Pe
     Performed {
         lent: Lent {
             register: register::WORDS,
-            ledger: routes::WORDS,
+            ledger: ledger::WORDS,
         },
         reply: Reply::Done,
     }

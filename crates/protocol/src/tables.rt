@@ -22,7 +22,7 @@ pub fn cut(table: &mut [u32], to: usize)
     ensures { λ _. ⌜ now (table .exit) ≡ pad (length (now (table .entry))) (take to (now (table .entry))) ⌝ }
 {
     let end = table.len();
-    words::zero(table, to, end);
+    runs::zero(table, to, end);
 }
 
 fn size(x: u32) -> usize

@@ -14,11 +14,11 @@ use Rattle.table.proofs.Sounds.{body-is}
 use Rattle.table.proofs.Exact.{passes-sound}
 use Rattle.keyed.specs.Keyed.{samePair, beforePair, ascends, ascendsFrom, every}
 use Rattle.keyed.proofs.Orders.{both-left, above-zero, before-test, first}
-use Rattle.verdict.specs.Records.{Record}
+use Rattle.rules.specs.Records.{Record}
 use Rattle.register.specs.Register.{mostRecords, mostBodyWords, mostProviders, lastSource, recordsOf, recordAt, keyOf, listed}
 use Rattle.register.specs.Register.{rises, listOk, recordOk, roomFor, recordsOk, registerOk}
 use Rattle.register.specs.Helpers.{descentsIn}
-use Rattle.register.proofs.Entries.{length-records, record-count, list-count, row-within, customer-is, source-is, length-is, list-is, list-within}
+use Rattle.register.proofs.Entries.{length-records, record-count, list-count, slot-within, customer-is, source-is, length-is, list-is, list-within}
 use Rattle.register.proofs.Entries.{listed-next, listed-take}
 use Rattle.register.proofs.Descending.{fall, fall-small, join-first, join-next, counts-add}
 
@@ -90,7 +90,7 @@ rules-are r =
     rw (at-least-one (r .customer), at-most (r .source) lastSource, at-most 1 n, at-most n mostProviders)
     (all-fail (eqb (r .customer) 0) (ltb lastSource (r .source)) (ltb n 1) (ltb mostProviders n) (rises (r .providers)))
 
--- The tests of a record and of its place come first; its list, and what else is to be found, last.
+-- The tests of a record and of its position come first; its list, and what else is to be found, last.
 regroup : (a b c d e x : Bool) → ((((a && b) && c) && (d && e)) && x) ≡ (a && (d && ((c && e) && (b && x))))
 regroup false b c d e x = refl
 regroup true true true true e x = refl
@@ -165,9 +165,9 @@ module _ {ws : List ℕ} {n customer source between from i : ℕ} (g : Checked w
     inside : i < length (recordsOf ws)
     inside = omega (arith, g .count)
 
-    -- The row lies within the words.
-    pub row-inside : 2 + i * 4 + 4 ≤ length ws
-    row-inside = row-within ws (g .sound) i inside
+    -- The slot lies within the words.
+    pub slot-inside : 2 + i * 4 + 4 ≤ length ws
+    slot-inside = slot-within ws (g .sound) i inside
 
     -- Its customer, as read.
     abbrev cust : ℕ

@@ -8,8 +8,8 @@ use Rattle.table.specs.Table.{Entry, bodies, decode, Wide, Sound}
 use Rattle.table.proofs.Sounds.{nth}
 use Rattle.table.proofs.Typed
 use Rattle.table.proofs.Typed.{Typing, no-words}
-use Rattle.verdict.specs.Records.{Record}
-use Rattle.register.specs.Register.{registerWords, mostRecords, mostBodyWords, recordOf, entryOf, recordsOf, wordsOf, recordAt, listed}
+use Rattle.rules.specs.Records.{Record}
+use Rattle.register.specs.Register.{registerWords, mostRecords, mostBodyWords, recordOf, entryOf, recordsOf, registerOf, recordAt, listed}
 
 -- ---- entries and records
 
@@ -65,8 +65,8 @@ pub records-fit : (rs : List Record) → length rs ≤ mostRecords → listed rs
 records-fit rs h h' = omega (arith, length-entries rs, bodies-listed rs)
 
 -- What is written is read back.
-pub records-of-words : (rs : List Record) → length rs ≤ mostRecords → listed rs ≤ mostBodyWords → recordsOf (wordsOf rs) ≡ rs
-unfolding recordsOf wordsOf
+pub records-of-words : (rs : List Record) → length rs ≤ mostRecords → listed rs ≤ mostBodyWords → recordsOf (registerOf rs) ≡ rs
+unfolding recordsOf registerOf
 records-of-words rs h h' = Typed.records-of-words typing registerWords rs (omega (arith, bodies-listed rs))
 
 module _ (ws : List ℕ) (s : Sound 2 0 ws) where
@@ -81,8 +81,8 @@ module _ (ws : List ℕ) (s : Sound 2 0 ws) where
   length-records = Typed.length-records typing ws s
 
   -- A register's words are those of its records.
-  pub words-are : length ws ≡ registerWords → ws ≡ wordsOf (recordsOf ws)
-  unfolding wordsOf recordsOf
+  pub words-are : length ws ≡ registerWords → ws ≡ registerOf (recordsOf ws)
+  unfolding registerOf recordsOf
   words-are = Typed.words-are typing ws s registerWords
 
   -- Word 0 counts the records.
@@ -102,11 +102,11 @@ module _ (ws : List ℕ) (s : Sound 2 0 ws) where
 
   module _ (i : ℕ) (h : i < length (recordsOf ws)) where
     -- Row i lies within the words.
-    pub row-within : 2 + i * 4 + 4 ≤ length ws
+    pub slot-within : 2 + i * 4 + 4 ≤ length ws
     unfolding recordsOf
-    row-within = Typed.row-within typing ws s i h
+    slot-within = Typed.slot-within typing ws s i h
 
-    -- The first word of row i is the customer.
+    -- The first word of slot i is the customer.
     pub customer-is : getD ws (2 + i * 4) 0 ≡ recordAt (recordsOf ws) i .customer
     unfolding recordsOf
     customer-is = Typed.first-word typing ws s i h (omega arith)

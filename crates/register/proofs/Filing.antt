@@ -15,51 +15,51 @@ use Rattle.types.specs.declared.Removal.{Removal}
 use Rattle.types.specs.declared.Removal.the-variants as removal
 use Rattle.types.specs.declared.Cleared.{Cleared}
 use Rattle.types.specs.declared.Cleared.the-variants as cleared
-use Rattle.types.specs.Rows.{firstGiven, Step}
-use Rattle.table.specs.Table.{Entry, bodies, encode, decode, Sound, Insertable, Removable, Clearable, keptEntries, insertAt, removeAt}
+use Rattle.types.specs.Rows.{firstGiven, Effect}
+use Rattle.table.specs.Table.{Entry, bodies, encode, decode, Sound, Insertable, Removable, Clearable, stayingEntries, insertAt, removeAt}
 use Rattle.table.proofs.After.{removed}
 use Rattle.keyed.specs.Keyed.{samePair, beforePair, ascends, without}
 use Rattle.keyed.proofs.Orders.{ordered-pairs, both-intro}
 use Rattle.keyed.proofs.Ranks.{rank-within}
 use Rattle.keyed.proofs.Puts.{length-put-new, length-put-over}
-use Rattle.verdict.specs.Records.{Record}
-use Rattle.register.specs.Register.{registerWords, mostRecords, mostBodyWords, lastSource, entryOf, recordsOf, wordsOf, recordAt, keyOf, listed, listOk, roomFor, registerOk, placeOf}
-use Rattle.register.specs.Calls.{holdsRecord, putRecord, eraseRecord, clearRecords, countRecords, recordFor, Passed, fileStep, withdrawStep, clearStep}
-use Rattle.register.proofs.Entries.{decoded, length-records, record-count, list-count, length-is, row-within, listed-next, listed-take, bodies-listed, length-entries}
+use Rattle.rules.specs.Records.{Record}
+use Rattle.register.specs.Register.{registerWords, mostRecords, mostBodyWords, lastSource, entryOf, recordsOf, registerOf, recordAt, keyOf, listed, listOk, roomFor, registerOk, positionOf}
+use Rattle.register.specs.Calls.{holdsRecord, putRecord, eraseRecord, clearRecords, countRecords, recordFor, Passed, fileEffect, withdrawEffect, clearEffect}
+use Rattle.register.proofs.Entries.{decoded, length-records, record-count, list-count, length-is, slot-within, listed-next, listed-take, bodies-listed, length-entries}
 use Rattle.register.proofs.Holding.{sound, records-ok, ordered, has-room, room-records, room-lists}
-use Rattle.register.proofs.Keeping.{cleared-count}
-use Rattle.register.proofs.Placing.{inserted-entries, removed-entries, listed-append, listed-at, put-at, listed-new, put-in-place, place-within, listed-over, erase-place}
+use Rattle.register.proofs.Changes.{cleared-count}
+use Rattle.register.proofs.Placing.{inserted-entries, removed-entries, listed-append, listed-at, put-at, listed-new, put-in-position, position-within, listed-over, erase-position}
 
 -- ---- the rows of a filing, one after the other
 
 module _ (ws : List ℕ) (source customer : ℕ) (list : List ℕ) where
-  pub file-length : (length ws ≡ registerWords → ⊥) → fileStep ws source customer list ≡ record { answer = filed.Refused TableLength; words = ws }
-  unfolding fileStep firstGiven
+  pub file-length : (length ws ≡ registerWords → ⊥) → fileEffect ws source customer list ≡ record { answer = filed.Refused TableLength; words = ws }
+  unfolding fileEffect firstGiven
   file-length a = rw (ne-eqb (length ws) registerWords a)
 
   module _ (a : length ws ≡ registerWords) where
-    pub file-malformed : registerOk ws ≡ false → fileStep ws source customer list ≡ record { answer = filed.Refused RegisterMalformed; words = ws }
-    unfolding fileStep firstGiven
+    pub file-malformed : registerOk ws ≡ false → fileEffect ws source customer list ≡ record { answer = filed.Refused RegisterMalformed; words = ws }
+    unfolding fileEffect firstGiven
     file-malformed b = rw (eq-eqb (length ws) registerWords a, b)
 
     module _ (b : registerOk ws ≡ true) where
-      pub file-source : lastSource < source → fileStep ws source customer list ≡ record { answer = filed.Refused SourceNumber; words = ws }
-      unfolding fileStep firstGiven
+      pub file-source : lastSource < source → fileEffect ws source customer list ≡ record { answer = filed.Refused SourceNumber; words = ws }
+      unfolding fileEffect firstGiven
       file-source c = rw (eq-eqb (length ws) registerWords a, b, lt-ltb lastSource source c)
 
       module _ (c : source ≤ lastSource) where
-        pub file-customer : customer ≡ 0 → fileStep ws source customer list ≡ record { answer = filed.Refused CustomerZero; words = ws }
-        unfolding fileStep firstGiven
+        pub file-customer : customer ≡ 0 → fileEffect ws source customer list ≡ record { answer = filed.Refused CustomerZero; words = ws }
+        unfolding fileEffect firstGiven
         file-customer d = rw (eq-eqb (length ws) registerWords a, b, le-ltb lastSource source c, eq-eqb customer 0 d)
 
         module _ (d : customer ≡ 0 → ⊥) where
-          pub file-list : listOk list ≡ false → fileStep ws source customer list ≡ record { answer = filed.Refused ProviderList; words = ws }
-          unfolding fileStep firstGiven
+          pub file-list : listOk list ≡ false → fileEffect ws source customer list ≡ record { answer = filed.Refused ProviderList; words = ws }
+          unfolding fileEffect firstGiven
           file-list e = rw (eq-eqb (length ws) registerWords a, b, le-ltb lastSource source c, ne-eqb customer 0 d, e)
 
 -- ---- row 8, and the filing
 
-module _ {ws : List ℕ} {place source customer : ℕ} {list : List ℕ} (p : Passed ws place source customer list) where
+module _ {ws : List ℕ} {position source customer : ℕ} {list : List ℕ} (p : Passed ws position source customer list) where
   abbrev rs : List Record
   rs = recordsOf ws
 
@@ -69,18 +69,18 @@ module _ {ws : List ℕ} {place source customer : ℕ} {list : List ℕ} (p : Pa
   s : Sound 2 0 ws
   s = sound ws (p .ok)
 
-  file-full : roomFor (putRecord r rs) ≡ false → fileStep ws source customer list ≡ record { answer = filed.Refused RegisterFull; words = ws }
-  unfolding fileStep firstGiven
+  file-full : roomFor (putRecord r rs) ≡ false → fileEffect ws source customer list ≡ record { answer = filed.Refused RegisterFull; words = ws }
+  unfolding fileEffect firstGiven
   file-full e =
       rw (eq-eqb (length ws) registerWords (p .long), p .ok, le-ltb lastSource source (p .known), ne-eqb customer 0 (p .some), p .rising, e)
 
   file-done : (b : Bool) → holdsRecord customer source rs ≡ b → roomFor (putRecord r rs) ≡ true
-      → fileStep ws source customer list ≡ record { answer = cond b filed.Replaced filed.New; words = wordsOf (putRecord r rs) }
-  unfolding fileStep firstGiven
+      → fileEffect ws source customer list ≡ record { answer = cond b filed.Replaced filed.New; words = registerOf (putRecord r rs) }
+  unfolding fileEffect firstGiven
   file-done b h e =
       rw (eq-eqb (length ws) registerWords (p .long), p .ok, le-ltb lastSource source (p .known), ne-eqb customer 0 (p .some), p .rising, e, h)
 
-  -- The two counts, and the place.
+  -- The two counts, and the position.
   pub count-word : getD ws 0 0 ≡ length rs
   count-word = record-count ws s
 
@@ -93,42 +93,42 @@ module _ {ws : List ℕ} {place source customer : ℕ} {list : List ℕ} (p : Pa
   pub little : listed rs ≤ mostBodyWords
   little = room-lists rs (has-room rs (records-ok ws (p .ok)))
 
-  pub place-in : place ≤ length rs
-  unfolding placeOf
-  place-in = rw (p .here) (rank-within keyOf samePair beforePair (customer, source) rs)
+  pub position-in : position ≤ length rs
+  unfolding positionOf
+  position-in = rw (p .here) (rank-within keyOf samePair beforePair (customer, source) rs)
 
   body-count : length (bodies (decode 2 0 ws)) ≡ listed rs
   body-count = ap (λ es. length (bodies es)) (decoded ws s) ∙ bodies-listed rs
 
   -- A new record.
   module _ (free : holdsRecord customer source rs ≡ false) where
-    pub full-records : mostRecords ≤ length rs → fileStep ws source customer list ≡ record { answer = filed.Refused RegisterFull; words = ws }
+    pub full-records : mostRecords ≤ length rs → fileEffect ws source customer list ≡ record { answer = filed.Refused RegisterFull; words = ws }
     unfolding roomFor
     full-records h =
         let n : length (putRecord r rs) ≡ suc (length rs) = length-put-new keyOf samePair beforePair r rs free in
         file-full (rw (lt-leb (length (putRecord r rs)) mostRecords (omega arith)) refl)
 
-    pub full-lists : mostBodyWords - listed rs < length list → fileStep ws source customer list ≡ record { answer = filed.Refused RegisterFull; words = ws }
+    pub full-lists : mostBodyWords - listed rs < length list → fileEffect ws source customer list ≡ record { answer = filed.Refused RegisterFull; words = ws }
     unfolding roomFor
     full-lists h =
         let b : listed (putRecord r rs) ≡ listed rs + length list = listed-new r rs free in
         file-full (rw (lt-leb (listed (putRecord r rs)) mostBodyWords (omega (arith, little))) (and-false (leb (length (putRecord r rs)) mostRecords)))
 
     module _ (more : length rs < mostRecords) (room : length list ≤ mostBodyWords - listed rs) where
-      pub new-fits : Insertable 2 0 ws place (entryOf r)
+      pub new-fits : Insertable 2 0 ws position (entryOf r)
       new-fits =
           record {
             sound = s;
-            within = omega (arith, place-in, length-records ws s);
+            within = omega (arith, position-in, length-records ws s);
             head = refl;
             tail = refl;
             room = omega (arith, p .long, body-count, length-records ws s, little);
             small = omega (arith, p .long);
           }
 
-      pub new-done : {ws' : List ℕ} → ws' ≡ encode (length ws) (insertAt place (entryOf r) (decode 2 0 ws))
-          → (filed.New ≡ fileStep ws source customer list .answer) × (ws' ≡ fileStep ws source customer list .words)
-      unfolding roomFor wordsOf
+      pub new-done : {ws' : List ℕ} → ws' ≡ encode (length ws) (insertAt position (entryOf r) (decode 2 0 ws))
+          → (filed.New ≡ fileEffect ws source customer list .answer) × (ws' ≡ fileEffect ws source customer list .words)
+      unfolding roomFor registerOf
       new-done {ws'} e = rw done (refl, e ∙ words)
         where
           fits : roomFor (putRecord r rs) ≡ true
@@ -137,80 +137,80 @@ module _ {ws : List ℕ} {place source customer : ℕ} {list : List ℕ} (p : Pa
               let b : listed (putRecord r rs) ≡ listed rs + length list = listed-new r rs free in
               both-intro _ _ (le-leb (length (putRecord r rs)) mostRecords (omega arith)) (le-leb (listed (putRecord r rs)) mostBodyWords (omega (arith, little)))
 
-          done : fileStep ws source customer list ≡ record { answer = filed.New; words = wordsOf (putRecord r rs) }
+          done : fileEffect ws source customer list ≡ record { answer = filed.New; words = registerOf (putRecord r rs) }
           done = file-done false free fits
 
-          words : encode (length ws) (insertAt place (entryOf r) (decode 2 0 ws)) ≡ encode registerWords (map entryOf (putRecord r rs))
+          words : encode (length ws) (insertAt position (entryOf r) (decode 2 0 ws)) ≡ encode registerWords (map entryOf (putRecord r rs))
           words =
               (λ i. encode (p .long i) (insertAt (p .here i) (entryOf r) (decoded ws s i)))
-              ∙ ap (encode registerWords) (inserted-entries (placeOf customer source rs) r rs ∙ ap (map entryOf) (sym (put-at r rs free)))
+              ∙ ap (encode registerWords) (inserted-entries (positionOf customer source rs) r rs ∙ ap (map entryOf) (sym (put-at r rs free)))
 
-  -- A list in the place of another.
+  -- A list in the position of another.
   module _ (taken : holdsRecord customer source rs ≡ true) where
     asc : ascends keyOf samePair beforePair rs ≡ true
     asc = ordered ws (p .ok)
 
-    pub place-under : place < length rs
-    place-under = rw (p .here) (place-within r rs asc taken)
+    pub position-under : position < length rs
+    position-under = rw (p .here) (position-within r rs asc taken)
 
-    pub old-row : 2 + place * 4 + 4 ≤ length ws
-    old-row = row-within ws s place place-under
+    pub old-slot : 2 + position * 4 + 4 ≤ length ws
+    old-slot = slot-within ws s position position-under
 
     -- The numbers of the list that goes.
-    pub old-word : getD ws (2 + place * 4 + 3) 0 ≡ length (recordAt rs place .providers)
-    old-word = length-is ws s place place-under
+    pub old-word : getD ws (2 + position * 4 + 3) 0 ≡ length (recordAt rs position .providers)
+    old-word = length-is ws s position position-under
 
-    pub old-within : length (recordAt rs place .providers) ≤ listed rs
-    old-within = omega (arith, listed-next rs place place-under, listed-take rs (suc place))
+    pub old-within : length (recordAt rs position .providers) ≤ listed rs
+    old-within = omega (arith, listed-next rs position position-under, listed-take rs (suc position))
 
-    others : listed (putRecord r rs) + length (recordAt rs place .providers) ≡ listed rs + length list
+    others : listed (putRecord r rs) + length (recordAt rs position .providers) ≡ listed rs + length list
     others = rw (p .here) (listed-over r rs asc taken)
 
-    pub full-over : mostBodyWords - (listed rs - length (recordAt rs place .providers)) < length list
-        → fileStep ws source customer list ≡ record { answer = filed.Refused RegisterFull; words = ws }
+    pub full-over : mostBodyWords - (listed rs - length (recordAt rs position .providers)) < length list
+        → fileEffect ws source customer list ≡ record { answer = filed.Refused RegisterFull; words = ws }
     unfolding roomFor
     full-over h =
         file-full (rw (lt-leb (listed (putRecord r rs)) mostBodyWords (omega (arith, others, old-within, little))) (and-false (leb (length (putRecord r rs)) mostRecords)))
 
-    pub old-goes : Removable 2 0 ws place
-    old-goes = record { sound = s; within = omega (arith, place-under, length-records ws s); small = omega (arith, p .long) }
+    pub old-goes : Removable 2 0 ws position
+    old-goes = record { sound = s; within = omega (arith, position-under, length-records ws s); small = omega (arith, p .long) }
 
-    module _ (room : length list ≤ mostBodyWords - (listed rs - length (recordAt rs place .providers)))
-        {ws₁ : List ℕ} (gone : ws₁ ≡ encode (length ws) (removeAt place (decode 2 0 ws))) (long₁ : length ws₁ ≡ length ws) where
+    module _ (room : length list ≤ mostBodyWords - (listed rs - length (recordAt rs position .providers)))
+        {ws₁ : List ℕ} (gone : ws₁ ≡ encode (length ws) (removeAt position (decode 2 0 ws))) (long₁ : length ws₁ ≡ length ws) where
       abbrev rest : List Record
-      rest = take place rs ++ drop (suc place) rs
+      rest = take position rs ++ drop (suc position) rs
 
       now-sound : Sound 2 0 ws₁
-      now-sound = removed 2 0 ws place ws₁ old-goes gone .0
+      now-sound = removed 2 0 ws position ws₁ old-goes gone .0
 
       now-holds : decode 2 0 ws₁ ≡ map entryOf rest
-      now-holds = removed 2 0 ws place ws₁ old-goes gone .1 ∙ ap (removeAt place) (decoded ws s) ∙ removed-entries place rs
+      now-holds = removed 2 0 ws position ws₁ old-goes gone .1 ∙ ap (removeAt position) (decoded ws s) ∙ removed-entries position rs
 
-      front : length (take place rs) ≡ place
-      front = length-take-le place rs (omega (arith, place-under))
+      front : length (take position rs) ≡ position
+      front = length-take-le position rs (omega (arith, position-under))
 
       rest-length : suc (length rest) ≡ length rs
-      rest-length = omega (arith, length-append (take place rs) (drop (suc place) rs), length-drop (suc place) rs, front, place-under)
+      rest-length = omega (arith, length-append (take position rs) (drop (suc position) rs), length-drop (suc position) rs, front, position-under)
 
-      rest-listed : listed rest + length (recordAt rs place .providers) ≡ listed rs
-      rest-listed = omega (arith, listed-append (take place rs) (drop (suc place) rs), listed-at place rs place-under)
+      rest-listed : listed rest + length (recordAt rs position .providers) ≡ listed rs
+      rest-listed = omega (arith, listed-append (take position rs) (drop (suc position) rs), listed-at position rs position-under)
 
-      pub over-fits : Insertable 2 0 ws₁ place (entryOf r)
+      pub over-fits : Insertable 2 0 ws₁ position (entryOf r)
       over-fits =
           let n : length (decode 2 0 ws₁) ≡ length rest = ap length now-holds ∙ length-entries rest in
           let b : length (bodies (decode 2 0 ws₁)) ≡ listed rest = ap (λ es. length (bodies es)) now-holds ∙ bodies-listed rest in
           record {
             sound = now-sound;
-            within = omega (arith, place-under, rest-length);
+            within = omega (arith, position-under, rest-length);
             head = refl;
             tail = refl;
             room = omega (arith, p .long, rest-length, rest-listed, few, little);
             small = omega (arith, p .long);
           }
 
-      pub over-done : {ws₂ : List ℕ} → ws₂ ≡ encode (length ws₁) (insertAt place (entryOf r) (decode 2 0 ws₁))
-          → (filed.Replaced ≡ fileStep ws source customer list .answer) × (ws₂ ≡ fileStep ws source customer list .words)
-      unfolding roomFor wordsOf
+      pub over-done : {ws₂ : List ℕ} → ws₂ ≡ encode (length ws₁) (insertAt position (entryOf r) (decode 2 0 ws₁))
+          → (filed.Replaced ≡ fileEffect ws source customer list .answer) × (ws₂ ≡ fileEffect ws source customer list .words)
+      unfolding roomFor registerOf
       over-done {ws₂} e = rw done (refl, e ∙ words)
         where
           fits : roomFor (putRecord r rs) ≡ true
@@ -218,103 +218,103 @@ module _ {ws : List ℕ} {place source customer : ℕ} {list : List ℕ} (p : Pa
               let n : length (putRecord r rs) ≡ length rs = length-put-over keyOf samePair beforePair ordered-pairs r rs asc taken in
               both-intro _ _ (le-leb (length (putRecord r rs)) mostRecords (omega (arith, few))) (le-leb (listed (putRecord r rs)) mostBodyWords (omega (arith, others, old-within, little)))
 
-          done : fileStep ws source customer list ≡ record { answer = filed.Replaced; words = wordsOf (putRecord r rs) }
+          done : fileEffect ws source customer list ≡ record { answer = filed.Replaced; words = registerOf (putRecord r rs) }
           done = file-done true taken fits
 
-          put-here : putRecord r rs ≡ take place rs ++ (r ∷ drop (suc place) rs)
-          put-here = rw (p .here) (put-in-place r rs asc taken)
+          put-here : putRecord r rs ≡ take position rs ++ (r ∷ drop (suc position) rs)
+          put-here = rw (p .here) (put-in-position r rs asc taken)
 
-          words : encode (length ws₁) (insertAt place (entryOf r) (decode 2 0 ws₁)) ≡ encode registerWords (map entryOf (putRecord r rs))
+          words : encode (length ws₁) (insertAt position (entryOf r) (decode 2 0 ws₁)) ≡ encode registerWords (map entryOf (putRecord r rs))
           words =
-              (λ i. encode ((long₁ ∙ p .long) i) (insertAt place (entryOf r) (now-holds i)))
-              ∙ ap (encode registerWords) (inserted-entries place r rest)
-              ∙ (λ i. encode registerWords (map entryOf (take-at (take place rs) (drop (suc place) rs) place front i ++ (r ∷ drop-at (take place rs) (drop (suc place) rs) place front i))))
+              (λ i. encode ((long₁ ∙ p .long) i) (insertAt position (entryOf r) (now-holds i)))
+              ∙ ap (encode registerWords) (inserted-entries position r rest)
+              ∙ (λ i. encode registerWords (map entryOf (take-at (take position rs) (drop (suc position) rs) position front i ++ (r ∷ drop-at (take position rs) (drop (suc position) rs) position front i))))
               ∙ ap (λ l. encode registerWords (map entryOf l)) (sym put-here)
 
 -- ---- Withdraw
 
 module _ (ws : List ℕ) (source customer : ℕ) where
-  pub withdraw-length : (length ws ≡ registerWords → ⊥) → withdrawStep ws source customer ≡ record { answer = removal.Refused TableLength; words = ws }
-  unfolding withdrawStep firstGiven
+  pub withdraw-length : (length ws ≡ registerWords → ⊥) → withdrawEffect ws source customer ≡ record { answer = removal.Refused TableLength; words = ws }
+  unfolding withdrawEffect firstGiven
   withdraw-length a = rw (ne-eqb (length ws) registerWords a)
 
   module _ (a : length ws ≡ registerWords) where
-    pub withdraw-malformed : registerOk ws ≡ false → withdrawStep ws source customer ≡ record { answer = removal.Refused RegisterMalformed; words = ws }
-    unfolding withdrawStep firstGiven
+    pub withdraw-malformed : registerOk ws ≡ false → withdrawEffect ws source customer ≡ record { answer = removal.Refused RegisterMalformed; words = ws }
+    unfolding withdrawEffect firstGiven
     withdraw-malformed b = rw (eq-eqb (length ws) registerWords a, b)
 
     module _ (b : registerOk ws ≡ true) where
-      pub withdraw-source : lastSource < source → withdrawStep ws source customer ≡ record { answer = removal.Refused SourceNumber; words = ws }
-      unfolding withdrawStep firstGiven
+      pub withdraw-source : lastSource < source → withdrawEffect ws source customer ≡ record { answer = removal.Refused SourceNumber; words = ws }
+      unfolding withdrawEffect firstGiven
       withdraw-source c = rw (eq-eqb (length ws) registerWords a, b, lt-ltb lastSource source c)
 
       module _ (c : source ≤ lastSource) where
-        pub withdraw-customer : customer ≡ 0 → withdrawStep ws source customer ≡ record { answer = removal.Refused CustomerZero; words = ws }
-        unfolding withdrawStep firstGiven
+        pub withdraw-customer : customer ≡ 0 → withdrawEffect ws source customer ≡ record { answer = removal.Refused CustomerZero; words = ws }
+        unfolding withdrawEffect firstGiven
         withdraw-customer d = rw (eq-eqb (length ws) registerWords a, b, le-ltb lastSource source c, eq-eqb customer 0 d)
 
         module _ (d : customer ≡ 0 → ⊥) where
-          pub withdraw-none : holdsRecord customer source (recordsOf ws) ≡ false → withdrawStep ws source customer ≡ record { answer = removal.Refused NoRecord; words = ws }
-          unfolding withdrawStep firstGiven
+          pub withdraw-none : holdsRecord customer source (recordsOf ws) ≡ false → withdrawEffect ws source customer ≡ record { answer = removal.Refused NoRecord; words = ws }
+          unfolding withdrawEffect firstGiven
           withdraw-none e = rw (eq-eqb (length ws) registerWords a, b, le-ltb lastSource source c, ne-eqb customer 0 d, e)
 
-          module _ (e : holdsRecord customer source (recordsOf ws) ≡ true) {place : ℕ} (f : place ≡ placeOf customer source (recordsOf ws)) where
+          module _ (e : holdsRecord customer source (recordsOf ws) ≡ true) {position : ℕ} (f : position ≡ positionOf customer source (recordsOf ws)) where
             asc' : ascends keyOf samePair beforePair (recordsOf ws) ≡ true
             asc' = ordered ws b
 
-            pub withdraw-goes : Removable 2 0 ws place
+            pub withdraw-goes : Removable 2 0 ws position
             withdraw-goes =
-                let h : place < length (recordsOf ws) = rw f (place-within (recordFor source customer []) (recordsOf ws) asc' e) in
+                let h : position < length (recordsOf ws) = rw f (position-within (recordFor source customer []) (recordsOf ws) asc' e) in
                 record { sound = sound ws b; within = omega (arith, length-records ws (sound ws b)); small = omega (arith, a) }
 
-            pub withdraw-done : {ws' : List ℕ} → ws' ≡ encode (length ws) (removeAt place (decode 2 0 ws))
-                → (removal.Done ≡ withdrawStep ws source customer .answer) × (ws' ≡ withdrawStep ws source customer .words)
-            unfolding wordsOf withdrawStep firstGiven
+            pub withdraw-done : {ws' : List ℕ} → ws' ≡ encode (length ws) (removeAt position (decode 2 0 ws))
+                → (removal.Done ≡ withdrawEffect ws source customer .answer) × (ws' ≡ withdrawEffect ws source customer .words)
+            unfolding registerOf withdrawEffect firstGiven
             withdraw-done {ws'} g =
                 rw (eq-eqb (length ws) registerWords a, b, le-ltb lastSource source c, ne-eqb customer 0 d, e) (refl, g ∙ words)
               where
-                words : encode (length ws) (removeAt place (decode 2 0 ws)) ≡ encode registerWords (map entryOf (eraseRecord customer source (recordsOf ws)))
+                words : encode (length ws) (removeAt position (decode 2 0 ws)) ≡ encode registerWords (map entryOf (eraseRecord customer source (recordsOf ws)))
                 words =
                     (λ i. encode (a i) (removeAt (f i) (decoded ws (sound ws b) i)))
                     ∙ ap (encode registerWords)
-                    (removed-entries (placeOf customer source (recordsOf ws)) (recordsOf ws) ∙ ap (map entryOf) (sym (erase-place customer source (recordsOf ws) asc' e)))
+                    (removed-entries (positionOf customer source (recordsOf ws)) (recordsOf ws) ∙ ap (map entryOf) (sym (erase-position customer source (recordsOf ws) asc' e)))
 
 -- ---- Clear
 
 -- The entries that a clearing keeps are those of the records that it keeps.
-kept-entries : (source : ℕ) (rs : List Record) → keptEntries 1 source (map entryOf rs) ≡ map entryOf (clearRecords source rs)
-unfolding keptEntries without
+kept-entries : (source : ℕ) (rs : List Record) → stayingEntries 1 source (map entryOf rs) ≡ map entryOf (clearRecords source rs)
+unfolding stayingEntries without
 kept-entries source [] = refl
 kept-entries source (r ∷ rs) = go (eqb (r .source) source) (kept-entries source rs)
   where
-    go : (b : Bool) → keptEntries 1 source (map entryOf rs) ≡ map entryOf (clearRecords source rs)
-        → cond b (keptEntries 1 source (map entryOf rs)) (entryOf r ∷ keptEntries 1 source (map entryOf rs))
+    go : (b : Bool) → stayingEntries 1 source (map entryOf rs) ≡ map entryOf (clearRecords source rs)
+        → cond b (stayingEntries 1 source (map entryOf rs)) (entryOf r ∷ stayingEntries 1 source (map entryOf rs))
         ≡ map entryOf (cond b (clearRecords source rs) (r ∷ clearRecords source rs))
     go true h = h
     go false h = ap (λ l. entryOf r ∷ l) h
 
 module _ (ws : List ℕ) (source : ℕ) where
-  pub clear-length : (length ws ≡ registerWords → ⊥) → clearStep ws source ≡ record { answer = cleared.Refused TableLength; words = ws }
-  unfolding clearStep firstGiven
+  pub clear-length : (length ws ≡ registerWords → ⊥) → clearEffect ws source ≡ record { answer = cleared.Refused TableLength; words = ws }
+  unfolding clearEffect firstGiven
   clear-length a = rw (ne-eqb (length ws) registerWords a)
 
   module _ (a : length ws ≡ registerWords) where
-    pub clear-malformed : registerOk ws ≡ false → clearStep ws source ≡ record { answer = cleared.Refused RegisterMalformed; words = ws }
-    unfolding clearStep firstGiven
+    pub clear-malformed : registerOk ws ≡ false → clearEffect ws source ≡ record { answer = cleared.Refused RegisterMalformed; words = ws }
+    unfolding clearEffect firstGiven
     clear-malformed b = rw (eq-eqb (length ws) registerWords a, b)
 
     module _ (b : registerOk ws ≡ true) where
-      pub clear-source : lastSource < source → clearStep ws source ≡ record { answer = cleared.Refused SourceNumber; words = ws }
-      unfolding clearStep firstGiven
+      pub clear-source : lastSource < source → clearEffect ws source ≡ record { answer = cleared.Refused SourceNumber; words = ws }
+      unfolding clearEffect firstGiven
       clear-source c = rw (eq-eqb (length ws) registerWords a, b, lt-ltb lastSource source c)
 
       pub clear-may : Clearable 2 0 ws 1
       clear-may = record { sound = sound ws b; within = omega arith; small = omega (arith, a) }
 
-      kept : keptEntries 1 source (decode 2 0 ws) ≡ map entryOf (clearRecords source (recordsOf ws))
-      kept = ap (keptEntries 1 source) (decoded ws (sound ws b)) ∙ kept-entries source (recordsOf ws)
+      kept : stayingEntries 1 source (decode 2 0 ws) ≡ map entryOf (clearRecords source (recordsOf ws))
+      kept = ap (stayingEntries 1 source) (decoded ws (sound ws b)) ∙ kept-entries source (recordsOf ws)
 
-      module _ {gone : ℕ} (g : gone + length (keptEntries 1 source (decode 2 0 ws)) ≡ length (decode 2 0 ws)) where
+      module _ {gone : ℕ} (g : gone + length (stayingEntries 1 source (decode 2 0 ws)) ≡ length (decode 2 0 ws)) where
         pub gone-is : gone ≡ countRecords source (recordsOf ws)
         gone-is =
             omega (
@@ -327,9 +327,9 @@ module _ (ws : List ℕ) (source : ℕ) where
         pub gone-few : gone ≤ mostRecords
         gone-few = omega (arith, length-records ws (sound ws b), room-records (recordsOf ws) (has-room (recordsOf ws) (records-ok ws b)))
 
-        pub clear-done : {ws' : List ℕ} → source ≤ lastSource → ws' ≡ encode (length ws) (keptEntries 1 source (decode 2 0 ws))
-            → (cleared.Gone gone ≡ clearStep ws source .answer) × (ws' ≡ clearStep ws source .words)
-        unfolding clearStep firstGiven wordsOf
+        pub clear-done : {ws' : List ℕ} → source ≤ lastSource → ws' ≡ encode (length ws) (stayingEntries 1 source (decode 2 0 ws))
+            → (cleared.Gone gone ≡ clearEffect ws source .answer) × (ws' ≡ clearEffect ws source .words)
+        unfolding clearEffect firstGiven registerOf
         clear-done c e =
             rw (eq-eqb (length ws) registerWords a, b, le-ltb lastSource source c)
             (ap cleared.Gone gone-is, e ∙ (λ i. encode (a i) (kept i)))

@@ -10,8 +10,8 @@ use Rattle.table.specs.Table.{Sound, wellFormed}
 use Rattle.table.proofs.Exact.{passes-sound, encode-passes}
 use Rattle.keyed.specs.Keyed.{samePair, beforePair, ascends, every}
 use Rattle.keyed.proofs.Orders.{both-left, both-right, both-intro}
-use Rattle.verdict.specs.Records.{Record}
-use Rattle.register.specs.Register.{registerWords, mostRecords, mostBodyWords, recordsOf, wordsOf, entryOf, keyOf, listed, recordOk, roomFor, recordsOk, registerOk}
+use Rattle.rules.specs.Records.{Record}
+use Rattle.register.specs.Register.{registerWords, mostRecords, mostBodyWords, recordsOf, registerOf, entryOf, keyOf, listed, recordOk, roomFor, recordsOk, registerOk}
 use Rattle.register.proofs.Entries.{entries-wide, records-fit, records-of-words}
 
 module _ (rs : List Record) where
@@ -37,15 +37,15 @@ module _ (rs : List Record) where
     in-order = both-right (every recordOk rs) _ (both-right (roomFor rs) _ e)
 
 -- Records that keep the rules are written as a well-formed register.
-pub words-ok : (rs : List Record) → recordsOk rs ≡ true → registerOk (wordsOf rs) ≡ true
-unfolding registerOk wordsOf
+pub words-ok : (rs : List Record) → recordsOk rs ≡ true → registerOk (registerOf rs) ≡ true
+unfolding registerOk registerOf
 words-ok rs e =
-    both-intro (wellFormed 2 0 (wordsOf rs)) _ formed (rw (records-of-words rs (room-records rs room) (room-lists rs room)) e)
+    both-intro (wellFormed 2 0 (registerOf rs)) _ formed (rw (records-of-words rs (room-records rs room) (room-lists rs room)) e)
   where
     room : roomFor rs ≡ true
     room = has-room rs e
 
-    formed : wellFormed 2 0 (wordsOf rs) ≡ true
+    formed : wellFormed 2 0 (registerOf rs) ≡ true
     formed = encode-passes 2 0 registerWords (map entryOf rs) (entries-wide rs) (records-fit rs (room-records rs room) (room-lists rs room))
 
 module _ (ws : List ℕ) (e : registerOk ws ≡ true) where

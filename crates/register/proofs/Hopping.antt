@@ -10,11 +10,11 @@ use lib.ListN.{length, getD, take, drop}
 use Rattle.types.specs.declared.Hop.the-variants.{NoAttestation, ProviderPlus, NotProviderPlus}
 use Rattle.keyed.specs.Keyed.{samePair, beforePair, ascends}
 use Rattle.keyed.proofs.Orders.{BeforePair, first, second, before-says, before-self}
-use Rattle.verdict.specs.Records.{Record, isIn, attested, united, hopOf}
-use Rattle.register.specs.Register.{recordsOf, recordAt, keyOf, placeOf, listed, registerOk}
+use Rattle.rules.specs.Records.{Record, isIn, attested, united, hopOf}
+use Rattle.register.specs.Register.{recordsOf, recordAt, keyOf, positionOf, listed, registerOk}
 use Rattle.register.proofs.Entries.{list-start, length-is, list-is, list-within, customer-is}
 use Rattle.register.proofs.Holding.{sound, ordered}
-use Rattle.register.proofs.Looking.{place-within, place-below, place-above, place-under, count-is, row-in}
+use Rattle.register.proofs.Looking.{position-within, position-below, position-above, position-under, count-is, slot-in}
 use Rattle.register.proofs.Uniting.{told, skips, past-all, attests, unites, none-united, hop-is}
 
 -- A pair that does not stand before another has no lesser customer.
@@ -31,57 +31,57 @@ less c s x (first h) = h
 less c s x (second e h) = absurd (omega arith)
 
 module _ (rs : List Record) (a : ascends keyOf samePair beforePair rs ≡ true) where
-  -- The records below x's place have lesser customers.
-  customers-below : (x i : ℕ) → i < placeOf x 0 rs → recordAt rs i .customer < x
-  customers-below x i h = less _ (recordAt rs i .source) x (before-says (keyOf (recordAt rs i)) (x, 0) (place-below rs a x 0 i h))
+  -- The records below x's position have lesser customers.
+  customers-below : (x i : ℕ) → i < positionOf x 0 rs → recordAt rs i .customer < x
+  customers-below x i h = less _ (recordAt rs i .source) x (before-says (keyOf (recordAt rs i)) (x, 0) (position-below rs a x 0 i h))
 
-  -- The records from x's place on do not.
-  customers-above : (x i : ℕ) → placeOf x 0 rs ≤ i → i < length rs → x ≤ recordAt rs i .customer
-  customers-above x i h l = not-less _ (recordAt rs i .source) x 0 (place-above rs a x 0 i h l)
+  -- The records from x's position on do not.
+  customers-above : (x i : ℕ) → positionOf x 0 rs ≤ i → i < length rs → x ≤ recordAt rs i .customer
+  customers-above x i h l = not-less _ (recordAt rs i .source) x 0 (position-above rs a x 0 i h l)
 
   -- Customers do not descend.
   customers-ascend : (i j : ℕ) → i ≤ j → j < length rs → recordAt rs i .customer ≤ recordAt rs j .customer
   customers-ascend i j h l =
       let c = recordAt rs i .customer in
       let s = recordAt rs i .source in
-      let u : placeOf c s rs ≤ i = place-under rs a c s i (before-self (c, s)) in
-      not-less _ (recordAt rs j .source) c s (place-above rs a c s j (omega arith) l)
+      let u : positionOf c s rs ≤ i = position-under rs a c s i (before-self (c, s)) in
+      not-less _ (recordAt rs j .source) c s (position-above rs a c s j (omega arith) l)
 
 -- The scan is at record i: x is attested if and only if a record was passed or those from i on attest it.
-pub record Passing (ws : List ℕ) (place x n i : ℕ) : Type 0 where
+pub record Passing (ws : List ℕ) (position x n i : ℕ) : Type 0 where
   pub ok : registerOk ws ≡ true
-  pub begins : place ≡ placeOf x 0 (recordsOf ws)
+  pub begins : position ≡ positionOf x 0 (recordsOf ws)
   pub counted : n ≡ length (recordsOf ws)
-  pub from : place ≤ i
-  pub seen : (ltb place i || attested (drop i (recordsOf ws)) x) ≡ attested (recordsOf ws) x
+  pub from : position ≤ i
+  pub seen : (ltb position i || attested (drop i (recordsOf ws)) x) ≡ attested (recordsOf ws) x
 
 -- The flag and the records from i on say whether x's lists hold y.
 pub record Hearing (ws : List ℕ) (x y : ℕ) (has : Bool) (i : ℕ) : Type 0 where
   pub says : (has || isIn y (united (drop i (recordsOf ws)) x)) ≡ isIn y (united (recordsOf ws) x)
 
-module _ (ws : List ℕ) (x place : ℕ) (e : registerOk ws ≡ true) (p : place ≡ placeOf x 0 (recordsOf ws)) where
-  -- The records before place tell nothing of x.
-  from-place : told x (drop place (recordsOf ws)) ≡ told x (recordsOf ws)
-  from-place =
-      sym (skips x (recordsOf ws) 0 place (omega arith) (omega (arith, place-within (recordsOf ws) (ordered ws e) x 0))
+module _ (ws : List ℕ) (x position : ℕ) (e : registerOk ws ≡ true) (p : position ≡ positionOf x 0 (recordsOf ws)) where
+  -- The records before position tell nothing of x.
+  from-position : told x (drop position (recordsOf ws)) ≡ told x (recordsOf ws)
+  from-position =
+      sym (skips x (recordsOf ws) 0 position (omega arith) (omega (arith, position-within (recordsOf ws) (ordered ws e) x 0))
       (λ j l m q. omega (arith, customers-below (recordsOf ws) (ordered ws e) x j (omega arith))))
 
   -- Before the first turn none is passed.
-  pub starts : (n : ℕ) → n ≡ getD ws 0 0 → Passing ws place x n place
+  pub starts : (n : ℕ) → n ≡ getD ws 0 0 → Passing ws position x n position
   starts n q =
       record {
         ok = e;
         begins = p;
         counted = q ∙ count-is ws e;
         from = omega arith;
-        seen = rw (le-ltb place place (omega arith)) (ap (λ t. t .0) from-place);
+        seen = rw (le-ltb position position (omega arith)) (ap (λ t. t .0) from-position);
       }
 
   -- Nor is anything heard.
-  pub listens : (y : ℕ) → Hearing ws x y false place
-  listens y = record { says = ap (λ t. isIn y (t .1)) from-place }
+  pub listens : (y : ℕ) → Hearing ws x y false position
+  listens y = record { says = ap (λ t. isIn y (t .1)) from-position }
 
-module _ {ws : List ℕ} {place x n i : ℕ} (b : Passing ws place x n i) where
+module _ {ws : List ℕ} {position x n i : ℕ} (b : Passing ws position x n i) where
   module _ (h : i < n) where
     -- Record i is there.
     inside : i < length (recordsOf ws)
@@ -89,14 +89,14 @@ module _ {ws : List ℕ} {place x n i : ℕ} (b : Passing ws place x n i) where
 
     -- Row i is within the words.
     pub row-of : 2 + i * 4 + 4 ≤ length ws
-    row-of = row-in ws (b .ok) i inside
+    row-of = slot-in ws (b .ok) i inside
 
     -- Its first word is the customer.
     customer-of : getD ws (2 + i * 4) 0 ≡ recordAt (recordsOf ws) i .customer
     customer-of = customer-is ws (sound ws (b .ok)) i inside
 
     -- It is x's.
-    pub passes : getD ws (2 + i * 4) 0 ≡ x → Passing ws place x n (i + 1)
+    pub passes : getD ws (2 + i * 4) 0 ≡ x → Passing ws position x n (i + 1)
     passes e =
         record {
           ok = b .ok;
@@ -104,8 +104,8 @@ module _ {ws : List ℕ} {place x n i : ℕ} (b : Passing ws place x n i) where
           counted = b .counted;
           from = omega arith;
           seen =
-              rw (lt-ltb place (i + 1) (omega arith))
-              (sym (or-true (ltb place i)) ∙ ap (λ t. ltb place i || t) (sym (attests x (recordsOf ws) i inside (sym customer-of ∙ e))) ∙ b .seen);
+              rw (lt-ltb position (i + 1) (omega arith))
+              (sym (or-true (ltb position i)) ∙ ap (λ t. ltb position i || t) (sym (attests x (recordsOf ws) i inside (sym customer-of ∙ e))) ∙ b .seen);
         }
 
     module _ {u v : ℕ} (eu : u ≡ getD ws (2 + i * 4 + 2) 0) (ev : v ≡ getD ws (2 + i * 4 + 3) 0) where
@@ -161,10 +161,10 @@ module _ {ws : List ℕ} {place x n i : ℕ} (b : Passing ws place x n i) where
 
   -- With none left, the flags make the hop.
   pub arrives : {y : ℕ} {has : Bool} → attested (drop i (recordsOf ws)) x ≡ false → Hearing ws x y has i
-      → cond has ProviderPlus (cond (ltb place i) NotProviderPlus NoAttestation) ≡ hopOf (recordsOf ws) x y
+      → cond has ProviderPlus (cond (ltb position i) NotProviderPlus NoAttestation) ≡ hopOf (recordsOf ws) x y
   unfolding isIn
   arrives {y} {has} e s =
       let p : has ≡ isIn y (united (recordsOf ws) x)
       = sym (or-false has) ∙ ap (λ l. has || isIn y l) (sym (none-united x (drop i (recordsOf ws)) e)) ∙ s .says in
-      let q : ltb place i ≡ attested (recordsOf ws) x = sym (or-false (ltb place i)) ∙ ap (λ t. ltb place i || t) (sym e) ∙ b .seen in
+      let q : ltb position i ≡ attested (recordsOf ws) x = sym (or-false (ltb position i)) ∙ ap (λ t. ltb position i || t) (sym e) ∙ b .seen in
       rw (p, q) (hop-is x (recordsOf ws) y)

@@ -7,6 +7,6 @@ pub mod Looking
 pub mod Uniting
 pub mod Hopping
 pub mod Placing
-pub mod Keeping
+pub mod Changes
 pub mod Refusals
 pub mod Filing

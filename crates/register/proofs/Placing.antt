@@ -1,4 +1,4 @@
--- What an accepted call makes of the records, in the table's terms: an insertion, a replacement, a removal at a place. Assumes nothing.
+-- What an accepted call makes of the records, in the table's terms: an insertion, a replacement, a removal at a position. Assumes nothing.
 use Prim.Native.Nat.{ℕ, suc, _+_, _<_}
 use mathlib.Core.Path.{_≡_, sym, _∙_, ap}
 use mathlib.Core.Bool.{true, false}
@@ -12,8 +12,8 @@ use Rattle.keyed.specs.Keyed.{samePair, beforePair, ascends}
 use Rattle.keyed.proofs.Orders.{ordered-pairs}
 use Rattle.keyed.proofs.Ranks.{holds-at}
 use Rattle.keyed.proofs.Puts.{put-new, put-over, erase-at}
-use Rattle.verdict.specs.Records.{Record}
-use Rattle.register.specs.Register.{entryOf, recordAt, keyOf, listed, placeOf}
+use Rattle.rules.specs.Records.{Record}
+use Rattle.register.specs.Register.{entryOf, recordAt, keyOf, listed, positionOf}
 use Rattle.register.specs.Calls.{holdsRecord, putRecord, eraseRecord}
 use Rattle.register.proofs.Entries.{bodies-listed}
 
@@ -23,15 +23,15 @@ unfolding listed
 listed-append [] ss = omega arith
 listed-append (r ∷ rs) ss = omega (arith, listed-append rs ss)
 
--- Records before a place, one record, and records from a place on: as entries.
+-- Records before a position, one record, and records from a position on: as entries.
 pub inserted-entries : (i : ℕ) (r : Record) (rs : List Record) → insertAt i (entryOf r) (map entryOf rs) ≡ map entryOf (take i rs ++ (r ∷ drop i rs))
 inserted-entries = Typed.inserted-entries entryOf
 
--- Records before a place, and records behind it: as entries.
+-- Records before a position, and records behind it: as entries.
 pub removed-entries : (i : ℕ) (rs : List Record) → removeAt i (map entryOf rs) ≡ map entryOf (take i rs ++ drop (suc i) rs)
 removed-entries = Typed.removed-entries entryOf
 
--- The numbers in all lists are those before a place, at it and behind it.
+-- The numbers in all lists are those before a position, at it and behind it.
 pub listed-at : (i : ℕ) (rs : List Record) → i < length rs
     → listed rs ≡ listed (take i rs) + (length (recordAt rs i .providers) + listed (drop (suc i) rs))
 unfolding listed
@@ -39,33 +39,33 @@ listed-at i rs h = ap listed (split-at rs i (record { customer = 0; source = 0; 
 
 module _ (r : Record) (rs : List Record) where
   module _ (free : holdsRecord (r .customer) (r .source) rs ≡ false) where
-    pub put-at : putRecord r rs ≡ take (placeOf (r .customer) (r .source) rs) rs ++ (r ∷ drop (placeOf (r .customer) (r .source) rs) rs)
-    unfolding placeOf
+    pub put-at : putRecord r rs ≡ take (positionOf (r .customer) (r .source) rs) rs ++ (r ∷ drop (positionOf (r .customer) (r .source) rs) rs)
+    unfolding positionOf
     put-at = put-new keyOf samePair beforePair ordered-pairs r rs free
 
     pub listed-new : listed (putRecord r rs) ≡ listed rs + length (r .providers)
     listed-new =
-        let e = ap (Typed.bodied entryOf) put-at ∙ Typed.bodied-inserted entryOf (placeOf (r .customer) (r .source) rs) r rs in
+        let e = ap (Typed.bodied entryOf) put-at ∙ Typed.bodied-inserted entryOf (positionOf (r .customer) (r .source) rs) r rs in
         sym (bodies-listed (putRecord r rs)) ∙ e ∙ ap (λ n. n + length (r .providers)) (bodies-listed rs)
 
   module _ (asc : ascends keyOf samePair beforePair rs ≡ true) (taken : holdsRecord (r .customer) (r .source) rs ≡ true) where
-    pub put-in-place : putRecord r rs ≡ take (placeOf (r .customer) (r .source) rs) rs ++ (r ∷ drop (suc (placeOf (r .customer) (r .source) rs)) rs)
-    unfolding placeOf
-    put-in-place = put-over keyOf samePair beforePair ordered-pairs r rs asc taken
+    pub put-in-position : putRecord r rs ≡ take (positionOf (r .customer) (r .source) rs) rs ++ (r ∷ drop (suc (positionOf (r .customer) (r .source) rs)) rs)
+    unfolding positionOf
+    put-in-position = put-over keyOf samePair beforePair ordered-pairs r rs asc taken
 
-    pub place-within : placeOf (r .customer) (r .source) rs < length rs
-    unfolding placeOf
-    place-within = holds-at keyOf samePair beforePair ordered-pairs (keyOf r) rs (record { customer = 0; source = 0; providers = [] }) asc taken .0
+    pub position-within : positionOf (r .customer) (r .source) rs < length rs
+    unfolding positionOf
+    position-within = holds-at keyOf samePair beforePair ordered-pairs (keyOf r) rs (record { customer = 0; source = 0; providers = [] }) asc taken .0
 
-    pub listed-over : listed (putRecord r rs) + length (recordAt rs (placeOf (r .customer) (r .source) rs) .providers) ≡ listed rs + length (r .providers)
+    pub listed-over : listed (putRecord r rs) + length (recordAt rs (positionOf (r .customer) (r .source) rs) .providers) ≡ listed rs + length (r .providers)
     unfolding listed
     listed-over =
-        let p = placeOf (r .customer) (r .source) rs in
+        let p = positionOf (r .customer) (r .source) rs in
         let e : listed (putRecord r rs) ≡ listed (take p rs) + (length (r .providers) + listed (drop (suc p) rs)) =
-        ap listed put-in-place ∙ listed-append (take p rs) (r ∷ drop (suc p) rs) in
-        omega (arith, e, listed-at p rs place-within)
+        ap listed put-in-position ∙ listed-append (take p rs) (r ∷ drop (suc p) rs) in
+        omega (arith, e, listed-at p rs position-within)
 
 module _ (customer source : ℕ) (rs : List Record) (asc : ascends keyOf samePair beforePair rs ≡ true) (taken : holdsRecord customer source rs ≡ true) where
-  pub erase-place : eraseRecord customer source rs ≡ take (placeOf customer source rs) rs ++ drop (suc (placeOf customer source rs)) rs
-  unfolding placeOf
-  erase-place = erase-at keyOf samePair beforePair ordered-pairs (customer, source) rs asc taken
+  pub erase-position : eraseRecord customer source rs ≡ take (positionOf customer source rs) rs ++ drop (suc (positionOf customer source rs)) rs
+  unfolding positionOf
+  erase-position = erase-at keyOf samePair beforePair ordered-pairs (customer, source) rs asc taken

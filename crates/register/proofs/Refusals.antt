@@ -18,16 +18,16 @@ use Rattle.types.specs.declared.Removal.{Removal}
 use Rattle.types.specs.declared.Removal.the-variants as removal
 use Rattle.types.specs.declared.Cleared.{Cleared}
 use Rattle.types.specs.declared.Cleared.the-variants as cleared
-use Rattle.types.specs.Rows.{rowIf, firstGiven, Step, unlessRefused}
-use Rattle.types.proofs.Refusing.{FirstAt, row-passed, accepted-none, answers-first, refusal-leaves, Numbered, numbered, removal-apart, removal-same}
+use Rattle.types.specs.Rows.{rowIf, firstGiven, Effect, unlessRefused, FirstAt, Numbered}
+use Rattle.types.proofs.Refusing.{row-passed, accepted-none, answers-first, refusal-leaves, numbered, removal-apart, removal-same}
 use Rattle.table.proofs.Exact.{length-encode}
 use Rattle.keyed.specs.Keyed.{samePair}
-use Rattle.verdict.specs.Records.{Record}
-use Rattle.register.specs.Register.{registerWords, lastSource, recordsOf, wordsOf, entryOf, listOk, roomFor, recordsOk, registerOk}
-use Rattle.register.specs.Calls.{tableRow, registerRow, sourceRow, customerRow, holdsRecord, countRecords, ofSource, recordFor, putRecord, eraseRecord, clearRecords, filedAs, fileRows, withdrawRows, clearRows, fileStep, withdrawStep, clearStep}
+use Rattle.rules.specs.Records.{Record}
+use Rattle.register.specs.Register.{registerWords, lastSource, recordsOf, registerOf, entryOf, listOk, roomFor, recordsOk, registerOk}
+use Rattle.register.specs.Calls.{tableRow, registerRow, sourceRow, customerRow, holdsRecord, countRecords, ofSource, recordFor, putRecord, eraseRecord, clearRecords, filedAs, fileRows, withdrawRows, clearRows, fileEffect, withdrawEffect, clearEffect}
 use Rattle.register.proofs.Entries.{entries-wide, records-fit}
 use Rattle.register.proofs.Holding.{room-records, room-lists, has-room, words-ok, records-ok}
-use Rattle.register.proofs.Keeping.{record-ok, put-ok, without-ok}
+use Rattle.register.proofs.Changes.{record-ok, put-ok, without-ok}
 
 -- A refusal is told from an acceptance, and from every other refusal.
 filed-apart : (b : Bool) (r : Refusal) → cond b filed.Replaced filed.New ≡ filed.Refused r → ⊥
@@ -46,35 +46,35 @@ cleared-same r s e = cc
 -- ---- exactly when a call is refused, and what a refusal leaves
 
 module _ (ws : List ℕ) (source customer : ℕ) (list : List ℕ) (r : Refusal) where
-  pub file-refuses : (fileStep ws source customer list .answer ≡ filed.Refused r) ↔ ((i : ℕ) × FirstAt (fileRows ws source customer list) i r)
-  unfolding fileStep
+  pub file-refuses : (fileEffect ws source customer list .answer ≡ filed.Refused r) ↔ ((i : ℕ) × FirstAt (fileRows ws source customer list) i r)
+  unfolding fileEffect
   file-refuses =
       answers-first (fileRows ws source customer list) filed.Refused ws _ filed-same
       (filed-apart (holdsRecord customer source (recordsOf ws))) r
 
-  pub file-leaves : fileStep ws source customer list .answer ≡ filed.Refused r → fileStep ws source customer list .words ≡ ws
-  unfolding fileStep
+  pub file-leaves : fileEffect ws source customer list .answer ≡ filed.Refused r → fileEffect ws source customer list .words ≡ ws
+  unfolding fileEffect
   file-leaves =
       refusal-leaves (fileRows ws source customer list) filed.Refused ws _
       (filed-apart (holdsRecord customer source (recordsOf ws))) r
 
 module _ (ws : List ℕ) (source customer : ℕ) (r : Refusal) where
-  pub withdraw-refuses : (withdrawStep ws source customer .answer ≡ removal.Refused r) ↔ ((i : ℕ) × FirstAt (withdrawRows ws source customer) i r)
-  unfolding withdrawStep
+  pub withdraw-refuses : (withdrawEffect ws source customer .answer ≡ removal.Refused r) ↔ ((i : ℕ) × FirstAt (withdrawRows ws source customer) i r)
+  unfolding withdrawEffect
   withdraw-refuses = answers-first (withdrawRows ws source customer) removal.Refused ws _ removal-same removal-apart r
 
-  pub withdraw-leaves : withdrawStep ws source customer .answer ≡ removal.Refused r → withdrawStep ws source customer .words ≡ ws
-  unfolding withdrawStep
+  pub withdraw-leaves : withdrawEffect ws source customer .answer ≡ removal.Refused r → withdrawEffect ws source customer .words ≡ ws
+  unfolding withdrawEffect
   withdraw-leaves = refusal-leaves (withdrawRows ws source customer) removal.Refused ws _ removal-apart r
 
 module _ (ws : List ℕ) (source : ℕ) (r : Refusal) where
-  pub clear-refuses : (clearStep ws source .answer ≡ cleared.Refused r) ↔ ((i : ℕ) × FirstAt (clearRows ws source) i r)
-  unfolding clearStep
+  pub clear-refuses : (clearEffect ws source .answer ≡ cleared.Refused r) ↔ ((i : ℕ) × FirstAt (clearRows ws source) i r)
+  unfolding clearEffect
   clear-refuses =
       answers-first (clearRows ws source) cleared.Refused ws _ cleared-same (cleared-apart (countRecords source (recordsOf ws))) r
 
-  pub clear-leaves : clearStep ws source .answer ≡ cleared.Refused r → clearStep ws source .words ≡ ws
-  unfolding clearStep
+  pub clear-leaves : clearEffect ws source .answer ≡ cleared.Refused r → clearEffect ws source .words ≡ ws
+  unfolding clearEffect
   clear-leaves = refusal-leaves (clearRows ws source) cleared.Refused ws _ (cleared-apart (countRecords source (recordsOf ws))) r
 
 -- ---- the rows in the order of their numbers
@@ -124,8 +124,8 @@ module _ (ws : List ℕ) (source customer : ℕ) where
 
 -- ---- accepted calls
 
-length-words : (rs : List Record) → roomFor rs ≡ true → length (wordsOf rs) ≡ registerWords
-unfolding wordsOf
+length-words : (rs : List Record) → roomFor rs ≡ true → length (registerOf rs) ≡ registerWords
+unfolding registerOf
 length-words rs e = length-encode 2 0 registerWords (map entryOf rs) (entries-wide rs) (records-fit rs (room-records rs e) (room-lists rs e))
 
 -- A register of the right length that keeps the word rules.
@@ -133,7 +133,7 @@ pub record Register (ws : List ℕ) : Type 0 where
   pub long : length ws ≡ registerWords
   pub ok : registerOk ws ≡ true
 
-pub records-register : (rs : List Record) → recordsOk rs ≡ true → Register (wordsOf rs)
+pub records-register : (rs : List Record) → recordsOk rs ≡ true → Register (registerOf rs)
 records-register rs e = record { long = length-words rs (has-room rs e); ok = words-ok rs e }
 
 -- Every call leaves a well-formed register well formed.
@@ -141,9 +141,9 @@ module _ (ws : List ℕ) (w : Register ws) where
   abbrev rs : List Record
   rs = recordsOf ws
 
-  pub file-keeps : (source customer : ℕ) (list : List ℕ) → Register (fileStep ws source customer list .words)
-  unfolding fileStep
-  file-keeps source customer list = go (firstGiven rows) refl
+  pub file-preserves : (source customer : ℕ) (list : List ℕ) → Register (fileEffect ws source customer list .words)
+  unfolding fileEffect
+  file-preserves source customer list = go (firstGiven rows) refl
     where
       rows : List (Option Refusal)
       rows = fileRows ws source customer list
@@ -152,7 +152,7 @@ module _ (ws : List ℕ) (w : Register ws) where
       r = recordFor source customer list
 
       go : (o : Option Refusal) → firstGiven rows ≡ o
-          → Register (unlessRefused o filed.Refused ws (record { answer = filedAs r rs; words = wordsOf (putRecord r rs) }) .words)
+          → Register (unlessRefused o filed.Refused ws (record { answer = filedAs r rs; words = registerOf (putRecord r rs) }) .words)
       go (some _) e = w
       go none e =
           let given = accepted-none rows e in
@@ -161,20 +161,20 @@ module _ (ws : List ℕ) (w : Register ws) where
           (record-ok r (row-passed _ _ (given 2)) (row-passed _ _ (given 3)) (not-false _ (row-passed _ _ (given 4))))
           (not-false _ (row-passed _ _ (given 5))))
 
-  pub withdraw-keeps : (source customer : ℕ) → Register (withdrawStep ws source customer .words)
-  unfolding withdrawStep
-  withdraw-keeps source customer = go (firstGiven (withdrawRows ws source customer))
+  pub withdraw-preserves : (source customer : ℕ) → Register (withdrawEffect ws source customer .words)
+  unfolding withdrawEffect
+  withdraw-preserves source customer = go (firstGiven (withdrawRows ws source customer))
     where
       go : (o : Option Refusal)
-          → Register (unlessRefused o removal.Refused ws (record { answer = removal.Done; words = wordsOf (eraseRecord customer source rs) }) .words)
+          → Register (unlessRefused o removal.Refused ws (record { answer = removal.Done; words = registerOf (eraseRecord customer source rs) }) .words)
       go (some _) = w
       go none = records-register (eraseRecord customer source rs) (without-ok rs (records-ok ws (w .ok)) (samePair (customer, source)))
 
-  pub clear-keeps : (source : ℕ) → Register (clearStep ws source .words)
-  unfolding clearStep
-  clear-keeps source = go (firstGiven (clearRows ws source))
+  pub clear-preserves : (source : ℕ) → Register (clearEffect ws source .words)
+  unfolding clearEffect
+  clear-preserves source = go (firstGiven (clearRows ws source))
     where
       go : (o : Option Refusal)
-          → Register (unlessRefused o cleared.Refused ws (record { answer = cleared.Gone (countRecords source rs); words = wordsOf (clearRecords source rs) }) .words)
+          → Register (unlessRefused o cleared.Refused ws (record { answer = cleared.Gone (countRecords source rs); words = registerOf (clearRecords source rs) }) .words)
       go (some _) = w
       go none = records-register (clearRecords source rs) (without-ok rs (records-ok ws (w .ok)) (ofSource source))

@@ -10,7 +10,7 @@ use lib.Dec.{eqb}
 use lib.ListN.{length, getD, drop, drop-of-length-le}
 use lib.Seq.{drop-cons, drop-nil}
 use Rattle.types.specs.declared.Hop.the-variants.{NoAttestation, ProviderPlus, NotProviderPlus}
-use Rattle.verdict.specs.Records.{Record, isIn, attested, united, hopOf}
+use Rattle.rules.specs.Records.{Record, isIn, attested, united, hopOf}
 use Rattle.register.specs.Register.{recordAt}
 
 -- ---- lists of numbers

@@ -14,10 +14,10 @@ use Rattle.types.specs.declared.Removal.{Removal}
 use Rattle.types.specs.declared.Removal.the-variants as removal
 use Rattle.types.specs.declared.Cleared.{Cleared}
 use Rattle.types.specs.declared.Cleared.the-variants as cleared
-use Rattle.types.specs.Rows.{rowIf, firstGiven, Step, unlessRefused}
+use Rattle.types.specs.Rows.{rowIf, firstGiven, Effect, unlessRefused}
 use Rattle.keyed.specs.Keyed.{samePair, beforePair, holds, put, without, countOf}
-use Rattle.verdict.specs.Records.{Record}
-use Rattle.register.specs.Register.{registerWords, lastSource, recordsOf, wordsOf, keyOf, placeOf, listOk, roomFor, registerOk}
+use Rattle.rules.specs.Records.{Record}
+use Rattle.register.specs.Register.{registerWords, lastSource, recordsOf, registerOf, keyOf, positionOf, listOk, roomFor, registerOk}
 
 -- ---- records: looked for, put in, taken out
 
@@ -84,30 +84,30 @@ clearRows ws source = tableRow ws ∷ registerRow ws ∷ sourceRow source ∷ []
 abbrev pub filedAs : Record → List Record → Filed
 filedAs r rs = cond (holdsRecord (r .customer) (r .source) rs) filed.Replaced filed.New
 
-unfoldable pub fileStep : List ℕ → ℕ → ℕ → List ℕ → Step Filed
-fileStep ws source customer list =
+unfoldable pub fileEffect : List ℕ → ℕ → ℕ → List ℕ → Effect Filed
+fileEffect ws source customer list =
     unlessRefused (firstGiven (fileRows ws source customer list)) filed.Refused ws
     (record {
       answer = filedAs (recordFor source customer list) (recordsOf ws);
-      words = wordsOf (putRecord (recordFor source customer list) (recordsOf ws));
+      words = registerOf (putRecord (recordFor source customer list) (recordsOf ws));
     })
 
--- A filing that passed rows 1 to 6, and the place of its pair.
-pub record Passed (ws : List ℕ) (place source customer : ℕ) (list : List ℕ) : Type 0 where
+-- A filing that passed rows 1 to 6, and the position of its pair.
+pub record Passed (ws : List ℕ) (position source customer : ℕ) (list : List ℕ) : Type 0 where
   pub long : length ws ≡ registerWords
   pub ok : registerOk ws ≡ true
   pub known : source ≤ lastSource
   pub some : customer ≡ 0 → ⊥
   pub rising : listOk list ≡ true
-  pub here : place ≡ placeOf customer source (recordsOf ws)
+  pub here : position ≡ positionOf customer source (recordsOf ws)
 
-unfoldable pub withdrawStep : List ℕ → ℕ → ℕ → Step Removal
-withdrawStep ws source customer =
+unfoldable pub withdrawEffect : List ℕ → ℕ → ℕ → Effect Removal
+withdrawEffect ws source customer =
     unlessRefused (firstGiven (withdrawRows ws source customer)) removal.Refused ws
-    (record { answer = removal.Done; words = wordsOf (eraseRecord customer source (recordsOf ws)) })
+    (record { answer = removal.Done; words = registerOf (eraseRecord customer source (recordsOf ws)) })
 
 -- Clear answers how many records went, zero included.
-unfoldable pub clearStep : List ℕ → ℕ → Step Cleared
-clearStep ws source =
+unfoldable pub clearEffect : List ℕ → ℕ → Effect Cleared
+clearEffect ws source =
     unlessRefused (firstGiven (clearRows ws source)) cleared.Refused ws
-    (record { answer = cleared.Gone (countRecords source (recordsOf ws)); words = wordsOf (clearRecords source (recordsOf ws)) })
+    (record { answer = cleared.Gone (countRecords source (recordsOf ws)); words = registerOf (clearRecords source (recordsOf ws)) })

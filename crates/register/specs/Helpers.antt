@@ -5,7 +5,7 @@ use mathlib.Core.Bool.{true, cond}
 use mathlib.Core.List.{List, [], _∷_}
 use lib.Dec.{ltb}
 use lib.ListN.{length}
-use Rattle.register.specs.Register.{recordsOf, registerOk, placeOf}
+use Rattle.register.specs.Register.{recordsOf, registerOk, positionOf}
 
 -- How often a number of a list does not stand above the one before it.
 unfoldable pub descentsFrom : ℕ → List ℕ → ℕ
@@ -16,11 +16,11 @@ unfoldable pub descentsIn : List ℕ → ℕ
 descentsIn [] = 0
 descentsIn (x ∷ l) = descentsFrom x l
 
--- A pair's place in a well-formed register is one of low to high.
+-- A pair's position in a well-formed register is one of low to high.
 pub record Within (ws : List ℕ) (customer source low high : ℕ) : Type 0 where
   pub ok : registerOk ws ≡ true
-  pub over : low ≤ placeOf customer source (recordsOf ws)
-  pub under : placeOf customer source (recordsOf ws) ≤ high
+  pub over : low ≤ positionOf customer source (recordsOf ws)
+  pub under : positionOf customer source (recordsOf ws) ≤ high
   pub inside : high ≤ length (recordsOf ws)
 
 -- The words of hints before the first hint.

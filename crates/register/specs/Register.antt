@@ -6,7 +6,7 @@ use lib.Dec.{leb, ltb, eqb}
 use lib.ListN.{length, getD}
 use Rattle.table.specs.Table.{Entry, bodies, encode, decode, wellFormed}
 use Rattle.keyed.specs.Keyed.{samePair, beforePair, ascends, rank, every}
-use Rattle.verdict.specs.Records.{Record}
+use Rattle.rules.specs.Records.{Record}
 
 -- The limits, each named once.
 abbrev pub registerWords : ℕ
@@ -36,8 +36,8 @@ entryOf r = record { head = r .customer ∷ (r .source ∷ []); body = r .provid
 unfoldable pub recordsOf : List ℕ → List Record
 recordsOf ws = map recordOf (decode 2 0 ws)
 
-unfoldable pub wordsOf : List Record → List ℕ
-wordsOf rs = encode registerWords (map entryOf rs)
+unfoldable pub registerOf : List Record → List ℕ
+registerOf rs = encode registerWords (map entryOf rs)
 
 -- A record's key: first the customer, then the source.
 abbrev pub keyOf : Record → ℕ × ℕ
@@ -48,8 +48,8 @@ abbrev pub recordAt : List Record → ℕ → Record
 recordAt rs i = getD rs i (record { customer = 0; source = 0; providers = [] })
 
 -- Where the record of a customer and a source stands, or would: how many come before it.
-unfoldable pub placeOf : ℕ → ℕ → List Record → ℕ
-placeOf customer source rs = rank keyOf samePair beforePair (customer, source) rs
+unfoldable pub positionOf : ℕ → ℕ → List Record → ℕ
+positionOf customer source rs = rank keyOf samePair beforePair (customer, source) rs
 
 -- How many numbers the lists hold together.
 unfoldable pub listed : List Record → ℕ

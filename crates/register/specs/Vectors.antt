@@ -5,20 +5,20 @@ use mathlib.Core.List.{List, [], _∷_, _++_}
 use lib.ListN.{replicate}
 use Rattle.types.specs.declared.Filed.{Filed}
 use Rattle.types.specs.declared.Filed.the-variants as filed
-use Rattle.types.specs.Rows.{firstGiven, Step}
-use Rattle.table.specs.Table.{rows, bodies, pad, encode, decodeRows, decode, rowsOk, allZero, wellFormed}
+use Rattle.types.specs.Rows.{firstGiven, Effect}
+use Rattle.table.specs.Table.{slots, bodies, pad, encode, decodeSlots, decode, slotsOk, allZero, wellFormed}
 use Rattle.keyed.specs.Keyed.{ascendsFrom, ascends, holds, put, every}
-use Rattle.register.specs.Register.{recordsOf, wordsOf, listed, risesFrom, rises, listOk, recordOk, roomFor, recordsOk, registerOk}
-use Rattle.register.specs.Calls.{fileStep}
+use Rattle.register.specs.Register.{recordsOf, registerOf, listed, risesFrom, rises, listOk, recordOk, roomFor, recordsOk, registerOk}
+use Rattle.register.specs.Calls.{fileEffect}
 
 abbrev empty : List ℕ
 empty = replicate 12290 0
 
-abbrev first : Step Filed
-first = fileStep empty 2 65010 (65001 ∷ 65002 ∷ [])
+abbrev first : Effect Filed
+first = fileEffect empty 2 65010 (65001 ∷ 65002 ∷ [])
 
-abbrev second : Step Filed
-second = fileStep (first .words) 0 65010 (65003 ∷ [])
+abbrev second : Effect Filed
+second = fileEffect (first .words) 0 65010 (65003 ∷ [])
 
 -- Source 2 files 65010 to {65001, 65002}, then source 0 files 65010 to {65003}: neither rubs out the other.
 pub whole-register :
@@ -27,5 +27,5 @@ pub whole-register :
       answer = filed.New;
       words = (2 ∷ 3 ∷ 65010 ∷ 0 ∷ 0 ∷ 1 ∷ 65010 ∷ 2 ∷ 1 ∷ 2 ∷ 65003 ∷ 65001 ∷ 65002 ∷ []) ++ replicate 12277 0;
     }
-unfolding fileStep firstGiven rows bodies pad encode decodeRows decode rowsOk allZero wellFormed ascendsFrom ascends holds put every recordsOf wordsOf listed risesFrom rises listOk recordOk roomFor recordsOk registerOk
+unfolding fileEffect firstGiven slots bodies pad encode decodeSlots decode slotsOk allZero wellFormed ascendsFrom ascends holds put every recordsOf registerOf listed risesFrom rises listOk recordOk roomFor recordsOk registerOk
 whole-register = refl

@@ -1,7 +1,7 @@
 // Look-up by hints, for whoever looks many customers up in one register.
 //
-// A hint is a guess at the place where a customer's records begin. The caller lends words for hints and has them filled once. Most
-// customers are then found by three reads of the register: the records around the place that was guessed show that it is the one, or
+// A hint is a guess at the position where a customer's records begin. The caller lends words for hints and has them filled once. Most
+// customers are then found by three reads of the register: the records around the position that was guessed show that it is the one, or
 // that the next is. Where they do not, the records from there on are searched by halves. So a wrong hint costs time and no answer, and
 // nothing is promised of hints.
 //
@@ -17,7 +17,7 @@ ghost use mathlib.Core.Path.{_≡_};
 ghost use mathlib.Core.Bool.{true};
 ghost use Prim.Native.Nat.{_^_, _≤_, _<_};
 ghost use lib.ListN.{length};
-ghost use Rattle.register.specs.Register.{recordsOf, recordAt, registerOk, placeOf};
+ghost use Rattle.register.specs.Register.{recordsOf, recordAt, registerOk, positionOf};
 ghost use Rattle.register.specs.Helpers.{headWords, Within};
 
 // Cells to a record of a full register.
@@ -102,7 +102,7 @@ fn cut(reg: &[u32]) -> usize
     ensures { λ r. ⌜ r < length (recordsOf (now (reg .entry))) ⌝ }
 {
     let n = table::word(reg, 0);
-    let mut place: usize = 0;
+    let mut position: usize = 0;
     let mut widest: u32 = 0;
     let mut i: usize = 1;
     while i < n {
@@ -111,10 +111,10 @@ fn cut(reg: &[u32]) -> usize
         i += 1;
         if widest < gap {
             widest = gap;
-            place = here;
+            position = here;
         }
     }
-    place
+    position
 }
 
 // The words of a part, from its first customer, its last, its first cell and the one behind its last.
@@ -199,10 +199,10 @@ fn hint_at(hints: &[u32], at: usize, n: usize) -> usize
     0
 }
 
-// A place that is not behind the customer's: the hint at an index, if the record before it bears it out.
+// A position that is not behind the customer's: the hint at an index, if the record before it bears it out.
 fn tested(reg: &[u32], hints: &[u32], at: usize, customer: u32) -> usize
     requires { ⌜ registerOk (now reg) ≡ true ⌝ }
-    ensures { λ r. ⌜ r ≤ placeOf customer 0 (recordsOf (now (reg .entry))) ⌝ }
+    ensures { λ r. ⌜ r ≤ positionOf customer 0 (recordsOf (now (reg .entry))) ⌝ }
 {
     let low = hint_at(hints, at, table::word(reg, 0));
     if 0 < low {
@@ -213,10 +213,10 @@ fn tested(reg: &[u32], hints: &[u32], at: usize, customer: u32) -> usize
     0
 }
 
-// One place further, if the record there stands before the customer's.
+// One position further, if the record there stands before the customer's.
 fn advance(reg: &[u32], low: usize, customer: u32) -> usize
-    requires { ⌜ (registerOk (now reg) ≡ true) × (low ≤ placeOf customer 0 (recordsOf (now reg))) ⌝ }
-    ensures { λ r. ⌜ r ≤ placeOf customer 0 (recordsOf (now (reg .entry))) ⌝ }
+    requires { ⌜ (registerOk (now reg) ≡ true) × (low ≤ positionOf customer 0 (recordsOf (now reg))) ⌝ }
+    ensures { λ r. ⌜ r ≤ positionOf customer 0 (recordsOf (now (reg .entry))) ⌝ }
 {
     let mut next = low;
     if low < table::word(reg, 0) {
@@ -227,10 +227,10 @@ fn advance(reg: &[u32], low: usize, customer: u32) -> usize
     next
 }
 
-// A place that is not behind the customer's, near its hint; without hints, the first.
+// A position that is not behind the customer's, near its hint; without hints, the first.
 fn low_end(reg: &[u32], hints: &[u32], customer: u32) -> usize
     requires { ⌜ registerOk (now reg) ≡ true ⌝ }
-    ensures { λ r. ⌜ r ≤ placeOf customer 0 (recordsOf (now (reg .entry))) ⌝ }
+    ensures { λ r. ⌜ r ≤ positionOf customer 0 (recordsOf (now (reg .entry))) ⌝ }
 {
     if hints.len() < FIRST_CELL {
         return 0;
@@ -239,10 +239,10 @@ fn low_end(reg: &[u32], hints: &[u32], customer: u32) -> usize
     advance(reg, tested(reg, hints, at, customer), customer)
 }
 
-// No record stands before the customer's from a place on. Without hints nothing is looked at, and the answer is no.
+// No record stands before the customer's from a position on. Without hints nothing is looked at, and the answer is no.
 fn is_high_end(reg: &[u32], hints: &[u32], low: usize, customer: u32) -> bool
     requires { ⌜ registerOk (now reg) ≡ true ⌝ }
-    ensures { λ r. ⌜ (r ≡ true → placeOf customer 0 (recordsOf (now (reg .entry))) ≤ low) ⌝ }
+    ensures { λ r. ⌜ (r ≡ true → positionOf customer 0 (recordsOf (now (reg .entry))) ≤ low) ⌝ }
 {
     if hints.len() < FIRST_CELL {
         return false;
@@ -253,11 +253,11 @@ fn is_high_end(reg: &[u32], hints: &[u32], low: usize, customer: u32) -> bool
     true
 }
 
-// Where a customer's records begin, or would: the place that `find` answers for source 0, whatever the hints are. Without hints it
+// Where a customer's records begin, or would: the position that `find` answers for source 0, whatever the hints are. Without hints it
 // looks at the same records.
 pub fn find(reg: &[u32], hints: &[u32], customer: u32) -> usize
     requires { ⌜ registerOk (now reg) ≡ true ⌝ }
-    ensures { λ r. ⌜ r ≡ placeOf customer 0 (recordsOf (now (reg .entry))) ⌝ }
+    ensures { λ r. ⌜ r ≡ positionOf customer 0 (recordsOf (now (reg .entry))) ⌝ }
 {
     let low = low_end(reg, hints, customer);
     if is_high_end(reg, hints, low, customer) {

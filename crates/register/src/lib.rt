@@ -12,10 +12,10 @@ ghost use lib.ListN.{length, getD};
 ghost use Rattle.table.specs.Table.{Sound};
 ghost use Rattle.keyed.specs.Keyed.{samePair, beforePair, ascends, every};
 ghost use Rattle.types.specs.declared.Hop.the-variants.{NoAttestation, ProviderPlus, NotProviderPlus};
-ghost use Rattle.verdict.specs.Records.{isIn, hopOf};
-ghost use Rattle.register.specs.Register.{mostBodyWords, recordsOf, recordAt, keyOf, rises, listOk, recordOk, recordsOk, registerOk, placeOf};
+ghost use Rattle.rules.specs.Records.{isIn, hopOf};
+ghost use Rattle.register.specs.Register.{mostBodyWords, recordsOf, recordAt, keyOf, rises, listOk, recordOk, recordsOk, registerOk, positionOf};
 ghost use Rattle.register.specs.Helpers.{descentsIn, Within};
-ghost use Rattle.register.specs.Calls.{holdsRecord, Passed, fileStep, withdrawStep, clearStep};
+ghost use Rattle.register.specs.Calls.{holdsRecord, Passed, fileEffect, withdrawEffect, clearEffect};
 
 pub mod hints;
 
@@ -30,7 +30,7 @@ const MOST_PROVIDERS: usize = 256;
 
 const LAST_SOURCE: u32 = 7;
 
-// A row of the register ends with its count.
+// An entry of the register ends with its count.
 const NO_TAIL: [u32; 0] = [0u32; 0];
 
 // ---- the check
@@ -162,10 +162,10 @@ fn stands_before(reg: &[u32], i: usize, customer: u32, source: u32) -> bool
     is_before(reg[at], reg[at + 1], customer, source)
 }
 
-// The place of a pair, which is one of from..=to, by halves.
+// The position of a pair, which is one of from..=to, by halves.
 fn search(reg: &[u32], from: usize, to: usize, customer: u32, source: u32) -> usize
     requires { ⌜ Within (now reg) customer source from to ⌝ }
-    ensures { λ r. ⌜ r ≡ placeOf customer source (recordsOf (now (reg .entry))) ⌝ }
+    ensures { λ r. ⌜ r ≡ positionOf customer source (recordsOf (now (reg .entry))) ⌝ }
 {
     let mut low = from;
     let mut high = to;
@@ -183,20 +183,20 @@ fn search(reg: &[u32], from: usize, to: usize, customer: u32, source: u32) -> us
 // Where the record of a customer and a source stands, or would stand: how many records come before it.
 pub fn find(reg: &[u32], customer: u32, source: u32) -> usize
     requires { ⌜ registerOk (now reg) ≡ true ⌝ }
-    ensures { λ r. ⌜ (r ≡ placeOf customer source (recordsOf (now (reg .entry)))) × (r ≤ length (recordsOf (now (reg .entry)))) ⌝ }
+    ensures { λ r. ⌜ (r ≡ positionOf customer source (recordsOf (now (reg .entry)))) × (r ≤ length (recordsOf (now (reg .entry)))) ⌝ }
 {
     search(reg, 0, table::word(reg, 0), customer, source)
 }
 
-// ---- the record at a place
+// ---- the record at a position
 
-// Whether the record at a place that `find` answered is the one looked for.
-fn is_at(reg: &[u32], place: usize, customer: u32, source: u32) -> bool
-    requires { ⌜ (registerOk (now reg) ≡ true) × (place ≡ placeOf customer source (recordsOf (now reg))) ⌝ }
+// Whether the record at a position that `find` answered is the one looked for.
+fn is_at(reg: &[u32], position: usize, customer: u32, source: u32) -> bool
+    requires { ⌜ (registerOk (now reg) ≡ true) × (position ≡ positionOf customer source (recordsOf (now reg))) ⌝ }
     ensures { λ r. ⌜ r ≡ holdsRecord customer source (recordsOf (now (reg .entry))) ⌝ }
 {
-    if place < table::word(reg, 0) {
-        let at = 2 + place * 4;
+    if position < table::word(reg, 0) {
+        let at = 2 + position * 4;
         if reg[at] == customer {
             return reg[at + 1] == source;
         }
@@ -249,16 +249,16 @@ fn hop_by(attested: bool, listed: bool) -> Hop
     Hop::NoAttestation
 }
 
-// The hops from x to y and to z, where x's records begin at a place that `find` answered. Each list is read once for both.
-pub fn hops_from(reg: &[u32], place: usize, x: u32, y: u32, z: u32) -> Hops
-    requires { ⌜ (registerOk (now reg) ≡ true) × (place ≡ placeOf x 0 (recordsOf (now reg))) ⌝ }
+// The hops from x to y and to z, where x's records begin at a position that `find` answered. Each list is read once for both.
+pub fn hops_from(reg: &[u32], position: usize, x: u32, y: u32, z: u32) -> Hops
+    requires { ⌜ (registerOk (now reg) ≡ true) × (position ≡ positionOf x 0 (recordsOf (now reg))) ⌝ }
     ensures { λ r. ⌜ (r .y ≡ hopOf (recordsOf (now (reg .entry))) x y) × (r .z ≡ hopOf (recordsOf (now (reg .entry))) x z) ⌝ }
 {
     let n = table::word(reg, 0);
     let bodies = 2 + n * 4;
     let mut has_y = false;
     let mut has_z = false;
-    let mut i = place;
+    let mut i = position;
     loop {
         if n <= i {
             break;
@@ -274,7 +274,7 @@ pub fn hops_from(reg: &[u32], place: usize, x: u32, y: u32, z: u32) -> Hops
         has_z = has_z | listed.z;
         i += 1;
     }
-    let attested = place < i;
+    let attested = position < i;
     Hops {
         y: hop_by(attested, has_y),
         z: hop_by(attested, has_z),
@@ -282,20 +282,20 @@ pub fn hops_from(reg: &[u32], place: usize, x: u32, y: u32, z: u32) -> Hops
 }
 
 // The hop from x to y alone.
-pub fn hop_from(reg: &[u32], place: usize, x: u32, y: u32) -> Hop
-    requires { ⌜ (registerOk (now reg) ≡ true) × (place ≡ placeOf x 0 (recordsOf (now reg))) ⌝ }
+pub fn hop_from(reg: &[u32], position: usize, x: u32, y: u32) -> Hop
+    requires { ⌜ (registerOk (now reg) ≡ true) × (position ≡ positionOf x 0 (recordsOf (now reg))) ⌝ }
     ensures { λ r. ⌜ r ≡ hopOf (recordsOf (now (reg .entry))) x y ⌝ }
 {
-    let hops = hops_from(reg, place, x, y, y);
+    let hops = hops_from(reg, position, x, y, y);
     hops.y
 }
 
 // ---- the calls
 
-// A new record goes in at its place, if there is room for it.
-fn add(reg: &mut [u32], place: usize, source: u32, customer: u32, list: &[u32]) -> Filed
-    requires { ⌜ Passed (now reg) place source customer (now list) × (holdsRecord customer source (recordsOf (now reg)) ≡ false) ⌝ }
-    ensures { λ r. ⌜ (r ≡ fileStep (now (reg .entry)) source customer (now (list .entry)) .answer) × (now (reg .exit) ≡ fileStep (now (reg .entry)) source customer (now (list .entry)) .words) ⌝ }
+// A new record goes in at its position, if there is room for it.
+fn add(reg: &mut [u32], position: usize, source: u32, customer: u32, list: &[u32]) -> Filed
+    requires { ⌜ Passed (now reg) position source customer (now list) × (holdsRecord customer source (recordsOf (now reg)) ≡ false) ⌝ }
+    ensures { λ r. ⌜ (r ≡ fileEffect (now (reg .entry)) source customer (now (list .entry)) .answer) × (now (reg .exit) ≡ fileEffect (now (reg .entry)) source customer (now (list .entry)) .words) ⌝ }
 {
     if MOST_RECORDS <= table::word(reg, 0) {
         return Filed::Refused(Refusal::RegisterFull);
@@ -304,27 +304,27 @@ fn add(reg: &mut [u32], place: usize, source: u32, customer: u32, list: &[u32]) 
         return Filed::Refused(Refusal::RegisterFull);
     }
     let head = [customer, source];
-    table::insert(reg, 2, 0, place, &head, list, &NO_TAIL);
+    table::insert(reg, 2, 0, position, &head, list, &NO_TAIL);
     Filed::New
 }
 
 // A list takes the place of the one that stands under its pair, if there is room for it.
-fn replace(reg: &mut [u32], place: usize, source: u32, customer: u32, list: &[u32]) -> Filed
-    requires { ⌜ Passed (now reg) place source customer (now list) × (holdsRecord customer source (recordsOf (now reg)) ≡ true) ⌝ }
-    ensures { λ r. ⌜ (r ≡ fileStep (now (reg .entry)) source customer (now (list .entry)) .answer) × (now (reg .exit) ≡ fileStep (now (reg .entry)) source customer (now (list .entry)) .words) ⌝ }
+fn replace(reg: &mut [u32], position: usize, source: u32, customer: u32, list: &[u32]) -> Filed
+    requires { ⌜ Passed (now reg) position source customer (now list) × (holdsRecord customer source (recordsOf (now reg)) ≡ true) ⌝ }
+    ensures { λ r. ⌜ (r ≡ fileEffect (now (reg .entry)) source customer (now (list .entry)) .answer) × (now (reg .exit) ≡ fileEffect (now (reg .entry)) source customer (now (list .entry)) .words) ⌝ }
 {
-    let others = table::word(reg, 1) - table::word(reg, 2 + place * 4 + 3);
+    let others = table::word(reg, 1) - table::word(reg, 2 + position * 4 + 3);
     if MOST_BODY_WORDS - others < list.len() {
         return Filed::Refused(Refusal::RegisterFull);
     }
     let head = [customer, source];
-    table::remove(reg, 2, 0, place);
-    table::insert(reg, 2, 0, place, &head, list, &NO_TAIL);
+    table::remove(reg, 2, 0, position);
+    table::insert(reg, 2, 0, position, &head, list, &NO_TAIL);
     Filed::Replaced
 }
 
 pub fn file(reg: &mut [u32], source: u32, customer: AsNumber, list: &[u32]) -> Filed
-    ensures { λ r. ⌜ (r ≡ fileStep (now (reg .entry)) source (customer .0) (now (list .entry)) .answer) × (now (reg .exit) ≡ fileStep (now (reg .entry)) source (customer .0) (now (list .entry)) .words) ⌝ }
+    ensures { λ r. ⌜ (r ≡ fileEffect (now (reg .entry)) source (customer .0) (now (list .entry)) .answer) × (now (reg .exit) ≡ fileEffect (now (reg .entry)) source (customer .0) (now (list .entry)) .words) ⌝ }
 {
     if reg.len() != WORDS {
         return Filed::Refused(Refusal::TableLength);
@@ -342,15 +342,15 @@ pub fn file(reg: &mut [u32], source: u32, customer: AsNumber, list: &[u32]) -> F
     if !is_list(list) {
         return Filed::Refused(Refusal::ProviderList);
     }
-    let place = find(reg, c, source);
-    if is_at(reg, place, c, source) {
-        return replace(reg, place, source, c, list);
+    let position = find(reg, c, source);
+    if is_at(reg, position, c, source) {
+        return replace(reg, position, source, c, list);
     }
-    add(reg, place, source, c, list)
+    add(reg, position, source, c, list)
 }
 
 pub fn withdraw(reg: &mut [u32], source: u32, customer: AsNumber) -> Removal
-    ensures { λ r. ⌜ (r ≡ withdrawStep (now (reg .entry)) source (customer .0) .answer) × (now (reg .exit) ≡ withdrawStep (now (reg .entry)) source (customer .0) .words) ⌝ }
+    ensures { λ r. ⌜ (r ≡ withdrawEffect (now (reg .entry)) source (customer .0) .answer) × (now (reg .exit) ≡ withdrawEffect (now (reg .entry)) source (customer .0) .words) ⌝ }
 {
     if reg.len() != WORDS {
         return Removal::Refused(Refusal::TableLength);
@@ -365,16 +365,16 @@ pub fn withdraw(reg: &mut [u32], source: u32, customer: AsNumber) -> Removal
     if c == 0 {
         return Removal::Refused(Refusal::CustomerZero);
     }
-    let place = find(reg, c, source);
-    if !is_at(reg, place, c, source) {
+    let position = find(reg, c, source);
+    if !is_at(reg, position, c, source) {
         return Removal::Refused(Refusal::NoRecord);
     }
-    table::remove(reg, 2, 0, place);
+    table::remove(reg, 2, 0, position);
     Removal::Done
 }
 
 pub fn clear(reg: &mut [u32], source: u32) -> Cleared
-    ensures { λ r. ⌜ (r ≡ clearStep (now (reg .entry)) source .answer) × (now (reg .exit) ≡ clearStep (now (reg .entry)) source .words) ⌝ }
+    ensures { λ r. ⌜ (r ≡ clearEffect (now (reg .entry)) source .answer) × (now (reg .exit) ≡ clearEffect (now (reg .entry)) source .words) ⌝ }
 {
     if reg.len() != WORDS {
         return Cleared::Refused(Refusal::TableLength);

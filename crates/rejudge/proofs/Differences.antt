@@ -8,13 +8,12 @@ use borrow.Author.Tests.{not-false, eqb-true, eqb-false}
 use lib.Dec.{eqb}
 use lib.ListN.{length, length-map}
 use Rattle.types.specs.declared.Verdict.{Verdict}
-use Rattle.types.specs.Numbers.{verdictNumber, placeA, placeB}
+use Rattle.types.specs.Numbers.{verdictNumber, placeA, placeB, verdictOf}
 use Rattle.keyed.proofs.Orders.{both-left, both-right}
-use Rattle.verdict.specs.Hops.{HopFunction}
-use Rattle.verdict.specs.Verdicts.{judged}
-use Rattle.routes.specs.Routes.{Route, routeAt}
-use Rattle.routes.specs.Calls.{stamped, differs, countDiffering}
-use Rattle.rejudge.specs.Rejudging.{verdictOf}
+use Rattle.rules.specs.Hops.{HopFunction}
+use Rattle.rules.specs.Verdicts.{judged}
+use Rattle.ledger.specs.Routes.{Route, routeAt}
+use Rattle.ledger.specs.Calls.{stamped, differs, countDiffering}
 use Rattle.rejudge.proofs.Rejudgements.{not-differs, left-alone, gets-verdict, anew, all-once}
 
 -- How many of the numbers below n pass a test.

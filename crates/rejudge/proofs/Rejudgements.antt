@@ -9,19 +9,19 @@ use lib.Dec.{leb, ltb, eqb}
 use lib.ListN.{length, length-map}
 use Rattle.types.specs.declared.Verdict.{Verdict}
 use Rattle.types.specs.declared.Verdict.the-variants.{Valid, Invalid, Unknown}
-use Rattle.types.specs.Numbers.{verdictNumber, placeA, placeB}
+use Rattle.types.specs.Numbers.{verdictNumber, placeA, placeB, verdictOf}
 use Rattle.types.specs.Roles.{isRole, isUpstream}
 use Rattle.table.specs.Table.{bodies}
 use Rattle.keyed.proofs.Orders.{ordered-ℕ, both-left, both-right, both-intro}
 use Rattle.keyed.proofs.Mapping.{every-map, ascends-map}
-use Rattle.verdict.specs.Hops.{HopFunction}
-use Rattle.verdict.specs.Verdicts.{judged}
-use Rattle.verdict.proofs.Orders.{Within, places-within}
-use Rattle.routes.specs.Routes.{Route, entryOf, keyOf, pathWords, pathOk, groundOk, routeOk, roomFor, routesOk}
-use Rattle.routes.specs.Calls.{stamped, differs}
-use Rattle.routes.proofs.Holding.{has-room, each-ok, in-order}
-use Rattle.routes.proofs.Paths.{path-some, path-few}
-use Rattle.rejudge.specs.Rejudging.{verdictOf, rejudgedRoute}
+use Rattle.rules.specs.Hops.{HopFunction}
+use Rattle.rules.specs.Verdicts.{judged}
+use Rattle.rules.proofs.Orders.{Within, places-within}
+use Rattle.ledger.specs.Routes.{Route, entryOf, keyOf, pathWords, pathOk, groundOk, routeOk, roomFor, routesOk}
+use Rattle.ledger.specs.Calls.{stamped, differs}
+use Rattle.ledger.proofs.Holding.{has-room, each-ok, in-order}
+use Rattle.ledger.proofs.Paths.{path-some, path-few}
+use Rattle.rejudge.specs.Rejudging.{rejudgedRoute}
 
 -- ---- one route
 

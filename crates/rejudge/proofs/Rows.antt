@@ -1,4 +1,4 @@
--- One route judged anew: the row of a route with a ground, and that of one without. Assumes nothing.
+-- One route judged anew: the slot of a route with a ground, and that of one without. Assumes nothing.
 use Prim.Native.Nat.{ℕ, _+_, _-_, _*_, _≤_}
 use mathlib.Core.Path.{_≡_, sym, _∙_, ap}
 use mathlib.Core.Bool.{Bool, true, false, true≢false}
@@ -10,23 +10,23 @@ use Rattle.types.specs.declared.Role.{Role}
 use Rattle.types.specs.declared.RoleRead.the-variants.{Is, Nothing}
 use Rattle.types.specs.declared.Verdict.{Verdict}
 use Rattle.types.specs.declared.Answer.{Answer}
-use Rattle.types.specs.Numbers.{roleNumber, roleOf}
+use Rattle.types.specs.Numbers.{roleNumber, roleOf, verdictOf}
 use Rattle.types.specs.Roles.{isRole}
 use Rattle.types.proofs.RoleNumbers.{role-named, role-none}
-use Rattle.verdict.specs.Records.{hopOf}
-use Rattle.verdict.specs.Verdicts.{judged}
+use Rattle.rules.specs.Records.{hopOf}
+use Rattle.rules.specs.Verdicts.{judged}
 use Rattle.register.specs.Register.{recordsOf, registerOk}
-use Rattle.routes.specs.Routes.{Route, routesOf, wordsOf, routeAt, pathWords}
-use Rattle.routes.specs.Calls.{stamped, differs}
-use Rattle.routes.proofs.Entries.{words-are, role-is, ground-is, route-count, path-start, path-length, path-is, path-within}
-use Rattle.rejudge.specs.Rejudging.{verdictOf, rejudgedRoute, Judgeable}
+use Rattle.ledger.specs.Routes.{Route, routesOf, ledgerOf, routeAt, pathWords}
+use Rattle.ledger.specs.Calls.{stamped, differs}
+use Rattle.ledger.proofs.Entries.{words-are, role-is, ground-is, route-count, path-start, path-length, path-is, path-within}
+use Rattle.rejudge.specs.Rejudging.{rejudgedRoute, Judgeable}
 use Rattle.rejudge.proofs.Stores
 use Rattle.rejudge.proofs.Rejudgements.{not-differs, left-alone, gets-verdict, has-role, some-numbers, few-numbers}
 
--- What is promised of a row: the words at the exit, and whether the route changed.
+-- What is promised of a route: the words at the exit, and whether the route changed.
 abbrev pub Promised : List ℕ → List ℕ → ℕ → List ℕ → Bool → Type 0
 Promised reg ws i out b =
-    (out ≡ wordsOf (set (routesOf ws) i (rejudgedRoute (hopOf (recordsOf reg)) (routeAt (routesOf ws) i))))
+    (out ≡ ledgerOf (set (routesOf ws) i (rejudgedRoute (hopOf (recordsOf reg)) (routeAt (routesOf ws) i))))
     × (b ≡ differs (routeAt (routesOf ws) i) (rejudgedRoute (hopOf (recordsOf reg)) (routeAt (routesOf ws) i)))
 
 -- A route that stays keeps the promise with the words as they are.
@@ -36,9 +36,9 @@ stays {ws} {i} p e =
     rw (e, set-getD (routesOf ws) i (routeAt [] 0)) (words-are ws (p .route .sound) (p .route .size), sym (not-differs (routeAt (routesOf ws) i)))
 
 module _ {reg ws : List ℕ} {i : ℕ} (p : Judgeable reg ws i) where
-  -- The row lies within the words.
-  pub row-in : 2 + i * 9 + 9 ≤ length ws
-  row-in = Stores.row-in (p .route)
+  -- The slot lies within the words.
+  pub slot-in : 2 + i * 9 + 9 ≤ length ws
+  slot-in = Stores.slot-in (p .route)
 
   -- A ground: nothing is stored.
   pub grounded : (getD ws (2 + i * 9 + 3) 0 ≡ 0 → ⊥) → Promised reg ws i ws false
@@ -51,7 +51,7 @@ module _ {reg ws : List ℕ} {i : ℕ} (p : Judgeable reg ws i) where
       ∙ ap isRole (sym (role-is ws (p .route .sound) i (p .route .within)))
       ∙ role-none (getD ws (2 + i * 9 + 1) 0) e))
 
--- What is known once the role and the path's place are read: the count of the routes, the path's start and its length.
+-- What is known once the role and the path's position are read: the count of the routes, the path's start and its length.
 pub record Known : Type 0 where
   pub reg : List ℕ
   pub ws : List ℕ
@@ -110,11 +110,11 @@ module _ (k : Known) where
       (k .may .register, omega (arith, some-numbers (its k) (k .may .ok) no-ground), omega arith)
 
   -- Its verdict stored keeps the promise.
-  pub rejudged-row : {a : Answer} {v : Verdict} {out : List ℕ} {b : Bool}
+  pub rejudged-route : {a : Answer} {v : Verdict} {out : List ℕ} {b : Bool}
       → a ≡ judged (hopOf (recordsOf (k .reg))) (part k) (roleNumber (k .role)) → v ≡ verdictOf a
-      → (out ≡ wordsOf (set (routesOf (k .ws)) (k .i) (stamped v (its k)))) × (b ≡ differs (its k) (stamped v (its k)))
+      → (out ≡ ledgerOf (set (routesOf (k .ws)) (k .i) (stamped v (its k)))) × (b ≡ differs (its k) (stamped v (its k)))
       → Promised (k .reg) (k .ws) (k .i) out b
-  rejudged-row {a} {v} ea ev q =
+  rejudged-route {a} {v} ea ev q =
       let p = k .may .route in
       let hop = hopOf (recordsOf (k .reg)) in
       let role : roleNumber (k .role) ≡ its k .role =

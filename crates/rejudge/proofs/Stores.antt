@@ -1,4 +1,4 @@
--- A verdict stored in a route's row: the ledger of the routes with that one stamped. Assumes nothing.
+-- A verdict stored in a route's slot: the ledger of the routes with that one stamped. Assumes nothing.
 use Prim.Native.Nat.{ℕ, zero, suc, _+_, _*_, _≤_, _<_}
 use mathlib.Core.Path.{_≡_, refl, sym, _∙_, ap, subst}
 use mathlib.Core.Bool.{not, _&&_}
@@ -12,9 +12,9 @@ use Rattle.types.specs.Numbers.{verdictNumber, placeA, placeB}
 use Rattle.table.specs.Table.{Entry, decode, Sound}
 use Rattle.table.proofs.Sounds.{nth, wide-at}
 use Rattle.table.proofs.Setting.{withHead, set-head-sound}
-use Rattle.routes.specs.Routes.{Route, routeOf, entryOf, routesOf, wordsOf, routeAt}
-use Rattle.routes.specs.Calls.{stamped, differs}
-use Rattle.routes.proofs.Entries.{typing, route-is, length-routes, words-are, row-within, verdict-is, a-is, b-is}
+use Rattle.ledger.specs.Routes.{Route, routeOf, entryOf, routesOf, ledgerOf, routeAt}
+use Rattle.ledger.specs.Calls.{stamped, differs}
+use Rattle.ledger.proofs.Entries.{typing, route-is, length-routes, words-are, slot-within, verdict-is, a-is, b-is}
 use Rattle.rejudge.specs.Rejudging.{RouteIn}
 
 -- Words hold the routes of others, with route i another one.
@@ -40,7 +40,7 @@ module _ (ws : List ℕ) (s : Sound 7 0 ws) (i : ℕ) (h : i < length (routesOf 
       let w = wide-at 7 0 ws s i (omega (arith, length-routes ws s)) .0 in
       sym (typing .forth (nth i (decode 7 0 ws)) (w .0) (w .1)) ∙ ap entryOf (sym (route-is ws s i))
 
-  -- A store into head word j of row i.
+  -- A store into head word j of slot i.
   stores : (j : ℕ) → j < 7 → (x : ℕ) → Stored ws i (withWord (routeAt (routesOf ws) i) j x) (set ws (2 + i * 9 + j) x)
   unfolding routesOf
   stores j k x =
@@ -78,20 +78,20 @@ more {ws} {out} {i} {r} p h j k x =
     subst (λ q. Stored ws i (withWord q j x) (set out (2 + i * 9 + j) x)) (stored-is p h) (twice p (stores out (p .sound) i (again p h) j k x))
 
 module _ {ws : List ℕ} {i : ℕ} (p : RouteIn ws i) where
-  -- Its row lies within the words.
-  pub row-in : 2 + i * 9 + 9 ≤ length ws
-  row-in = row-within ws (p .sound) i (p .within)
+  -- Its slot lies within the words.
+  pub slot-in : 2 + i * 9 + 9 ≤ length ws
+  slot-in = slot-within ws (p .sound) i (p .within)
 
   module _ (v : Verdict) {w a b : ℕ} (ew : w ≡ verdictNumber v) (ea : a ≡ placeA v) (eb : b ≡ placeB v) where
     -- The verdict's word and places, stored one after another.
     pub stamped-words :
         set (set (set ws (2 + i * 9 + 4) w) (2 + i * 9 + 5) a) (2 + i * 9 + 6) b
-        ≡ wordsOf (set (routesOf ws) i (stamped v (routeAt (routesOf ws) i)))
+        ≡ ledgerOf (set (routesOf ws) i (stamped v (routeAt (routesOf ws) i)))
     stamped-words =
         let s = stores ws (p .sound) i (p .within) 4 (omega arith) (verdictNumber v) in
         let t = more s (p .within) 5 (omega arith) (placeA v) in
         let u = more t (p .within) 6 (omega arith) (placeB v) in
-        rw (ew, ea, eb) (words-are _ (u .sound) (u .size ∙ p .size) ∙ ap wordsOf (u .routes))
+        rw (ew, ea, eb) (words-are _ (u .sound) (u .size ∙ p .size) ∙ ap ledgerOf (u .routes))
 
     -- Whether one of them changed.
     pub stamped-differs :

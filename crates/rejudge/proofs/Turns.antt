@@ -10,14 +10,14 @@ use lib.Seq.{drop-cons}
 use Rattle.table.specs.Table.{bodies, Sound}
 use Rattle.table.proofs.Exact.{length-encode, passes-sound}
 use Rattle.keyed.proofs.Finds.{every-at}
-use Rattle.verdict.specs.Hops.{HopFunction}
-use Rattle.verdict.specs.Records.{hopOf}
+use Rattle.rules.specs.Hops.{HopFunction}
+use Rattle.rules.specs.Records.{hopOf}
 use Rattle.register.specs.Register.{recordsOf, registerOk}
-use Rattle.routes.specs.Routes.{ledgerWords, mostRoutes, mostPathWords, Route, entryOf, routesOf, wordsOf, routeAt, pathWords, routeOk, ledgerOk}
-use Rattle.routes.specs.Calls.{differs, countDiffering}
-use Rattle.routes.proofs.Entries.{entries-wide, routes-fit, routes-of-words, words-formed, words-are}
-use Rattle.routes.proofs.Holding.{sound, routes-ok, has-room, room-paths, each-ok}
-use Rattle.routes.proofs.Looking.{count-is, few}
+use Rattle.ledger.specs.Routes.{ledgerWords, mostRoutes, mostPathWords, Route, entryOf, routesOf, ledgerOf, routeAt, pathWords, routeOk, ledgerOk}
+use Rattle.ledger.specs.Calls.{differs, countDiffering}
+use Rattle.ledger.proofs.Entries.{entries-wide, routes-fit, routes-of-words, words-formed, words-are}
+use Rattle.ledger.proofs.Holding.{sound, routes-ok, has-room, room-paths, each-ok}
+use Rattle.ledger.proofs.Looking.{count-is, few}
 use Rattle.rejudge.specs.Rejudging.{rejudgedRoute, Judgeable}
 use Rattle.rejudge.proofs.Rows.{Promised}
 use Rattle.rejudge.proofs.Rejudgements.{anew, path-stays}
@@ -94,11 +94,11 @@ record Held (ws : List ℕ) (rs : List Route) : Type 0 where
   size : length ws ≡ ledgerWords
   routes : routesOf ws ≡ rs
 
-held : (rs : List Route) → length rs ≤ mostRoutes → pathWords rs ≤ mostPathWords → Held (wordsOf rs) rs
-unfolding wordsOf
+held : (rs : List Route) → length rs ≤ mostRoutes → pathWords rs ≤ mostPathWords → Held (ledgerOf rs) rs
+unfolding ledgerOf
 held rs h k =
     record {
-      sound = passes-sound 7 0 (wordsOf rs) (words-formed rs h k);
+      sound = passes-sound 7 0 (ledgerOf rs) (words-formed rs h k);
       size = length-encode 7 0 ledgerWords (map entryOf rs) (entries-wide rs) (rw (length-map rs entryOf) (routes-fit rs h k));
       routes = routes-of-words rs h k;
     }
@@ -120,7 +120,7 @@ pub record Turned (reg start : List ℕ) (n : ℕ) (ws : List ℕ) (changed i : 
   pub within : i ≤ n
   pub small : n ≤ mostRoutes
   pub fewer : changed ≤ i
-  pub words : ws ≡ wordsOf (firstAnew (hopOf (recordsOf reg)) i (routesOf start))
+  pub words : ws ≡ ledgerOf (firstAnew (hopOf (recordsOf reg)) i (routesOf start))
   pub sum : changed + changes (hopOf (recordsOf reg)) i (routesOf start) ≡ changes (hopOf (recordsOf reg)) 0 (routesOf start)
 
 -- Before the first turn.
@@ -155,10 +155,10 @@ module _ {reg start ws : List ℕ} {n changed i : ℕ} (t : Turned reg start n w
   same-size = holding .size ∙ sym (t .given .1)
 
   -- After the last turn.
-  pub turned-all : n ≤ i → (ws ≡ wordsOf (map (rejudgedRoute hop) routes)) × (changed ≡ countDiffering routes (map (rejudgedRoute hop) routes))
+  pub turned-all : n ≤ i → (ws ≡ ledgerOf (map (rejudgedRoute hop) routes)) × (changed ≡ countDiffering routes (map (rejudgedRoute hop) routes))
   turned-all h =
       let l : length routes ≤ i = omega (arith, t .count) in
-      (t .words ∙ ap wordsOf (first-all hop i routes l), omega (arith, t .sum, changes-end hop i routes l))
+      (t .words ∙ ap ledgerOf (first-all hop i routes l), omega (arith, t .sum, changes-end hop i routes l))
 
   module _ (h : i < n) where
     -- Route i is one of the routes.
@@ -176,13 +176,13 @@ module _ {reg start ws : List ℕ} {n changed i : ℕ} (t : Turned reg start n w
 
     module _ {out : List ℕ} {b : Bool} (q : Promised reg ws i out b) where
       -- The words of the next turn.
-      next-words : out ≡ wordsOf (firstAnew hop (i + 1) routes)
+      next-words : out ≡ ledgerOf (firstAnew hop (i + 1) routes)
       next-words =
           q .0
-          ∙ ap (λ l. wordsOf (set l i (anew hop (routeAt l i)))) (holding .routes)
-          ∙ ap (λ r. wordsOf (set (firstAnew hop i routes) i (anew hop r))) (first-at hop i routes)
-          ∙ ap wordsOf (first-next hop i routes)
-          ∙ ap (λ k. wordsOf (firstAnew hop k routes)) (sym (add-one i))
+          ∙ ap (λ l. ledgerOf (set l i (anew hop (routeAt l i)))) (holding .routes)
+          ∙ ap (λ r. ledgerOf (set (firstAnew hop i routes) i (anew hop r))) (first-at hop i routes)
+          ∙ ap ledgerOf (first-next hop i routes)
+          ∙ ap (λ k. ledgerOf (firstAnew hop k routes)) (sym (add-one i))
 
       -- Whether route i differs.
       tells : b ≡ differs (routeAt routes i) (anew hop (routeAt routes i))

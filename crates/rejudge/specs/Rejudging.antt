@@ -5,20 +5,13 @@ use mathlib.Core.Bool.{true, cond}
 use mathlib.Core.List.{List}
 use lib.Dec.{eqb}
 use lib.ListN.{length}
-use Rattle.types.specs.declared.Verdict.{Verdict}
-use Rattle.types.specs.declared.Answer.{Answer}
-use Rattle.types.specs.declared.Answer.the-variants.{Plain, WithGap}
-use Rattle.verdict.specs.Hops.{HopFunction}
-use Rattle.verdict.specs.Verdicts.{judged}
+use Rattle.types.specs.Numbers.{verdictOf}
+use Rattle.rules.specs.Hops.{HopFunction}
+use Rattle.rules.specs.Verdicts.{judged}
 use Rattle.table.specs.Table.{Sound}
 use Rattle.register.specs.Register.{registerOk}
-use Rattle.routes.specs.Routes.{ledgerWords, Route, routesOf, routeAt, routeOk}
-use Rattle.routes.specs.Calls.{stamped}
-
--- The verdict of an answer; the gap is not stored.
-abbrev pub verdictOf : Answer → Verdict
-verdictOf (Plain v) = v
-verdictOf (WithGap v g) = v
+use Rattle.ledger.specs.Routes.{ledgerWords, Route, routesOf, routeAt, routeOk}
+use Rattle.ledger.specs.Calls.{stamped}
 
 -- A route without a ground gets the verdict and places of its role and path; another stays.
 abbrev pub rejudgedRoute : HopFunction → Route → Route

@@ -42,7 +42,7 @@ module _ (h t i : ℕ) (x : Entry) (es : List Entry) where
       let v : Wide h t (take i es ++ drop i es) = subst (Wide h t) (sym (take-append-drop i es)) w in
       wide-append h t (take i es) (x ∷ drop i es) (wide-left h t (take i es) (drop i es) v) (wx, wide-right h t (take i es) (drop i es) v)
 
-  -- It fits where there is room for one more row and body.
+  -- It fits where there is room for one more slot and body.
   pub insert-fits : (size : ℕ) → 2 + (length es + 1) * width h t + length (bodies es) + length (x .body) ≤ size
       → 2 + length (insertAt i x es) * width h t + length (bodies (insertAt i x es)) ≤ size
   unfolding insertAt

@@ -10,17 +10,17 @@ use lib.Dec.{eqb, leb}
 use lib.ListN.{length, drop, getD, drop-of-length-le}
 use lib.Seq.{drop-drop, getD-drop, drop-cons}
 use borrow.Author.Tests.{eq-eqb, ne-eqb, le-leb, lt-leb}
-use Rattle.table.specs.Table.{width, rowsOk, allZero, wellFormed}
+use Rattle.table.specs.Table.{width, slotsOk, allZero, wellFormed}
 use Rattle.table.proofs.Laws.{count-index}
 
--- ---- the rows
+-- ---- the slots
 
--- The check of m rows is that of the first, and that of the others from where its body ends.
+-- The check of m slots is that of the first, and that of the others from where its body ends.
 ok-peel : (s : List ℕ) (h t p m o b : ℕ) → 0 < m
-    → rowsOk h t m o b (drop p s)
+    → slotsOk h t m o b (drop p s)
     ≡ (eqb (getD s (p + h) 0) o
-    && (leb (getD s (p + h + 1) 0) (b - o) && rowsOk h t (m - 1) (o + getD s (p + h + 1) 0) b (drop (p + width h t) s)))
-unfolding rowsOk
+    && (leb (getD s (p + h + 1) 0) (b - o) && slotsOk h t (m - 1) (o + getD s (p + h + 1) 0) b (drop (p + width h t) s)))
+unfolding slotsOk
 ok-peel s h t p zero o b l = absurd (not-suc-le-zero l)
 ok-peel s h t p (suc m) o b l =
     let e : suc m - 1 ≡ m = omega arith in
@@ -28,21 +28,21 @@ ok-peel s h t p (suc m) o b l =
 
 module _ (s : List ℕ) (h t p m o b : ℕ) (l : 0 < m) where
   -- A wrong start fails.
-  pub ok-start : (getD s (p + h) 0 ≡ o → ⊥) → false ≡ rowsOk h t m o b (drop p s)
+  pub ok-start : (getD s (p + h) 0 ≡ o → ⊥) → false ≡ slotsOk h t m o b (drop p s)
   ok-start x = rw (ok-peel s h t p m o b l, ne-eqb (getD s (p + h) 0) o x)
 
   -- A count beyond the body words that are left fails.
-  pub ok-count : getD s (p + h) 0 ≡ o → b - o < getD s (p + h + 1) 0 → false ≡ rowsOk h t m o b (drop p s)
+  pub ok-count : getD s (p + h) 0 ≡ o → b - o < getD s (p + h + 1) 0 → false ≡ slotsOk h t m o b (drop p s)
   ok-count x y = rw (ok-peel s h t p m o b l, eq-eqb (getD s (p + h) 0) o x, lt-leb (getD s (p + h + 1) 0) (b - o) y)
 
-  -- A right row leaves the others to check.
+  -- A right slot leaves the others to check.
   pub ok-step : getD s (p + h) 0 ≡ o → getD s (p + h + 1) 0 ≤ b - o
-      → rowsOk h t (m - 1) (o + getD s (p + h + 1) 0) b (drop (p + width h t) s) ≡ rowsOk h t m o b (drop p s)
+      → slotsOk h t (m - 1) (o + getD s (p + h + 1) 0) b (drop (p + width h t) s) ≡ slotsOk h t m o b (drop p s)
   ok-step x y = rw (ok-peel s h t p m o b l, eq-eqb (getD s (p + h) 0) o x, le-leb (getD s (p + h + 1) 0) (b - o) y)
 
--- With no row left, the counts must have come to b.
-pub ok-done : (h t m o b : ℕ) (xs : List ℕ) → m ≤ 0 → eqb o b ≡ rowsOk h t m o b xs
-unfolding rowsOk
+-- With no slot left, the counts must have come to b.
+pub ok-done : (h t m o b : ℕ) (xs : List ℕ) → m ≤ 0 → eqb o b ≡ slotsOk h t m o b xs
+unfolding slotsOk
 ok-done h t zero o b xs l = refl
 ok-done h t (suc m) o b xs l = absurd (not-suc-le-zero l)
 
@@ -78,7 +78,7 @@ module _ {s : List ℕ} {zeros : Bool} {i : ℕ} {r : Bool} (z : Zeros s zeros i
 
 -- ---- the whole check
 
--- The rows of any word's number of entries are far from the end of the address space.
+-- The slots of any word's number of entries are far from the end of the address space.
 pub product-fits : (n h t : ℕ) → n < 2 ^ 32 → h < 2 ^ 16 → t < 2 ^ 16 → n * width h t < 2 ^ 50
 product-fits n h t l k j =
     let m : n * width h t ≤ n * 262144 = mul-le-mul-left n (omega arith) in
@@ -91,21 +91,21 @@ module _ (h t : ℕ) (ws : List ℕ) where
   wf-short l = rw (lt-leb 2 (length ws) l)
 
   module _ (n b : ℕ) (e : n ≡ getD ws 0 0) (f : b ≡ getD ws 1 0) (l : 2 ≤ length ws) where
-    -- Rows and bodies that do not fit fail.
+    -- Slots and bodies that do not fit fail.
     pub wf-long : length ws < 2 + n * width h t + b → false ≡ wellFormed h t ws
     unfolding wellFormed
     wf-long k = rw (le-leb 2 (length ws) l, ← e, ← f, lt-leb (2 + n * width h t + b) (length ws) k)
 
     module _ (k : 2 + n * width h t + b ≤ length ws) where
-      -- Where they fit, the check is that of the rows and that of the zeros.
-      pub wf-all : (rowsOk h t n 0 (getD ws 1 0) (drop 2 ws) && allZero (drop (2 + n * width h t + b) ws)) ≡ wellFormed h t ws
+      -- Where they fit, the check is that of the slots and that of the zeros.
+      pub wf-all : (slotsOk h t n 0 (getD ws 1 0) (drop 2 ws) && allZero (drop (2 + n * width h t + b) ws)) ≡ wellFormed h t ws
       unfolding wellFormed
       wf-all = rw (le-leb 2 (length ws) l, ← e, ← f, le-leb (2 + n * width h t + b) (length ws) k)
 
-      -- Rows that fail, fail.
-      pub wf-rows : false ≡ rowsOk h t n 0 (getD ws 1 0) (drop 2 ws) → false ≡ wellFormed h t ws
-      wf-rows r = ap (λ (x : Bool). x && allZero (drop (2 + n * width h t + b) ws)) r ∙ wf-all
+      -- Slots that fail, fail.
+      pub wf-slots : false ≡ slotsOk h t n 0 (getD ws 1 0) (drop 2 ws) → false ≡ wellFormed h t ws
+      wf-slots r = ap (λ (x : Bool). x && allZero (drop (2 + n * width h t + b) ws)) r ∙ wf-all
 
-      -- Rows that pass leave the zeros to check.
-      pub wf-zeros : true ≡ rowsOk h t n 0 (getD ws 1 0) (drop 2 ws) → allZero (drop (2 + n * width h t + b) ws) ≡ wellFormed h t ws
+      -- Slots that pass leave the zeros to check.
+      pub wf-zeros : true ≡ slotsOk h t n 0 (getD ws 1 0) (drop 2 ws) → allZero (drop (2 + n * width h t + b) ws) ≡ wellFormed h t ws
       wf-zeros r = ap (λ (x : Bool). x && allZero (drop (2 + n * width h t + b) ws)) r ∙ wf-all

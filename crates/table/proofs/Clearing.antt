@@ -1,4 +1,4 @@
--- One turn of the loop of `pack_rows`, and what the steps of `clear` make of a table. Assumes nothing.
+-- One turn of the loop of `pack_slots`, and what the steps of `clear` make of a table. Assumes nothing.
 use mathlib.Core.Path.{_≡_, refl, sym, ap, _∙_}
 use mathlib.Core.Bool.{Bool, true, false, cond}
 use mathlib.Core.List.{List, [], _∷_, _++_, append-assoc}
@@ -11,60 +11,60 @@ use lib.ListN.{length, take, drop, set, getD, replicate, length-append, length-d
 use lib.ListN.{List·getD-append, replicate-append-replicate, drop-of-length-le}
 use lib.Seq.{getD-drop, drop-drop, take-set-lt, length-take-le, take-at, drop-at}
 use borrow.Author.Tests.{eq-eqb, ne-eqb}
-use Rattle.words.specs.Words.{pasted, zeroed}
-use Rattle.words.proofs.Laws.{length-pasted, paste-none, paste-paste, drop-pasted, set-pasted, take-to-pasted, drop-to-pasted}
-use Rattle.table.specs.Table.{Entry, width, rows, bodies, pad, encode, Wide, decode, counts, keptEntries, keptRows, Clearable}
-use Rattle.table.proofs.Tables.{row-head, row-count, row-tail, row-rest, length-rows, counts-rows}
-use Rattle.table.proofs.Laws.{row-set, count-index, counts-peel}
+use Rattle.runs.specs.Words.{pasted, zeroed}
+use Rattle.runs.proofs.Laws.{length-pasted, paste-none, paste-paste, drop-pasted, set-pasted, take-to-pasted, drop-to-pasted}
+use Rattle.table.specs.Table.{Entry, width, slots, bodies, pad, encode, Wide, decode, counts, stayingEntries, stayingSlots, Clearable}
+use Rattle.table.proofs.Tables.{slot-head, slot-count, slot-tail, slot-rest, length-slots, counts-slots}
+use Rattle.table.proofs.Laws.{slot-set, count-index, counts-peel}
 use Rattle.table.proofs.Sounds.{less-mul, count-is, body-is}
-use Rattle.table.proofs.Exact.{rows-first}
-use Rattle.table.proofs.Keeping.{kept-wide, kept-length, kept-bodies}
+use Rattle.table.proofs.Exact.{slots-first}
+use Rattle.table.proofs.Staying.{staying-wide, staying-length, staying-bodies}
 
--- ---- the rows that are kept
+-- ---- the slots that are kept
 
--- One row more.
+-- One slot more.
 next-mul : (i w : ℕ) → (i + 1) * w ≡ i * w + w
 next-mul i w = ap (λ (k : ℕ). k * w) (add-one i) ∙ suc-mul i w
 
--- A row with start o.
+-- A slot with start o.
 abbrev anew : ℕ → ℕ → ℕ → List ℕ → List ℕ
 anew h t o xs = take h xs ++ (o ∷ (getD xs (h + 1) 0 ∷ take t (drop (h + 2) xs)))
 
 module _ (h t column value k o : ℕ) (xs : List ℕ) where
-  -- A row with the value goes out.
-  rows-out : getD xs column 0 ≡ value → keptRows h t column value (suc k) o xs ≡ keptRows h t column value k o (drop (width h t) xs)
-  unfolding keptRows
-  rows-out q =
-      let r : List ℕ = keptRows h t column value k (o + getD xs (h + 1) 0) (drop (width h t) xs) in
+  -- A slot with the value goes out.
+  slots-out : getD xs column 0 ≡ value → stayingSlots h t column value (suc k) o xs ≡ stayingSlots h t column value k o (drop (width h t) xs)
+  unfolding stayingSlots
+  slots-out q =
+      let r : List ℕ = stayingSlots h t column value k (o + getD xs (h + 1) 0) (drop (width h t) xs) in
       ap
-      (λ (b : Bool). cond b (keptRows h t column value k o (drop (width h t) xs)) (take h xs ++ (o ∷ (getD xs (h + 1) 0 ∷ (take t (drop (h + 2) xs) ++ r)))))
+      (λ (b : Bool). cond b (stayingSlots h t column value k o (drop (width h t) xs)) (take h xs ++ (o ∷ (getD xs (h + 1) 0 ∷ (take t (drop (h + 2) xs) ++ r)))))
       (eq-eqb (getD xs column 0) value q)
 
   -- Another stays, with its start counted anew.
-  rows-in : (getD xs column 0 ≡ value → ⊥)
-      → keptRows h t column value (suc k) o xs ≡ anew h t o xs ++ keptRows h t column value k (o + getD xs (h + 1) 0) (drop (width h t) xs)
-  unfolding keptRows
-  rows-in q =
-      let r : List ℕ = keptRows h t column value k (o + getD xs (h + 1) 0) (drop (width h t) xs) in
+  slots-in : (getD xs column 0 ≡ value → ⊥)
+      → stayingSlots h t column value (suc k) o xs ≡ anew h t o xs ++ stayingSlots h t column value k (o + getD xs (h + 1) 0) (drop (width h t) xs)
+  unfolding stayingSlots
+  slots-in q =
+      let r : List ℕ = stayingSlots h t column value k (o + getD xs (h + 1) 0) (drop (width h t) xs) in
       ap
-      (λ (b : Bool). cond b (keptRows h t column value k o (drop (width h t) xs)) (take h xs ++ (o ∷ (getD xs (h + 1) 0 ∷ (take t (drop (h + 2) xs) ++ r)))))
+      (λ (b : Bool). cond b (stayingSlots h t column value k o (drop (width h t) xs)) (take h xs ++ (o ∷ (getD xs (h + 1) 0 ∷ (take t (drop (h + 2) xs) ++ r)))))
       (ne-eqb (getD xs column 0) value q)
       ∙ sym (append-assoc (take h xs) (o ∷ (getD xs (h + 1) 0 ∷ take t (drop (h + 2) xs))) r)
 
--- A row that is copied, with its start stored anew.
-row-anew : (h t o : ℕ) (xs : List ℕ) → width h t ≤ length xs → (set (take (width h t) xs) h o ≡ anew h t o xs) × (length (anew h t o xs) ≡ width h t)
-row-anew h t o xs l =
-    let e : take (width h t) (set xs h o) ≡ anew h t o xs = row-set xs h t o l in
+-- A slot that is copied, with its start stored anew.
+slot-anew : (h t o : ℕ) (xs : List ℕ) → width h t ≤ length xs → (set (take (width h t) xs) h o ≡ anew h t o xs) × (length (anew h t o xs) ≡ width h t)
+slot-anew h t o xs l =
+    let e : take (width h t) (set xs h o) ≡ anew h t o xs = slot-set xs h t o l in
     let n : width h t ≤ length (set xs h o) = simp length-set l in
     (sym (take-set-lt (width h t) xs h o (omega arith)) ∙ e, ap length (sym e) ∙ length-take-le (width h t) (set xs h o) n)
 
--- ---- the loop of `pack_rows`
+-- ---- the loop of `pack_slots`
 
--- All rows of the slice that are kept.
+-- All slots of the slice that are kept.
 abbrev thin : List ℕ → ℕ → ℕ → ℕ → ℕ → List ℕ
-thin ws h t column value = keptRows h t column value (getD ws 0 0) 0 (drop 2 ws)
+thin ws h t column value = stayingSlots h t column value (getD ws 0 0) 0 (drop 2 ws)
 
--- What holds of its locals: the rows from i on are left to do.
+-- What holds of its locals: the slots from i on are left to do.
 pub record Thinned (ws : List ℕ) (h t column value n : ℕ) (s : List ℕ) (m next i : ℕ) : Type 0 where
   pub room : 2 + n * width h t ≤ length ws
   pub within : column < h
@@ -73,8 +73,8 @@ pub record Thinned (ws : List ℕ) (h t column value n : ℕ) (s : List ℕ) (m 
   pub few : m ≤ i
   pub counted : next + counts h t (n - i) (drop (2 + i * width h t) ws) < 2 ^ 32
   pub same : drop (2 + i * width h t) s ≡ drop (2 + i * width h t) ws
-  pub left : pasted s (2 + m * width h t) (keptRows h t column value (n - i) next (drop (2 + i * width h t) ws)) ≡ pasted ws 2 (thin ws h t column value)
-  pub sum : m * width h t + length (keptRows h t column value (n - i) next (drop (2 + i * width h t) ws)) ≡ length (thin ws h t column value)
+  pub left : pasted s (2 + m * width h t) (stayingSlots h t column value (n - i) next (drop (2 + i * width h t) ws)) ≡ pasted ws 2 (thin ws h t column value)
+  pub sum : m * width h t + length (stayingSlots h t column value (n - i) next (drop (2 + i * width h t) ws)) ≡ length (thin ws h t column value)
 
 -- It holds at the start.
 pub thinned : (ws : List ℕ) (h t column value n : ℕ)
@@ -84,8 +84,8 @@ thinned ws h t column value n may read =
     let z = zero-mul (width h t) in
     let e : n - 0 ≡ getD ws 0 0 = sub-zero n ∙ read in
     let c : counts h t (n - 0) (drop (2 + 0 * width h t) ws) ≡ counts h t (getD ws 0 0) (drop 2 ws) = λ j. counts h t (e j) (drop (2 + z j) ws) in
-    let r : keptRows h t column value (n - 0) 0 (drop (2 + 0 * width h t) ws) ≡ thin ws h t column value =
-    λ j. keptRows h t column value (e j) 0 (drop (2 + z j) ws) in
+    let r : stayingSlots h t column value (n - 0) 0 (drop (2 + 0 * width h t) ws) ≡ thin ws h t column value =
+    λ j. stayingSlots h t column value (e j) 0 (drop (2 + z j) ws) in
     record {
       room = omega (arith, may .0, ap (λ (k : ℕ). k * width h t) read);
       within = may .1;
@@ -99,28 +99,28 @@ thinned ws h t column value n may read =
     }
 
 module _ {ws : List ℕ} {h t column value n : ℕ} {s : List ℕ} {m next i : ℕ} (P : Thinned ws h t column value n s m next i) where
-  -- The width of a row.
+  -- The width of a slot.
   abbrev w : ℕ
   w = width h t
 
-  -- Where no row is left, all is done.
+  -- Where no slot is left, all is done.
   pub thin-done : n ≤ i → (s ≡ pasted ws 2 (thin ws h t column value)) × (m * width h t ≡ length (thin ws h t column value))
-  unfolding keptRows
+  unfolding stayingSlots
   thin-done l =
       let e : n - i ≡ 0 = omega arith in
-      let none : keptRows h t column value (n - i) next (drop (2 + i * w) ws) ≡ [] = ap (λ (k : ℕ). keptRows h t column value k next (drop (2 + i * w) ws)) e in
+      let none : stayingSlots h t column value (n - i) next (drop (2 + i * w) ws) ≡ [] = ap (λ (k : ℕ). stayingSlots h t column value k next (drop (2 + i * w) ws)) e in
       (sym (paste-none s (2 + m * w)) ∙ ap (pasted s (2 + m * w)) (sym none) ∙ P .left, omega (arith, P .sum, ap length none))
 
   module _ (l : i < n) where
-    -- Row i lies within the slice, and so does the place to which it goes.
-    pub thin-row : (2 + i * width h t + width h t ≤ length ws) × (m * width h t ≤ i * width h t)
-    thin-row = (omega (arith, P .room, less-mul i n w l), mul-le-mul-right w (P .few))
+    -- Slot i lies within the slice, and so does the position to which it goes.
+    pub thin-slot : (2 + i * width h t + width h t ≤ length ws) × (m * width h t ≤ i * width h t)
+    thin-slot = (omega (arith, P .room, less-mul i n w l), mul-le-mul-right w (P .few))
 
-    -- The words from row i on.
+    -- The words from slot i on.
     abbrev xs : List ℕ
     xs = drop (2 + i * w) ws
 
-    -- The words behind row i.
+    -- The words behind slot i.
     behind : drop w xs ≡ drop (2 + (i + 1) * w) ws
     behind =
         let e : 2 + i * w + w ≡ 2 + (i + 1) * w = omega (arith, next-mul i w) in
@@ -140,7 +140,7 @@ module _ {ws : List ℕ} {h t column value n : ℕ} {s : List ℕ} {m next i : �
     thin-count : getD s (2 + i * w + h + 1) 0 ≡ getD xs (h + 1) 0
     thin-count = sym (count-index s (2 + i * w) h) ∙ ap (λ (r : List ℕ). getD r (h + 1) 0) (P .same)
 
-    -- The rows that are left are row i and those behind it.
+    -- The slots that are left are slot i and those behind it.
     one-less : n - i ≡ suc (n - (i + 1))
     one-less = omega arith
 
@@ -152,13 +152,13 @@ module _ {ws : List ℕ} {h t column value n : ℕ} {s : List ℕ} {m next i : �
         counts-peel h t (n - i) xs (omega arith) ∙ (λ j. sym thin-count j + counts h t (e j) (behind j)) in
         omega (arith, P .counted, c)
 
-    -- A turn in which the row goes out.
+    -- A turn in which the slot goes out.
     pub thin-out : getD s (2 + i * width h t + column) 0 ≡ value → Thinned ws h t column value n s m next (i + 1)
     thin-out q =
-        let rest : List ℕ = keptRows h t column value (n - (i + 1)) next (drop (2 + (i + 1) * w) ws) in
-        let e : keptRows h t column value (n - i) next xs ≡ rest =
-        ap (λ (k : ℕ). keptRows h t column value k next xs) one-less
-        ∙ rows-out h t column value (n - (i + 1)) next xs (sym thin-column ∙ q) ∙ ap (keptRows h t column value (n - (i + 1)) next) behind in
+        let rest : List ℕ = stayingSlots h t column value (n - (i + 1)) next (drop (2 + (i + 1) * w) ws) in
+        let e : stayingSlots h t column value (n - i) next xs ≡ rest =
+        ap (λ (k : ℕ). stayingSlots h t column value k next xs) one-less
+        ∙ slots-out h t column value (n - (i + 1)) next xs (sym thin-column ∙ q) ∙ ap (stayingSlots h t column value (n - (i + 1)) next) behind in
         record {
           room = P .room;
           within = P .within;
@@ -178,26 +178,26 @@ module _ {ws : List ℕ} {h t column value n : ℕ} {s : List ℕ} {m next i : �
     thin-in q v made =
         let at : ℕ = 2 + m * w in
         let c : ℕ = getD s (2 + i * w + h + 1) 0 in
-        let rest : List ℕ = keptRows h t column value (n - (i + 1)) (next + c) (drop (2 + (i + 1) * w) ws) in
+        let rest : List ℕ = stayingSlots h t column value (n - (i + 1)) (next + c) (drop (2 + (i + 1) * w) ws) in
         let x : List ℕ = anew h t next xs in
-        let lx : w ≤ length xs = simp length-drop (omega (arith, thin-row)) in
-        let e : keptRows h t column value (n - i) next xs ≡ x ++ rest =
-        ap (λ (k : ℕ). keptRows h t column value k next xs) one-less
-        ∙ rows-in h t column value (n - (i + 1)) next xs (λ r. q (thin-column ∙ r))
-        ∙ (λ j. x ++ keptRows h t column value (n - (i + 1)) (next + sym thin-count j) (behind j)) in
-        let n-row : length (take w xs) ≡ w = length-take-le w xs lx in
-        let n-x : length x ≡ w = row-anew h t next xs lx .1 in
-        let low : at ≤ length s = omega (arith, thin-row, P .long) in
+        let lx : w ≤ length xs = simp length-drop (omega (arith, thin-slot)) in
+        let e : stayingSlots h t column value (n - i) next xs ≡ x ++ rest =
+        ap (λ (k : ℕ). stayingSlots h t column value k next xs) one-less
+        ∙ slots-in h t column value (n - (i + 1)) next xs (λ r. q (thin-column ∙ r))
+        ∙ (λ j. x ++ stayingSlots h t column value (n - (i + 1)) (next + sym thin-count j) (behind j)) in
+        let n-slot : length (take w xs) ≡ w = length-take-le w xs lx in
+        let n-x : length x ≡ w = slot-anew h t next xs lx .1 in
+        let low : at ≤ length s = omega (arith, thin-slot, P .long) in
         let is : set v (at + h) next ≡ pasted s at x =
         ap (λ (r : List ℕ). set r (at + h) next) (made ∙ ap (λ (r : List ℕ). pasted s at (take w r)) (P .same))
-        ∙ set-pasted s (take w xs) at h next (omega (arith, n-row)) low
-        ∙ ap (pasted s at) (row-anew h t next xs lx .0) in
+        ∙ set-pasted s (take w xs) at h next (omega (arith, n-slot)) low
+        ∙ ap (pasted s at) (slot-anew h t next xs lx .0) in
         let at′ : at + length x ≡ 2 + (m + 1) * w = omega (arith, n-x, next-mul m w) in
-        let under : at + length x ≤ 2 + (i + 1) * w = omega (arith, n-x, next-mul i w, thin-row) in
+        let under : at + length x ≤ 2 + (i + 1) * w = omega (arith, n-x, next-mul i w, thin-slot) in
         record {
           room = P .room;
           within = P .within;
-          long = ap length is ∙ length-pasted s x at (omega (arith, n-x, thin-row, P .long)) ∙ P .long;
+          long = ap length is ∙ length-pasted s x at (omega (arith, n-x, thin-slot, P .long)) ∙ P .long;
           turn = omega arith;
           few = omega (arith, P .few);
           counted = omega (arith, thin-counts);
@@ -208,76 +208,76 @@ module _ {ws : List ℕ} {h t column value n : ℕ} {s : List ℕ} {m next i : �
           sum = omega (arith, P .sum, ap length e, length-append x rest, n-x, next-mul m w);
         }
 
--- ---- the rows that are kept are the rows of the entries that are kept
+-- ---- the slots that are kept are the slots of the entries that are kept
 
--- Of one row, and rows u behind it.
-kept-row : (h t column value m o q : ℕ) (e : Entry) (u : List ℕ) → column < h → (length (e .head) ≡ h) × (length (e .tail) ≡ t)
-    → keptRows h t column value (suc m) o (e .head ++ (q ∷ (length (e .body) ∷ (e .tail ++ u))))
-    ≡ cond (eqb (getD (e .head) column 0) value) (keptRows h t column value m o u)
-    (e .head ++ (o ∷ (length (e .body) ∷ (e .tail ++ keptRows h t column value m (o + length (e .body)) u))))
-unfolding keptRows
-kept-row h t column value m o q e u within w =
+-- Of one slot, and slots u behind it.
+staying-slot : (h t column value m o q : ℕ) (e : Entry) (u : List ℕ) → column < h → (length (e .head) ≡ h) × (length (e .tail) ≡ t)
+    → stayingSlots h t column value (suc m) o (e .head ++ (q ∷ (length (e .body) ∷ (e .tail ++ u))))
+    ≡ cond (eqb (getD (e .head) column 0) value) (stayingSlots h t column value m o u)
+    (e .head ++ (o ∷ (length (e .body) ∷ (e .tail ++ stayingSlots h t column value m (o + length (e .body)) u))))
+unfolding stayingSlots
+staying-slot h t column value m o q e u within w =
     let k : ℕ = length (e .body) in
-    let head = row-head (e .head) (e .tail) u q k h t (w .0) (w .1) in
-    let count = row-count (e .head) (e .tail) u q k h t (w .0) (w .1) in
-    let tail = row-tail (e .head) (e .tail) u q k h t (w .0) (w .1) in
-    let rest = row-rest (e .head) (e .tail) u q k h t (w .0) (w .1) in
+    let head = slot-head (e .head) (e .tail) u q k h t (w .0) (w .1) in
+    let count = slot-count (e .head) (e .tail) u q k h t (w .0) (w .1) in
+    let tail = slot-tail (e .head) (e .tail) u q k h t (w .0) (w .1) in
+    let rest = slot-rest (e .head) (e .tail) u q k h t (w .0) (w .1) in
     let x = List·getD-append (e .head) (q ∷ (k ∷ (e .tail ++ u))) 0 column (omega arith) in
-    λ i. cond (eqb (x i) value) (keptRows h t column value m o (rest i))
-    (head i ++ (o ∷ (count i ∷ (tail i ++ keptRows h t column value m (o + count i) (rest i)))))
+    λ i. cond (eqb (x i) value) (stayingSlots h t column value m o (rest i))
+    (head i ++ (o ∷ (count i ∷ (tail i ++ stayingSlots h t column value m (o + count i) (rest i)))))
 
--- Of all rows, whatever stands behind them.
-kept-rows : (h t column value o q : ℕ) (es : List Entry) (z : List ℕ) → column < h → Wide h t es
-    → keptRows h t column value (length es) o (rows q es ++ z) ≡ rows o (keptEntries column value es)
-unfolding keptRows keptEntries rows Wide
-kept-rows h t column value o q [] z within w = refl
-kept-rows h t column value o q (e ∷ es) z within w =
+-- Of all slots, whatever stands behind them.
+staying-slots : (h t column value o q : ℕ) (es : List Entry) (z : List ℕ) → column < h → Wide h t es
+    → stayingSlots h t column value (length es) o (slots q es ++ z) ≡ slots o (stayingEntries column value es)
+unfolding stayingSlots stayingEntries slots Wide
+staying-slots h t column value o q [] z within w = refl
+staying-slots h t column value o q (e ∷ es) z within w =
     let k : ℕ = length (e .body) in
     let b : Bool = eqb (getD (e .head) column 0) value in
-    ap (keptRows h t column value (suc (length es)) o) (rows-first q e es z)
-    ∙ kept-row h t column value (length es) o q e (rows (q + k) es ++ z) within (w .0)
-    ∙ (λ i. cond b (kept-rows h t column value o (q + k) es z within (w .1) i)
-    (e .head ++ (o ∷ (k ∷ (e .tail ++ kept-rows h t column value (o + k) (q + k) es z within (w .1) i)))))
-    ∙ within-cond b (keptEntries column value es)
+    ap (stayingSlots h t column value (suc (length es)) o) (slots-first q e es z)
+    ∙ staying-slot h t column value (length es) o q e (slots (q + k) es ++ z) within (w .0)
+    ∙ (λ i. cond b (staying-slots h t column value o (q + k) es z within (w .1) i)
+    (e .head ++ (o ∷ (k ∷ (e .tail ++ staying-slots h t column value (o + k) (q + k) es z within (w .1) i)))))
+    ∙ within-cond b (stayingEntries column value es)
   where
-    -- The rows of a choice.
-    within-cond : (b : Bool) (ks : List Entry) → cond b (rows o ks) (rows o (e ∷ ks)) ≡ rows o (cond b ks (e ∷ ks))
+    -- The slots of a choice.
+    within-cond : (b : Bool) (ks : List Entry) → cond b (slots o ks) (slots o (e ∷ ks)) ≡ slots o (cond b ks (e ∷ ks))
     within-cond true ks = refl
     within-cond false ks = refl
 
 -- ---- the ends of a table
 
 module _ (h t size : ℕ) (es : List Entry) (w : Wide h t es) where
-  -- The counters and the rows.
-  table-front : take (2 + length es * width h t) (encode size es) ≡ length es ∷ (length (bodies es) ∷ rows 0 es)
+  -- The counters and the slots.
+  table-front : take (2 + length es * width h t) (encode size es) ≡ length es ∷ (length (bodies es) ∷ slots 0 es)
   unfolding encode pad
   table-front =
-      let p : List ℕ = length es ∷ (length (bodies es) ∷ rows 0 es) in
-      let z : List ℕ = replicate (size - suc (suc (length (rows 0 es ++ bodies es)))) 0 in
-      let lp : length p ≡ 2 + length es * width h t = omega (arith, length-rows h t 0 es w) in
-      ap (λ (l : List ℕ). take (2 + length es * width h t) (length es ∷ (length (bodies es) ∷ l))) (append-assoc (rows 0 es) (bodies es) z)
+      let p : List ℕ = length es ∷ (length (bodies es) ∷ slots 0 es) in
+      let z : List ℕ = replicate (size - suc (suc (length (slots 0 es ++ bodies es)))) 0 in
+      let lp : length p ≡ 2 + length es * width h t = omega (arith, length-slots h t 0 es w) in
+      ap (λ (l : List ℕ). take (2 + length es * width h t) (length es ∷ (length (bodies es) ∷ l))) (append-assoc (slots 0 es) (bodies es) z)
       ∙ take-at p (bodies es ++ z) (2 + length es * width h t) lp
 
   -- The zeros behind the bodies.
   table-zeros : (at : ℕ) → 2 + length es * width h t + length (bodies es) ≡ at → drop at (encode size es) ≡ replicate (size - at) 0
   unfolding encode pad
   table-zeros at e =
-      let p : List ℕ = length es ∷ (length (bodies es) ∷ (rows 0 es ++ bodies es)) in
-      let lp : length p ≡ at = omega (arith, length-append (rows 0 es) (bodies es), length-rows h t 0 es w) in
+      let p : List ℕ = length es ∷ (length (bodies es) ∷ (slots 0 es ++ bodies es)) in
+      let lp : length p ≡ at = omega (arith, length-append (slots 0 es) (bodies es), length-slots h t 0 es w) in
       drop-at p (replicate (size - length p) 0) at lp ∙ ap (λ (k : ℕ). replicate {A = ℕ} (size - k) 0) lp
 
 -- ---- the steps of `clear`
 
 -- A table without entries has none to clear.
 pub clear-none : (h t column value : ℕ) (ws : List ℕ) → Clearable h t ws column → getD ws 0 0 ≡ 0
-    → (ws ≡ encode (length ws) (keptEntries column value (decode h t ws))) × (0 + length (keptEntries column value (decode h t ws)) ≡ length (decode h t ws))
-unfolding keptEntries
+    → (ws ≡ encode (length ws) (stayingEntries column value (decode h t ws))) × (0 + length (stayingEntries column value (decode h t ws)) ≡ length (decode h t ws))
+unfolding stayingEntries
 clear-none h t column value ws may z =
     let D : List Entry = decode h t ws in
     let few : length D ≤ 0 = omega (arith, count-is h t ws (may .sound)) in
     let none : D ≡ [] = drop-of-length-le D few in
-    let e : D ≡ keptEntries column value D = none ∙ ap (keptEntries column value) (sym none) in
-    (may .sound .same ∙ ap (encode (length ws)) e, zero-add (length (keptEntries column value D)) ∙ ap length (sym e))
+    let e : D ≡ stayingEntries column value D = none ∙ ap (stayingEntries column value) (sym none) in
+    (may .sound .same ∙ ap (encode (length ws)) e, zero-add (length (stayingEntries column value D)) ∙ ap length (sym e))
 
 -- Its arguments, the two counters that it reads, and what they are.
 pub record Known : Type 0 where
@@ -293,16 +293,16 @@ pub record Known : Type 0 where
   pub b-read : b ≡ getD ws 1 0
   pub some : n ≡ 0 → ⊥
 
--- The linear facts of these numbers, where m rows and k body words are kept.
+-- The linear facts of these numbers, where m slots and k body words are kept.
 pub record Sized (w n b m k size : ℕ) : Type 0 where
   pub few : m ≤ n
-  pub rows-in : m * w ≤ n * w
+  pub slots-in : m * w ≤ n * w
   pub bodies-in : k ≤ b
   pub room : 2 + n * w + b ≤ size
   pub small : size < 2 ^ 32
 
 module _ (K : Known) where
-  -- The width of a row.
+  -- The width of a slot.
   abbrev pub wid : ℕ
   wid = width (K .h) (K .t)
 
@@ -312,7 +312,7 @@ module _ (K : Known) where
 
   -- The entries that are kept.
   abbrev pub kept : List Entry
-  kept = keptEntries (K .column) (K .value) D
+  kept = stayingEntries (K .column) (K .value) D
 
   -- The first counter is the number of entries.
   n-is : K .n ≡ length D
@@ -335,15 +335,15 @@ module _ (K : Known) where
         K .may .small,
       )
 
-  -- The same with the numbers of rows and body words that are kept.
+  -- The same with the numbers of slots and body words that are kept.
   pub kept-sizes : (m k : ℕ) → m ≡ length kept → k ≡ length (bodies kept)
       → Sized wid (K .n) (K .b) m k (length (K .ws))
   kept-sizes m k em ek =
-      let l : m ≤ K .n = omega (arith, em, n-is, kept-length (K .column) (K .value) D) in
+      let l : m ≤ K .n = omega (arith, em, n-is, staying-length (K .column) (K .value) D) in
       record {
         few = l;
-        rows-in = mul-le-mul-right wid l;
-        bodies-in = omega (arith, ek, b-is, kept-bodies (K .column) (K .value) D);
+        slots-in = mul-le-mul-right wid l;
+        bodies-in = omega (arith, ek, b-is, staying-bodies (K .column) (K .value) D);
         room = sizes .1;
         small = sizes .2;
       }
@@ -354,67 +354,67 @@ module _ (K : Known) where
     rest = drop (2 + length D * wid + length (bodies kept)) (K .ws)
 
     -- The table after the bodies were packed.
-    is₁ : s₁ ≡ (length D ∷ (length (bodies D) ∷ rows 0 D)) ++ (bodies kept ++ rest)
+    is₁ : s₁ ≡ (length D ∷ (length (bodies D) ∷ slots 0 D)) ++ (bodies kept ++ rest)
     unfolding pasted
     is₁ =
-        let f : take (2 + length D * wid) (K .ws) ≡ length D ∷ (length (bodies D) ∷ rows 0 D) =
+        let f : take (2 + length D * wid) (K .ws) ≡ length D ∷ (length (bodies D) ∷ slots 0 D) =
         ap (take (2 + length D * wid)) (K .may .sound .same) ∙ table-front (K .h) (K .t) (length (K .ws)) D (K .may .sound .wide) in
         e₁ ∙ ap (λ (l : List ℕ). l ++ (bodies kept ++ rest)) f
 
     -- It has its size.
     long₁ : length s₁ ≡ length (K .ws)
-    long₁ = ap length e₁ ∙ length-pasted (K .ws) (bodies kept) (2 + length D * wid) (omega (arith, K .may .sound .fits, kept-bodies (K .column) (K .value) D))
+    long₁ = ap length e₁ ∙ length-pasted (K .ws) (bodies kept) (2 + length D * wid) (omega (arith, K .may .sound .fits, staying-bodies (K .column) (K .value) D))
 
-    -- What `pack_rows` requires.
-    pub rows-may : (2 + getD s₁ 0 0 * wid ≤ length s₁) × (K .column < K .h) × (counts (K .h) (K .t) (getD s₁ 0 0) (drop 2 s₁) < 2 ^ 32)
-    rows-may =
+    -- What `pack_slots` requires.
+    pub slots-may : (2 + getD s₁ 0 0 * wid ≤ length s₁) × (K .column < K .h) × (counts (K .h) (K .t) (getD s₁ 0 0) (drop 2 s₁) < 2 ^ 32)
+    slots-may =
         let c : counts (K .h) (K .t) (getD s₁ 0 0) (drop 2 s₁) ≡ length (bodies D) =
-        (λ j. counts (K .h) (K .t) (getD (is₁ j) 0 0) (drop 2 (is₁ j))) ∙ counts-rows (K .h) (K .t) 0 D (bodies kept ++ rest) (K .may .sound .wide) in
+        (λ j. counts (K .h) (K .t) (getD (is₁ j) 0 0) (drop 2 (is₁ j))) ∙ counts-slots (K .h) (K .t) 0 D (bodies kept ++ rest) (K .may .sound .wide) in
         let e : getD s₁ 0 0 * wid ≡ length D * wid = ap (λ (l : List ℕ). getD l 0 0 * wid) is₁ in
         (omega (arith, e, long₁, K .may .sound .fits), K .may .within, omega (arith, c, K .may .sound .fits, K .may .small))
 
-    -- The rows that `pack_rows` keeps.
-    kept-are : keptRows (K .h) (K .t) (K .column) (K .value) (getD s₁ 0 0) 0 (drop 2 s₁) ≡ rows 0 kept
+    -- The slots that `pack_slots` keeps.
+    kept-are : stayingSlots (K .h) (K .t) (K .column) (K .value) (getD s₁ 0 0) 0 (drop 2 s₁) ≡ slots 0 kept
     kept-are =
-        (λ j. keptRows (K .h) (K .t) (K .column) (K .value) (getD (is₁ j) 0 0) 0 (drop 2 (is₁ j)))
-        ∙ kept-rows (K .h) (K .t) (K .column) (K .value) 0 0 D (bodies kept ++ rest) (K .may .within) (K .may .sound .wide)
+        (λ j. stayingSlots (K .h) (K .t) (K .column) (K .value) (getD (is₁ j) 0 0) 0 (drop 2 (is₁ j)))
+        ∙ staying-slots (K .h) (K .t) (K .column) (K .value) 0 0 D (bodies kept ++ rest) (K .may .within) (K .may .sound .wide)
 
     -- Their words.
-    length-kept : length (rows 0 kept) ≡ length kept * wid
-    length-kept = length-rows (K .h) (K .t) 0 kept (kept-wide (K .column) (K .value) (K .h) (K .t) D (K .may .sound .wide))
+    length-kept : length (slots 0 kept) ≡ length kept * wid
+    length-kept = length-slots (K .h) (K .t) 0 kept (staying-wide (K .column) (K .value) (K .h) (K .t) D (K .may .sound .wide))
 
     -- Their number.
-    pub many-kept : (m : ℕ) → m * wid ≡ length (keptRows (K .h) (K .t) (K .column) (K .value) (getD s₁ 0 0) 0 (drop 2 s₁)) → m ≡ length kept
+    pub many-kept : (m : ℕ) → m * wid ≡ length (stayingSlots (K .h) (K .t) (K .column) (K .value) (getD s₁ 0 0) 0 (drop 2 s₁)) → m ≡ length kept
     many-kept m e =
         let p : 0 < wid = omega arith in
         eq-of-mul-eq-mul-right wid p m (length kept) (e ∙ ap length kept-are ∙ length-kept)
 
     module _ (m k : ℕ) (em : m ≡ length kept) (ek : k ≡ length (bodies kept)) where
-      -- The rows and bodies that are kept.
+      -- The slots and bodies that are kept.
       abbrev both : List ℕ
-      both = rows 0 kept ++ bodies kept
+      both = slots 0 kept ++ bodies kept
 
       -- Their words, with the two counters.
       length-both : 2 + length both ≡ 2 + m * wid + k
-      length-both = omega (arith, length-append (rows 0 kept) (bodies kept), length-kept, ap (λ (j : ℕ). j * wid) em, ek)
+      length-both = omega (arith, length-append (slots 0 kept) (bodies kept), length-kept, ap (λ (j : ℕ). j * wid) em, ek)
 
-      -- The bodies that are kept move up to the rows that are kept.
-      step-3 : (s₂ s₃ : List ℕ) → s₂ ≡ pasted s₁ 2 (keptRows (K .h) (K .t) (K .column) (K .value) (getD s₁ 0 0) 0 (drop 2 s₁))
+      -- The bodies that are kept move up to the slots that are kept.
+      step-3 : (s₂ s₃ : List ℕ) → s₂ ≡ pasted s₁ 2 (stayingSlots (K .h) (K .t) (K .column) (K .value) (getD s₁ 0 0) 0 (drop 2 s₁))
           → s₃ ≡ pasted s₂ (2 + m * wid) (take k (drop (2 + K .n * wid) s₂)) → s₃ ≡ pasted s₁ 2 both
       step-3 s₂ s₃ e₂ e₃ =
           let z = kept-sizes m k em ek in
           let l : 2 ≤ length s₁ = omega (arith, long₁, z) in
-          let lr : 2 + length (rows 0 kept) ≡ 2 + m * wid = omega (arith, length-kept, ap (λ (j : ℕ). j * wid) em) in
-          let f₂ : s₂ ≡ pasted s₁ 2 (rows 0 kept) = e₂ ∙ ap (pasted s₁ 2) kept-are in
+          let lr : 2 + length (slots 0 kept) ≡ 2 + m * wid = omega (arith, length-kept, ap (λ (j : ℕ). j * wid) em) in
+          let f₂ : s₂ ≡ pasted s₁ 2 (slots 0 kept) = e₂ ∙ ap (pasted s₁ 2) kept-are in
           let at : 2 + K .n * wid ≡ 2 + length D * wid = ap (λ (j : ℕ). 2 + j * wid) n-is in
           let low : 2 + length D * wid ≤ length (K .ws) = omega (arith, K .may .sound .fits) in
           let d : drop (2 + K .n * wid) s₂ ≡ bodies kept ++ rest =
           ap (drop (2 + K .n * wid)) f₂
-          ∙ drop-pasted s₁ (rows 0 kept) 2 (2 + K .n * wid) (omega (arith, lr, z)) l
+          ∙ drop-pasted s₁ (slots 0 kept) 2 (2 + K .n * wid) (omega (arith, lr, z)) l
           ∙ (λ j. drop (at j) (e₁ j)) ∙ drop-to-pasted (K .ws) (bodies kept) (2 + length D * wid) low in
           e₃ ∙ (λ j. pasted (f₂ j) (2 + m * wid) (take k (d j)))
-          ∙ ap (pasted (pasted s₁ 2 (rows 0 kept)) (2 + m * wid)) (take-at (bodies kept) rest k (sym ek))
-          ∙ paste-paste s₁ (rows 0 kept) (bodies kept) 2 (2 + m * wid) lr l
+          ∙ ap (pasted (pasted s₁ 2 (slots 0 kept)) (2 + m * wid)) (take-at (bodies kept) rest k (sym ek))
+          ∙ paste-paste s₁ (slots 0 kept) (bodies kept) 2 (2 + m * wid) lr l
 
       -- Zeros come behind them.
       step-4 : (s₃ s₄ : List ℕ) → s₃ ≡ pasted s₁ 2 both → s₄ ≡ zeroed s₃ (2 + m * wid + k) (2 + K .n * wid + K .b)
@@ -427,14 +427,14 @@ module _ (K : Known) where
           let l : 2 ≤ length s₁ = omega (arith, long₁, z) in
           let front : take at s₃ ≡ length D ∷ (length (bodies D) ∷ both) =
           ap (take at) e₃ ∙ take-to-pasted s₁ both 2 at length-both l ∙ ap (λ (r : List ℕ). take 2 r ++ both) is₁ in
-          let e-rows : K .n * wid ≡ length D * wid = ap (λ (j : ℕ). j * wid) n-is in
+          let e-slots : K .n * wid ≡ length D * wid = ap (λ (j : ℕ). j * wid) n-is in
           let back : drop end s₃ ≡ replicate (length (K .ws) - end) 0 =
           ap (drop end) e₃
           ∙ drop-pasted s₁ both 2 end (omega (arith, length-both, z)) l
           ∙ ap (drop end) e₁
-          ∙ drop-pasted (K .ws) (bodies kept) (2 + length D * wid) end (omega (arith, e-rows, ek, z)) (omega (arith, K .may .sound .fits))
+          ∙ drop-pasted (K .ws) (bodies kept) (2 + length D * wid) end (omega (arith, e-slots, ek, z)) (omega (arith, K .may .sound .fits))
           ∙ ap (drop end) (K .may .sound .same)
-          ∙ table-zeros (K .h) (K .t) (length (K .ws)) D (K .may .sound .wide) end (omega (arith, e-rows, b-is)) in
+          ∙ table-zeros (K .h) (K .t) (length (K .ws)) D (K .may .sound .wide) end (omega (arith, e-slots, b-is)) in
           let sum : end - at + (length (K .ws) - end) ≡ length (K .ws) - at = omega (arith, z) in
           e₄ ∙ (λ j. front j ++ (replicate (end - at) 0 ++ back j))
           ∙ ap (λ (r : List ℕ). length D ∷ (length (bodies D) ∷ (both ++ r)))
@@ -450,7 +450,7 @@ module _ (K : Known) where
           ∙ (λ j. em j ∷ (ek j ∷ (both ++ replicate (length (K .ws) - n-all j) 0)))
 
       -- What `clear` leaves and answers.
-      pub clear-done : (s₂ s₃ s₄ : List ℕ) → s₂ ≡ pasted s₁ 2 (keptRows (K .h) (K .t) (K .column) (K .value) (getD s₁ 0 0) 0 (drop 2 s₁))
+      pub clear-done : (s₂ s₃ s₄ : List ℕ) → s₂ ≡ pasted s₁ 2 (stayingSlots (K .h) (K .t) (K .column) (K .value) (getD s₁ 0 0) 0 (drop 2 s₁))
           → s₃ ≡ pasted s₂ (2 + m * wid) (take k (drop (2 + K .n * wid) s₂)) → s₄ ≡ zeroed s₃ (2 + m * wid + k) (2 + K .n * wid + K .b)
           → (set (set s₄ 0 m) 1 k ≡ encode (length (K .ws)) kept) × (K .n - m + length kept ≡ length D)
       clear-done s₂ s₃ s₄ e₂ e₃ e₄ =

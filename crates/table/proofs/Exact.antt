@@ -10,43 +10,43 @@ use lib.Dec.{eqb, leb}
 use lib.ListN.{length, take, drop, getD, replicate, length-append, length-drop, length-replicate, take-append-drop}
 use lib.Seq.{take-at, drop-at, take-add, drop-drop, drop-cons, length-take-le, drop-append-add}
 use borrow.Author.Tests.{eqb-true, leb-true, eq-eqb, le-leb}
-use Rattle.table.specs.Table.{Entry, width, rows, bodies, pad, encode, Wide, decodeRows, decode, Sound, rowsOk, allZero, wellFormed}
-use Rattle.table.proofs.Tables.{length-rows, length-pad, row-head, row-start, row-count, row-tail, row-rest}
+use Rattle.table.specs.Table.{Entry, width, slots, bodies, pad, encode, Wide, decodeSlots, decode, Sound, slotsOk, allZero, wellFormed}
+use Rattle.table.proofs.Tables.{length-slots, length-pad, slot-head, slot-start, slot-count, slot-tail, slot-rest}
 use Rattle.table.proofs.Checking.{wf-zeros}
 
 -- ---- a table decodes to its entries
 
--- The rows of an entry and of others, and z behind them, without the brackets.
-pub rows-first : (o : ℕ) (e : Entry) (es : List Entry) (z : List ℕ)
-    → rows o (e ∷ es) ++ z ≡ e .head ++ (o ∷ (length (e .body) ∷ (e .tail ++ (rows (o + length (e .body)) es ++ z))))
-unfolding rows
-rows-first o e es z =
+-- The slots of an entry and of others, and z behind them, without the brackets.
+pub slots-first : (o : ℕ) (e : Entry) (es : List Entry) (z : List ℕ)
+    → slots o (e ∷ es) ++ z ≡ e .head ++ (o ∷ (length (e .body) ∷ (e .tail ++ (slots (o + length (e .body)) es ++ z))))
+unfolding slots
+slots-first o e es z =
     let k : ℕ = length (e .body) in
-    append-assoc (e .head) (o ∷ (k ∷ (e .tail ++ rows (o + k) es))) z
-    ∙ ap (λ (l : List ℕ). e .head ++ (o ∷ (k ∷ l))) (append-assoc (e .tail) (rows (o + k) es) z)
+    append-assoc (e .head) (o ∷ (k ∷ (e .tail ++ slots (o + k) es))) z
+    ∙ ap (λ (l : List ℕ). e .head ++ (o ∷ (k ∷ l))) (append-assoc (e .tail) (slots (o + k) es) z)
 
--- A row and a body, with rows u and bodies v behind them, decode to an entry and what those decode to.
-decode-row : (h t m o : ℕ) (e : Entry) (u v : List ℕ) → (length (e .head) ≡ h) × (length (e .tail) ≡ t)
-    → decodeRows h t (suc m) (e .head ++ (o ∷ (length (e .body) ∷ (e .tail ++ u)))) (e .body ++ v) ≡ e ∷ decodeRows h t m u v
-unfolding decodeRows
-decode-row h t m o e u v w =
+-- A slot and a body, with slots u and bodies v behind them, decode to an entry and what those decode to.
+decode-slot : (h t m o : ℕ) (e : Entry) (u v : List ℕ) → (length (e .head) ≡ h) × (length (e .tail) ≡ t)
+    → decodeSlots h t (suc m) (e .head ++ (o ∷ (length (e .body) ∷ (e .tail ++ u)))) (e .body ++ v) ≡ e ∷ decodeSlots h t m u v
+unfolding decodeSlots
+decode-slot h t m o e u v w =
     let k : ℕ = length (e .body) in
-    let head = row-head (e .head) (e .tail) u o k h t (w .0) (w .1) in
-    let count = row-count (e .head) (e .tail) u o k h t (w .0) (w .1) in
-    let tail = row-tail (e .head) (e .tail) u o k h t (w .0) (w .1) in
-    let rest = row-rest (e .head) (e .tail) u o k h t (w .0) (w .1) in
-    (λ i. record { head = head i; body = take (count i) (e .body ++ v); tail = tail i } ∷ decodeRows h t m (rest i) (drop (count i) (e .body ++ v)))
-    ∙ (λ i. record { head = e .head; body = take-at (e .body) v k refl i; tail = e .tail } ∷ decodeRows h t m u (drop-at (e .body) v k refl i))
+    let head = slot-head (e .head) (e .tail) u o k h t (w .0) (w .1) in
+    let count = slot-count (e .head) (e .tail) u o k h t (w .0) (w .1) in
+    let tail = slot-tail (e .head) (e .tail) u o k h t (w .0) (w .1) in
+    let rest = slot-rest (e .head) (e .tail) u o k h t (w .0) (w .1) in
+    (λ i. record { head = head i; body = take (count i) (e .body ++ v); tail = tail i } ∷ decodeSlots h t m (rest i) (drop (count i) (e .body ++ v)))
+    ∙ (λ i. record { head = e .head; body = take-at (e .body) v k refl i; tail = e .tail } ∷ decodeSlots h t m u (drop-at (e .body) v k refl i))
 
--- Rows and bodies decode to their entries, whatever stands behind each.
-decode-rows : (h t o : ℕ) (es : List Entry) (y z : List ℕ) → Wide h t es → decodeRows h t (length es) (rows o es ++ y) (bodies es ++ z) ≡ es
-unfolding decodeRows bodies Wide
-decode-rows h t o [] y z w = refl
-decode-rows h t o (e ∷ es) y z w =
+-- Slots and bodies decode to their entries, whatever stands behind each.
+decode-slots : (h t o : ℕ) (es : List Entry) (y z : List ℕ) → Wide h t es → decodeSlots h t (length es) (slots o es ++ y) (bodies es ++ z) ≡ es
+unfolding decodeSlots bodies Wide
+decode-slots h t o [] y z w = refl
+decode-slots h t o (e ∷ es) y z w =
     let k : ℕ = length (e .body) in
-    (λ i. decodeRows h t (suc (length es)) (rows-first o e es y i) (append-assoc (e .body) (bodies es) z i))
-    ∙ decode-row h t (length es) o e (rows (o + k) es ++ y) (bodies es ++ z) (w .0)
-    ∙ ap (λ (l : List Entry). e ∷ l) (decode-rows h t (o + k) es y z (w .1))
+    (λ i. decodeSlots h t (suc (length es)) (slots-first o e es y i) (append-assoc (e .body) (bodies es) z i))
+    ∙ decode-slot h t (length es) o e (slots (o + k) es ++ y) (bodies es ++ z) (w .0)
+    ∙ ap (λ (l : List Entry). e ∷ l) (decode-slots h t (o + k) es y z (w .1))
 
 module _ (h t size : ℕ) (es : List Entry) (w : Wide h t es) (fits : 2 + length es * width h t + length (bodies es) ≤ size) where
   -- A table decodes to its entries.
@@ -55,17 +55,17 @@ module _ (h t size : ℕ) (es : List Entry) (w : Wide h t es) (fits : 2 + length
   decode-encode =
       let n : ℕ = length es in
       let b : ℕ = length (bodies es) in
-      let z : List ℕ = replicate (size - suc (suc (length (rows 0 es ++ bodies es)))) 0 in
-      let p : List ℕ = n ∷ (b ∷ rows 0 es) in
-      let lp : length p ≡ 2 + n * width h t = omega (arith, length-rows h t 0 es w) in
-      let l : drop (2 + n * width h t) (n ∷ (b ∷ ((rows 0 es ++ bodies es) ++ z))) ≡ bodies es ++ z =
+      let z : List ℕ = replicate (size - suc (suc (length (slots 0 es ++ bodies es)))) 0 in
+      let p : List ℕ = n ∷ (b ∷ slots 0 es) in
+      let lp : length p ≡ 2 + n * width h t = omega (arith, length-slots h t 0 es w) in
+      let l : drop (2 + n * width h t) (n ∷ (b ∷ ((slots 0 es ++ bodies es) ++ z))) ≡ bodies es ++ z =
       rw append-assoc (drop-at p (bodies es ++ z) (2 + n * width h t) lp) in
-      rw (l, append-assoc) (decode-rows h t 0 es (bodies es ++ z) z w)
+      rw (l, append-assoc) (decode-slots h t 0 es (bodies es ++ z) z w)
 
   -- A table has the size that it is to have.
   pub length-encode : length (encode size es) ≡ size
   unfolding encode
-  length-encode = length-pad size _ (omega (arith, length-append (rows 0 es) (bodies es), length-rows h t 0 es w))
+  length-encode = length-pad size _ (omega (arith, length-append (slots 0 es) (bodies es), length-slots h t 0 es w))
 
   -- A table is sound.
   pub encode-sound : Sound h t (encode size es)
@@ -83,20 +83,20 @@ unfolding allZero
 zeros-ok zero = refl
 zeros-ok (suc n) = zeros-ok n
 
--- The rows of entries pass.
-ok-rows : (h t o b : ℕ) (es : List Entry) (y : List ℕ) → Wide h t es → o + length (bodies es) ≡ b → rowsOk h t (length es) o b (rows o es ++ y) ≡ true
-unfolding rowsOk bodies Wide
-ok-rows h t o b [] y w e = eq-eqb o b (omega arith)
-ok-rows h t o b (x ∷ es) y w e =
+-- The slots of entries pass.
+ok-slots : (h t o b : ℕ) (es : List Entry) (y : List ℕ) → Wide h t es → o + length (bodies es) ≡ b → slotsOk h t (length es) o b (slots o es ++ y) ≡ true
+unfolding slotsOk bodies Wide
+ok-slots h t o b [] y w e = eq-eqb o b (omega arith)
+ok-slots h t o b (x ∷ es) y w e =
     let k : ℕ = length (x .body) in
-    let u : List ℕ = rows (o + k) es ++ y in
+    let u : List ℕ = slots (o + k) es ++ y in
     let l : length (x .body ++ bodies es) ≡ k + length (bodies es) = length-append (x .body) (bodies es) in
-    let start = row-start (x .head) (x .tail) u o k h t (w .0 .0) (w .0 .1) in
-    let count = row-count (x .head) (x .tail) u o k h t (w .0 .0) (w .0 .1) in
-    let rest = row-rest (x .head) (x .tail) u o k h t (w .0 .0) (w .0 .1) in
-    ap (rowsOk h t (suc (length es)) o b) (rows-first o x es y)
-    ∙ (λ i. eqb (start i) o && (leb (count i) (b - o) && rowsOk h t (length es) (o + count i) b (rest i)))
-    ∙ (λ i. eq-eqb o o refl i && (le-leb k (b - o) (omega arith) i && ok-rows h t (o + k) b es y (w .1) (omega arith) i))
+    let start = slot-start (x .head) (x .tail) u o k h t (w .0 .0) (w .0 .1) in
+    let count = slot-count (x .head) (x .tail) u o k h t (w .0 .0) (w .0 .1) in
+    let rest = slot-rest (x .head) (x .tail) u o k h t (w .0 .0) (w .0 .1) in
+    ap (slotsOk h t (suc (length es)) o b) (slots-first o x es y)
+    ∙ (λ i. eqb (start i) o && (leb (count i) (b - o) && slotsOk h t (length es) (o + count i) b (rest i)))
+    ∙ (λ i. eq-eqb o o refl i && (le-leb k (b - o) (omega arith) i && ok-slots h t (o + k) b es y (w .1) (omega arith) i))
 
 -- A table passes the check.
 pub encode-passes : (h t size : ℕ) (es : List Entry) → Wide h t es
@@ -105,14 +105,14 @@ unfolding encode pad
 encode-passes h t size es w fits =
     let n : ℕ = length es in
     let b : ℕ = length (bodies es) in
-    let x : List ℕ = rows 0 es ++ bodies es in
+    let x : List ℕ = slots 0 es ++ bodies es in
     let left : ℕ = size - suc (suc (length x)) in
     let ws : List ℕ = n ∷ (b ∷ (x ++ replicate left 0)) in
     let end : ℕ = 2 + n * width h t + b in
-    let lx : length x ≡ n * width h t + b = length-append (rows 0 es) (bodies es) ∙ omega (arith, length-rows h t 0 es w) in
+    let lx : length x ≡ n * width h t + b = length-append (slots 0 es) (bodies es) ∙ omega (arith, length-slots h t 0 es w) in
     let lw : length ws ≡ size = omega (arith, length-append x (replicate left 0), length-replicate {A = ℕ} left 0) in
     let back : drop end ws ≡ replicate left 0 = drop-at (n ∷ (b ∷ x)) (replicate left 0) end (omega arith) in
-    let ok : rowsOk h t n 0 b (x ++ replicate left 0) ≡ true = rw append-assoc (ok-rows h t 0 b es (bodies es ++ replicate left 0) w (omega arith)) in
+    let ok : slotsOk h t n 0 b (x ++ replicate left 0) ≡ true = rw append-assoc (ok-slots h t 0 b es (bodies es ++ replicate left 0) w (omega arith)) in
     sym (wf-zeros h t ws n b refl refl (omega arith) (omega arith) (sym ok)) ∙ ap allZero back ∙ zeros-ok left
 
 -- Sound words pass the check.
@@ -129,10 +129,10 @@ all-zero (x ∷ xs) e =
     let p = and-eq-true-iff (eqb x 0) (allZero xs) .0 e in
     λ i. eqb-true x 0 (p .0) i ∷ all-zero xs (p .1) i
 
--- The words of a row are its head, its start, its count and its tail.
-whole-row : (xs : List ℕ) (h t : ℕ) → width h t ≤ length xs
+-- The words of a slot are its head, its start, its count and its tail.
+whole-slot : (xs : List ℕ) (h t : ℕ) → width h t ≤ length xs
     → take (width h t) xs ≡ take h xs ++ (getD xs h 0 ∷ (getD xs (h + 1) 0 ∷ take t (drop (h + 2) xs)))
-whole-row xs h t l =
+whole-slot xs h t l =
     let two : take 2 (drop h xs) ≡ getD xs h 0 ∷ (getD xs (h + 1) 0 ∷ []) =
     ap (take 2) (drop-cons xs h 0 (omega arith) ∙ ap (λ (r : List ℕ). getD xs h 0 ∷ r) (drop-cons xs (suc h) 0 (omega arith)))
     ∙ ap (λ (k : ℕ). getD xs h 0 ∷ (getD xs k 0 ∷ [])) (sym (add-one h)) in
@@ -140,24 +140,24 @@ whole-row xs h t l =
     ∙ ap (λ (r : List ℕ). r ++ take t (drop (h + 2) xs)) (take-add h 2 xs ∙ ap (λ (r : List ℕ). take h xs ++ r) two)
     ∙ append-assoc (take h xs) (getD xs h 0 ∷ (getD xs (h + 1) 0 ∷ [])) (take t (drop (h + 2) xs))
 
--- What m rows that pass decode to: entries whose rows and bodies are the words read.
+-- What m slots that pass decode to: entries whose slots and bodies are the words read.
 record Read (h t m o b : ℕ) (xs ys : List ℕ) : Type 0 where
-  wide : Wide h t (decodeRows h t m xs ys)
-  many : length (decodeRows h t m xs ys) ≡ m
-  rows-are : rows o (decodeRows h t m xs ys) ≡ take (m * width h t) xs
-  bodies-are : bodies (decodeRows h t m xs ys) ≡ take (b - o) ys
+  wide : Wide h t (decodeSlots h t m xs ys)
+  many : length (decodeSlots h t m xs ys) ≡ m
+  slots-are : slots o (decodeSlots h t m xs ys) ≡ take (m * width h t) xs
+  bodies-are : bodies (decodeSlots h t m xs ys) ≡ take (b - o) ys
 
--- Rows that pass decode so.
-read : (h t m o b : ℕ) (xs ys : List ℕ) → m * width h t ≤ length xs → b - o ≤ length ys → rowsOk h t m o b xs ≡ true → Read h t m o b xs ys
-unfolding rowsOk decodeRows rows bodies Wide
+-- Slots that pass decode so.
+read : (h t m o b : ℕ) (xs ys : List ℕ) → m * width h t ≤ length xs → b - o ≤ length ys → slotsOk h t m o b xs ≡ true → Read h t m o b xs ys
+unfolding slotsOk decodeSlots slots bodies Wide
 read h t zero o b xs ys lx ly e =
     let z : b - o ≡ 0 = omega (arith, eqb-true o b e) in
-    record { wide = tt; many = refl; rows-are = rw (zero-mul (width h t)); bodies-are = rw z }
+    record { wide = tt; many = refl; slots-are = rw (zero-mul (width h t)); bodies-are = rw z }
 read h t (suc m) o b xs ys lx ly e =
     let c : ℕ = getD xs (h + 1) 0 in
     let w : ℕ = width h t in
-    let p = and-eq-true-iff (eqb (getD xs h 0) o) (leb c (b - o) && rowsOk h t m (o + c) b (drop w xs)) .0 e in
-    let q = and-eq-true-iff (leb c (b - o)) (rowsOk h t m (o + c) b (drop w xs)) .0 (p .1) in
+    let p = and-eq-true-iff (eqb (getD xs h 0) o) (leb c (b - o) && slotsOk h t m (o + c) b (drop w xs)) .0 e in
+    let q = and-eq-true-iff (leb c (b - o)) (slotsOk h t m (o + c) b (drop w xs)) .0 (p .1) in
     let start : getD xs h 0 ≡ o = eqb-true (getD xs h 0) o (p .0) in
     let c-in : c ≤ b - o = leb-true c (b - o) (q .0) in
     let sm : suc m * width h t ≡ m * width h t + width h t = suc-mul m (width h t) in
@@ -171,7 +171,7 @@ read h t (suc m) o b xs ys lx ly e =
     record {
       wide = ((length-take-le h xs (omega arith), lt), r .wide);
       many = ap suc (r .many);
-      rows-are = rw (lc, r .rows-are, sum, take-add (width h t) (m * width h t) xs, whole-row xs h t (omega arith), start, append-assoc);
+      slots-are = rw (lc, r .slots-are, sum, take-add (width h t) (m * width h t) xs, whole-slot xs h t (omega arith), start, append-assoc);
       bodies-are = rw (r .bodies-are, left, take-add c (b - (o + c)) ys);
     }
 
@@ -185,15 +185,15 @@ passes-sound h t (n ∷ b ∷ xs) e =
     let ws : List ℕ = n ∷ (b ∷ xs) in
     let Y : List ℕ = drop N xs in
     let rest = allZero (drop (2 + N + b) ws) in
-    let ok = rowsOk h t n 0 b xs in
+    let ok = slotsOk h t n 0 b xs in
     let p₁ = and-eq-true-iff (leb 2 (length ws)) (leb (2 + N + b) (length ws) && (ok && rest)) .0 e in
     let p₂ = and-eq-true-iff (leb (2 + N + b) (length ws)) (ok && rest) .0 (p₁ .1) in
     let p₃ = and-eq-true-iff ok rest .0 (p₂ .1) in
     let fit : 2 + N + b ≤ length ws = leb-true (2 + N + b) (length ws) (p₂ .0) in
     let ly : length Y ≡ length xs - N = length-drop N xs in
     let r = read h t n 0 b xs Y (omega arith) (omega arith) (p₃ .0) in
-    let D : List Entry = decodeRows h t n xs Y in
-    let dec : decode h t ws ≡ D = ap (decodeRows h t n xs) (drop-append-add (n ∷ (b ∷ [])) xs N) in
+    let D : List Entry = decodeSlots h t n xs Y in
+    let dec : decode h t ws ≡ D = ap (decodeSlots h t n xs) (drop-append-add (n ∷ (b ∷ [])) xs N) in
     let bod : bodies D ≡ take b Y = r .bodies-are ∙ ap (λ (k : ℕ). take k Y) (sub-zero b) in
     let lt : length (take b Y) ≡ b = length-take-le b Y (omega arith) in
     let lb : length (bodies D) ≡ b = ap length bod ∙ lt in
@@ -201,7 +201,7 @@ passes-sound h t (n ∷ b ∷ xs) e =
     let lf : length front ≡ N + b = length-append (take N xs) (take b Y) ∙ rw (lt, length-take-le N xs (omega arith)) in
     let left : ℕ = length ws - length (n ∷ (b ∷ front)) in
     let enc : encode (length ws) D ≡ pad (length ws) (n ∷ (b ∷ front)) =
-    λ i. pad (length ws) (r .many i ∷ (lb i ∷ (r .rows-are i ++ bod i))) in
+    λ i. pad (length ws) (r .many i ∷ (lb i ∷ (r .slots-are i ++ bod i))) in
     let back : drop (2 + N + b) ws ≡ drop b Y =
     ap (λ (k : ℕ). drop k ws) (add-assoc 2 N b) ∙ drop-append-add (n ∷ (b ∷ [])) xs (N + b) ∙ sym (drop-drop b N xs) in
     let many : length (drop b Y) ≡ left = length-drop b Y ∙ omega arith in

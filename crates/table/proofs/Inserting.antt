@@ -7,39 +7,39 @@ use native.Mathlib.Nat.{zero-add, suc-mul}
 use native.Mathlib.Numerals.{add-one}
 use lib.ListN.{length, take, drop, set, getD, length-append, length-drop, take-append-drop}
 use lib.Seq.{length-take-le}
-use Rattle.words.specs.Words.{spliced}
-use Rattle.table.specs.Table.{Entry, width, rows, bodies, pad, encode, Wide, decode, restarted, counts, Insertable, startOf, insertAt}
-use Rattle.table.proofs.Tables.{rows-append, bodies-append, length-rows, wide-append, wide-left, wide-right}
+use Rattle.runs.specs.Words.{spliced}
+use Rattle.table.specs.Table.{Entry, width, slots, bodies, pad, encode, Wide, decode, restarted, counts, Insertable, startOf, insertAt}
+use Rattle.table.proofs.Tables.{slots-append, bodies-append, length-slots, wide-append, wide-left, wide-right}
 use Rattle.table.proofs.Tables.{pad-splice, restart-pad, counts-pad, encode-split}
 use Rattle.table.proofs.Sounds.{count-is, body-is, start-under, split-mul}
 
--- The row of an entry whose body starts at o.
-abbrev pub row : ℕ → Entry → List ℕ
-row o e = e .head ++ (o ∷ (length (e .body) ∷ e .tail))
+-- The slot of an entry whose body starts at o.
+abbrev pub slot : ℕ → Entry → List ℕ
+slot o e = e .head ++ (o ∷ (length (e .body) ∷ e .tail))
 
--- A row has the width.
-pub length-row : (h t o : ℕ) (e : Entry) → length (e .head) ≡ h → length (e .tail) ≡ t → length (row o e) ≡ width h t
-length-row h t o e lh lt = length-append (e .head) (o ∷ (length (e .body) ∷ e .tail)) ∙ omega arith
+-- A slot has the width.
+pub length-slot : (h t o : ℕ) (e : Entry) → length (e .head) ≡ h → length (e .tail) ≡ t → length (slot o e) ≡ width h t
+length-slot h t o e lh lt = length-append (e .head) (o ∷ (length (e .body) ∷ e .tail)) ∙ omega arith
 
 -- The table after the body went in.
 abbrev pub stage₁ : ℕ → List Entry → List Entry → Entry → List ℕ
 stage₁ size es fs e =
-    pad size (length (es ++ fs) ∷ (length (bodies (es ++ fs)) ∷ (rows 0 es ++ (rows (length (bodies es)) fs ++ (bodies es ++ (e .body ++ bodies fs))))))
+    pad size (length (es ++ fs) ∷ (length (bodies (es ++ fs)) ∷ (slots 0 es ++ (slots (length (bodies es)) fs ++ (bodies es ++ (e .body ++ bodies fs))))))
 
--- The table after the row went in, where the rows behind it start at q.
+-- The table after the slot went in, where the slots behind it start at q.
 abbrev pub stage₂ : ℕ → List Entry → List Entry → Entry → ℕ → List ℕ
 stage₂ size es fs e q =
     pad size (length (es ++ fs)
-    ∷ (length (bodies (es ++ fs)) ∷ ((rows 0 es ++ row (length (bodies es)) e) ++ (rows q fs ++ (bodies es ++ (e .body ++ bodies fs))))))
+    ∷ (length (bodies (es ++ fs)) ∷ ((slots 0 es ++ slot (length (bodies es)) e) ++ (slots q fs ++ (bodies es ++ (e .body ++ bodies fs))))))
 
 module _ (size h t : ℕ) (es fs : List Entry) (e : Entry) (we : Wide h t es) (wf : Wide h t fs) (lh : length (e .head) ≡ h) (lt : length (e .tail) ≡ t) where
-  -- The rows before and behind the cut have the length of all rows.
-  length-all : length (rows 0 es) + length (rows (length (bodies es)) fs) ≡ length (es ++ fs) * width h t
+  -- The slots before and behind the cut have the length of all slots.
+  length-all : length (slots 0 es) + length (slots (length (bodies es)) fs) ≡ length (es ++ fs) * width h t
   length-all =
-      sym (length-append (rows 0 es) (rows (length (bodies es)) fs))
-      ∙ ap (λ (m : ℕ). length (rows 0 es ++ rows m fs)) (sym (zero-add (length (bodies es))))
-      ∙ ap length (sym (rows-append 0 es fs))
-      ∙ length-rows h t 0 (es ++ fs) (wide-append h t es fs we wf)
+      sym (length-append (slots 0 es) (slots (length (bodies es)) fs))
+      ∙ ap (λ (m : ℕ). length (slots 0 es ++ slots m fs)) (sym (zero-add (length (bodies es))))
+      ∙ ap length (sym (slots-append 0 es fs))
+      ∙ length-slots h t 0 (es ++ fs) (wide-append h t es fs we wf)
 
   -- The bodies before and behind the cut have the length of all bodies.
   length-bodies : length (bodies (es ++ fs)) ≡ length (bodies es) + length (bodies fs)
@@ -50,68 +50,68 @@ module _ (size h t : ℕ) (es fs : List Entry) (e : Entry) (we : Wide h t es) (w
       → 2 + length (es ++ fs) * width h t + length (bodies (es ++ fs)) ≡ used → used + length (e .body) ≤ size
       → spliced (encode size (es ++ fs)) at used (e .body) ≡ stage₁ size es fs e
   insert-1 at used ea eu room =
-      let x : List ℕ = rows 0 es ++ (rows (length (bodies es)) fs ++ bodies es) in
+      let x : List ℕ = slots 0 es ++ (slots (length (bodies es)) fs ++ bodies es) in
       let p : List ℕ = length (es ++ fs) ∷ (length (bodies (es ++ fs)) ∷ x) in
       let lb = length-bodies in
       let lp : length p ≡ at = simp length-append (omega (arith, length-all)) in
-      let a : rows 0 es ++ (rows (length (bodies es)) fs ++ (bodies es ++ bodies fs)) ≡ x ++ bodies fs = simp append-assoc in
+      let a : slots 0 es ++ (slots (length (bodies es)) fs ++ (bodies es ++ bodies fs)) ≡ x ++ bodies fs = simp append-assoc in
       rw (encode-split, a) (pad-splice size p (bodies fs) (e .body) at used lp (omega arith) room ∙ (simp append-assoc))
 
-  -- The row goes in.
+  -- The slot goes in.
   insert-2 : (at used : ℕ) → 2 + length es * width h t ≡ at
       → 2 + length (es ++ fs) * width h t + length (bodies (es ++ fs)) + length (e .body) ≡ used → used + width h t ≤ size
-      → spliced (stage₁ size es fs e) at used (row (length (bodies es)) e) ≡ stage₂ size es fs e (length (bodies es))
+      → spliced (stage₁ size es fs e) at used (slot (length (bodies es)) e) ≡ stage₂ size es fs e (length (bodies es))
   insert-2 at used ea eu room =
-      let p : List ℕ = length (es ++ fs) ∷ (length (bodies (es ++ fs)) ∷ rows 0 es) in
-      let q : List ℕ = rows (length (bodies es)) fs ++ (bodies es ++ (e .body ++ bodies fs)) in
-      let r : List ℕ = row (length (bodies es)) e in
+      let p : List ℕ = length (es ++ fs) ∷ (length (bodies (es ++ fs)) ∷ slots 0 es) in
+      let q : List ℕ = slots (length (bodies es)) fs ++ (bodies es ++ (e .body ++ bodies fs)) in
+      let r : List ℕ = slot (length (bodies es)) e in
       let lb = length-bodies in
-      let lp : length p ≡ at = omega (arith, length-rows h t 0 es we) in
-      let lq : at + length q ≡ used = simp length-append (omega (arith, length-all, length-rows h t 0 es we)) in
-      let lr : length r ≡ width h t = length-row h t (length (bodies es)) e lh lt in
+      let lp : length p ≡ at = omega (arith, length-slots h t 0 es we) in
+      let lq : at + length q ≡ used = simp length-append (omega (arith, length-all, length-slots h t 0 es we)) in
+      let lr : length r ≡ width h t = length-slot h t (length (bodies es)) e lh lt in
       pad-splice size p q r at used lp lq (omega arith)
-      ∙ ap (λ (l : List ℕ). pad size (length (es ++ fs) ∷ (length (bodies (es ++ fs)) ∷ l))) (sym (append-assoc (rows 0 es) r q))
+      ∙ ap (λ (l : List ℕ). pad size (length (es ++ fs) ∷ (length (bodies (es ++ fs)) ∷ l))) (sym (append-assoc (slots 0 es) r q))
 
-  -- What stands before the rows behind the new one.
-  before-rest : (at : ℕ) → 2 + length es * width h t + width h t ≡ at → 2 + length (rows 0 es ++ row (length (bodies es)) e) ≡ at
+  -- What stands before the slots behind the new one.
+  before-rest : (at : ℕ) → 2 + length es * width h t + width h t ≡ at → 2 + length (slots 0 es ++ slot (length (bodies es)) e) ≡ at
   before-rest at ea =
       omega (
         arith,
-        length-append (rows 0 es) (row (length (bodies es)) e),
-        length-row h t (length (bodies es)) e lh lt,
-        length-rows h t 0 es we,
+        length-append (slots 0 es) (slot (length (bodies es)) e),
+        length-slot h t (length (bodies es)) e lh lt,
+        length-slots h t 0 es we,
       )
 
-  -- The starts behind the new row are counted anew.
+  -- The starts behind the new slot are counted anew.
   insert-3 : (at : ℕ) → 2 + length es * width h t + width h t ≡ at
       → take at (stage₂ size es fs e (length (bodies es)))
       ++ restarted h t (length fs) (length (bodies es) + length (e .body)) (drop at (stage₂ size es fs e (length (bodies es))))
       ≡ stage₂ size es fs e (length (bodies es) + length (e .body))
   insert-3 at ea =
       let o : ℕ = length (bodies es) in
-      restart-pad size _ _ h t o (o + length (e .body)) at (rows 0 es ++ row o e) (bodies es ++ (e .body ++ bodies fs)) fs wf (before-rest at ea)
+      restart-pad size _ _ h t o (o + length (e .body)) at (slots 0 es ++ slot o e) (bodies es ++ (e .body ++ bodies fs)) fs wf (before-rest at ea)
 
   -- The counts that this reads.
   insert-counts : (at : ℕ) → 2 + length es * width h t + width h t ≡ at
       → counts h t (length fs) (drop at (stage₂ size es fs e (length (bodies es)))) ≡ length (bodies fs)
   insert-counts at ea =
       let o : ℕ = length (bodies es) in
-      counts-pad size _ _ h t o at (rows 0 es ++ row o e) (bodies es ++ (e .body ++ bodies fs)) fs wf (before-rest at ea)
+      counts-pad size _ _ h t o at (slots 0 es ++ slot o e) (bodies es ++ (e .body ++ bodies fs)) fs wf (before-rest at ea)
 
   -- The two counters are written.
   insert-4 : (n b : ℕ) → n ≡ length (es ++ fs) + 1 → b ≡ length (bodies (es ++ fs)) + length (e .body)
       → set (set (stage₂ size es fs e (length (bodies es) + length (e .body))) 0 n) 1 b ≡ encode size (es ++ (e ∷ fs))
-  unfolding pad rows bodies
+  unfolding pad slots bodies
   insert-4 n b en eb =
       let o : ℕ = length (bodies es) in
       let k : ℕ = length (e .body) in
       let l₁ : length (es ++ (e ∷ fs)) ≡ n = length-append es (e ∷ fs) ∙ omega (arith, length-append es fs) in
       let l₂ : length (bodies (es ++ (e ∷ fs))) ≡ b =
       ap length (bodies-append es (e ∷ fs)) ∙ simp length-append (omega (arith, ap length (bodies-append es fs), length-append (bodies es) (bodies fs))) in
-      let x : (rows 0 es ++ row o e) ++ (rows (o + k) fs ++ (bodies es ++ (e .body ++ bodies fs)))
-      ≡ rows 0 es ++ (rows o (e ∷ fs) ++ (bodies es ++ bodies (e ∷ fs))) = simp append-assoc in
+      let x : (slots 0 es ++ slot o e) ++ (slots (o + k) fs ++ (bodies es ++ (e .body ++ bodies fs)))
+      ≡ slots 0 es ++ (slots o (e ∷ fs) ++ (bodies es ++ bodies (e ∷ fs))) = simp append-assoc in
       ap (λ (l : List ℕ). pad size (n ∷ (b ∷ l))) x
-      ∙ (λ j. pad size (sym l₁ j ∷ (sym l₂ j ∷ (rows 0 es ++ (rows o (e ∷ fs) ++ (bodies es ++ bodies (e ∷ fs)))))))
+      ∙ (λ j. pad size (sym l₁ j ∷ (sym l₂ j ∷ (slots 0 es ++ (slots o (e ∷ fs) ++ (bodies es ++ bodies (e ∷ fs)))))))
       ∙ sym (encode-split size es (e ∷ fs))
 
 -- ---- the same at the numbers that `insert` has in hand
@@ -140,7 +140,7 @@ pub record Numbers (w i n b start k size : ℕ) : Type 0 where
   pub small : size < 2 ^ 32
 
 module _ (K : Known) where
-  -- The width of a row.
+  -- The width of a slot.
   abbrev pub w : ℕ
   w = width (K .h) (K .t)
 
@@ -148,11 +148,11 @@ module _ (K : Known) where
   abbrev pub k : ℕ
   k = length (K .e .body)
 
-  -- Where row i is, or goes.
+  -- Where slot i is, or goes.
   abbrev pub at : ℕ
   at = 2 + K .i * w
 
-  -- Where the rows end.
+  -- Where the slots end.
   abbrev pub end : ℕ
   end = 2 + K .n * w
 
@@ -174,7 +174,7 @@ module _ (K : Known) where
   b-is : K .b ≡ length (bodies D)
   b-is = K .b-read ∙ body-is (K .h) (K .t) (K .ws) (K .may .sound)
 
-  -- So many rows.
+  -- So many slots.
   n-mul : K .n * w ≡ length D * w
   n-mul = ap (λ (m : ℕ). m * w) n-is
 
@@ -203,11 +203,11 @@ module _ (K : Known) where
   wide-fs : Wide (K .h) (K .t) F
   wide-fs = wide-right (K .h) (K .t) E F (subst (Wide (K .h) (K .t)) (sym back) (K .may .sound .wide))
 
-  -- The rows before i.
+  -- The slots before i.
   i-mul : length E * w ≡ K .i * w
   i-mul = ap (λ (m : ℕ). m * w) (length-take-le (K .i) D (K .may .within))
 
-  -- All rows, by the first counter.
+  -- All slots, by the first counter.
   all-mul : length (E ++ F) * w ≡ K .n * w
   all-mul = ap (λ (l : List Entry). length l * w) back ∙ sym n-mul
 
@@ -220,7 +220,7 @@ module _ (K : Known) where
   unfolding startOf
   o-is = sym (K .start-read)
 
-  -- The number of rows whose starts are counted anew.
+  -- The number of slots whose starts are counted anew.
   rest-is : length F ≡ K .n - K .i
   rest-is = length-drop (K .i) D ∙ ap (λ (m : ℕ). m - K .i) (sym n-is)
 
@@ -228,7 +228,7 @@ module _ (K : Known) where
   abbrev pub T₁ : List ℕ
   T₁ = stage₁ (length (K .ws)) E F (K .e)
 
-  -- The table after the row went in, where the rows behind it start at q.
+  -- The table after the slot went in, where the slots behind it start at q.
   abbrev pub T₂ : ℕ → List ℕ
   T₂ q = stage₂ (length (K .ws)) E F (K .e) q
 
@@ -239,10 +239,10 @@ module _ (K : Known) where
       ∙ insert-1 (length (K .ws)) (K .h) (K .t) E F (K .e) wide-es wide-fs (K .may .head) (K .may .tail) (end + K .start) (end + K .b)
       (omega (arith, all-mul, o-is)) (omega (arith, all-mul, all-b)) (omega (arith, nums .room))
 
-  -- The row goes in.
-  pub step-2 : (s u : List ℕ) → s ≡ T₁ → u ≡ spliced s at (end + K .b + k) (row (K .start) (K .e)) → u ≡ T₂ (K .start)
+  -- The slot goes in.
+  pub step-2 : (s u : List ℕ) → s ≡ T₁ → u ≡ spliced s at (end + K .b + k) (slot (K .start) (K .e)) → u ≡ T₂ (K .start)
   step-2 s u p e =
-      e ∙ (λ j. spliced (p j) at (end + K .b + k) (row (sym o-is j) (K .e)))
+      e ∙ (λ j. spliced (p j) at (end + K .b + k) (slot (sym o-is j) (K .e)))
       ∙ insert-2 (length (K .ws)) (K .h) (K .t) E F (K .e) wide-es wide-fs (K .may .head) (K .may .tail) at (end + K .b + k)
       (omega (arith, i-mul)) (omega (arith, all-mul, all-b)) (omega (arith, nums .room))
       ∙ ap T₂ o-is
@@ -257,7 +257,7 @@ module _ (K : Known) where
       let l : length (bodies (E ++ F)) ≡ length (bodies E) + length (bodies F) = rw (bodies-append, length-append) in
       omega (arith, c, l, all-b, o-is, nums .room, K .may .small)
 
-  -- The starts behind the new row are counted anew.
+  -- The starts behind the new slot are counted anew.
   pub step-3 : (s u : List ℕ) → s ≡ T₂ (K .start)
       → u ≡ take (at + w) s ++ restarted (K .h) (K .t) (K .n - K .i) (K .start + k) (drop (at + w) s) → u ≡ T₂ (K .start + k)
   step-3 s u p e =

@@ -1,4 +1,4 @@
--- One turn of the loop of `restart`, and the stores of `put_row`, as laws of lists. Assumes nothing.
+-- One turn of the loop of `restart`, and the stores of `put_slot`, as laws of lists. Assumes nothing.
 use mathlib.Core.Path.{_≡_, refl, sym, ap, _∙_}
 use mathlib.Core.List.{List, [], _∷_, _++_, append-assoc}
 use Prim.Native.Nat.{ℕ, zero, suc, _+_, _-_, _*_, _≤_, _<_}
@@ -7,19 +7,19 @@ use native.Mathlib.Nat.{add-assoc, suc-mul, not-suc-le-zero}
 use native.Mathlib.Numerals.{add-one}
 use lib.ListN.{length, take, drop, set, getD, length-append, length-drop, take-append-drop}
 use lib.Seq.{take-set-le, drop-set-lt, drop-set-add, drop-cons, getD-drop, length-take-le, drop-drop, take-add, set-split, take-append-add}
-use Rattle.words.specs.Words.{opened, pasted, spliced}
-use Rattle.words.proofs.Laws.{paste-paste, store-paste, splice-done, opened-long}
+use Rattle.runs.specs.Words.{opened, pasted, spliced}
+use Rattle.runs.proofs.Laws.{paste-paste, store-paste, splice-done, opened-long}
 use Rattle.table.specs.Table.{width, restarted, counts}
 
--- One row fewer.
+-- One slot fewer.
 pub peel : (m w : ℕ) → 0 < m → m * w ≡ (m - 1) * w + w
 peel m w h =
     let e : m ≡ suc (m - 1) = omega arith in
     ap (λ (k : ℕ). k * w) e ∙ suc-mul (m - 1) w
 
--- A row up to its count, with o for its start.
-row-front : (xs : List ℕ) (h o : ℕ) → h + 2 ≤ length xs → take (h + 2) (set xs h o) ≡ take h xs ++ (o ∷ (getD xs (h + 1) 0 ∷ []))
-row-front xs h o l =
+-- A slot up to its count, with o for its start.
+slot-front : (xs : List ℕ) (h o : ℕ) → h + 2 ≤ length xs → take (h + 2) (set xs h o) ≡ take h xs ++ (o ∷ (getD xs (h + 1) 0 ∷ []))
+slot-front xs h o l =
     let a : h < length xs = omega arith in
     let b : suc h < length xs = omega arith in
     let n : length (take h xs) ≡ h = length-take-le h xs (omega arith) in
@@ -28,16 +28,16 @@ row-front xs h o l =
     ∙ take-append-add (take h xs) (o ∷ drop (suc h) xs) 2
     ∙ rw (add-one, drop-cons xs (suc h) 0)
 
--- A row, with o for its start.
-pub row-set : (xs : List ℕ) (h t o : ℕ) → width h t ≤ length xs
+-- A slot, with o for its start.
+pub slot-set : (xs : List ℕ) (h t o : ℕ) → width h t ≤ length xs
     → take (width h t) (set xs h o) ≡ take h xs ++ (o ∷ (getD xs (h + 1) 0 ∷ take t (drop (h + 2) xs)))
-row-set xs h t o l =
+slot-set xs h t o l =
     let r : List ℕ = take t (drop (h + 2) xs) in
     take-add (h + 2) t (set xs h o)
-    ∙ (λ i. row-front xs h o (omega arith) i ++ take t (drop-set-lt (h + 2) xs h o (omega arith) i))
+    ∙ (λ i. slot-front xs h o (omega arith) i ++ take t (drop-set-lt (h + 2) xs h o (omega arith) i))
     ∙ append-assoc (take h xs) (o ∷ (getD xs (h + 1) 0 ∷ [])) r
 
--- The first row's start counted anew, then those of the others.
+-- The first slot's start counted anew, then those of the others.
 restarted-peel : (h t m o : ℕ) (xs : List ℕ) → 0 < m
     → restarted h t m o xs
     ≡ take h xs ++ (o ∷ (getD xs (h + 1) 0 ∷ (take t (drop (h + 2) xs) ++ restarted h t (m - 1) (o + getD xs (h + 1) 0) (drop (width h t) xs))))
@@ -47,7 +47,7 @@ restarted-peel h t (suc m) o xs l =
     let e : suc m - 1 ≡ m = omega arith in
     rw e
 
--- The first row's count, then those of the others.
+-- The first slot's count, then those of the others.
 pub counts-peel : (h t m : ℕ) (xs : List ℕ) → 0 < m → counts h t m xs ≡ getD xs (h + 1) 0 + counts h t (m - 1) (drop (width h t) xs)
 unfolding counts
 counts-peel h t zero xs l = absurd (not-suc-le-zero l)
@@ -55,15 +55,15 @@ counts-peel h t (suc m) xs l =
     let e : suc m - 1 ≡ m = omega arith in
     rw e
 
--- A row's count, read in the row and in all the words.
+-- A slot's count, read in the slot and in all the words.
 pub count-index : (s : List ℕ) (p h : ℕ) → getD (drop p s) (h + 1) 0 ≡ getD s (p + h + 1) 0
 count-index s p h = getD-drop p s (h + 1) 0 ∙ ap (λ (k : ℕ). getD s k 0) (sym (add-assoc p h 1))
 
--- What precedes a row, the row and what follows it, without the brackets.
+-- What precedes a slot, the slot and what follows it, without the brackets.
 regroup : (a b : List ℕ) (o c : ℕ) (d r : List ℕ) → (a ++ (b ++ (o ∷ (c ∷ d)))) ++ r ≡ a ++ (b ++ (o ∷ (c ∷ (d ++ r))))
 regroup a b o c d r = simp append-assoc
 
--- One row's start is written: the rest is left to do.
+-- One slot's start is written: the rest is left to do.
 pub restart-step : (s : List ℕ) (h t p m o : ℕ) → 0 < m → p + width h t ≤ length s
     → take (p + width h t) (set s (p + h) o) ++ restarted h t (m - 1) (o + getD s (p + h + 1) 0) (drop (p + width h t) (set s (p + h) o))
     ≡ take p s ++ restarted h t m o (drop p s)
@@ -76,13 +76,13 @@ restart-step s h t p m o l fits =
     let front : take (p + width h t) (set s (p + h) o) ≡ take p s ++ (take h xs ++ (o ∷ (getD xs (h + 1) 0 ∷ take t (drop (h + 2) xs)))) =
     take-add p (width h t) (set s (p + h) o)
     ∙ (λ i. take-set-le p s (p + h) o (omega arith) i ++ take (width h t) (drop-set-add p s h o i))
-    ∙ ap (λ (l : List ℕ). take p s ++ l) (row-set xs h t o long) in
+    ∙ ap (λ (l : List ℕ). take p s ++ l) (slot-set xs h t o long) in
     let rest : List ℕ = restarted h t (m - 1) (o + getD xs (h + 1) 0) (drop (width h t) xs) in
     (λ i. front i ++ restarted h t (m - 1) (o + sym c i) (back i))
     ∙ regroup (take p s) (take h xs) o (getD xs (h + 1) 0) (take t (drop (h + 2) xs)) rest
     ∙ ap (λ (l : List ℕ). take p s ++ l) (sym (restarted-peel h t m o xs l))
 
--- The counts of the rows that are left, before and after one row's start is written.
+-- The counts of the slots that are left, before and after one slot's start is written.
 pub counts-step : (s : List ℕ) (h t p m o : ℕ) → 0 < m
     → counts h t m (drop p s) ≡ getD s (p + h + 1) 0 + counts h t (m - 1) (drop (p + width h t) (set s (p + h) o))
 counts-step s h t p m o l =
@@ -90,17 +90,17 @@ counts-step s h t p m o l =
     drop-drop (width h t) p s ∙ sym (drop-set-lt (p + width h t) s (p + h) o (omega arith)) in
     counts-peel h t m (drop p s) l ∙ (λ i. count-index s p h i + counts h t (m - 1) (back i))
 
--- Where no row is left, nothing changes.
+-- Where no slot is left, nothing changes.
 pub restart-done : (s : List ℕ) (h t p m o : ℕ) → m ≤ 0 → take p s ++ restarted h t m o (drop p s) ≡ s
 unfolding restarted
 restart-done s h t p zero o l = take-append-drop p s
 restart-done s h t p (suc m) o l = absurd (not-suc-le-zero l)
 
 -- A gap that is opened and then written over with p, a, k and q.
-pub put-row-done : (s p q : List ℕ) (at used a k : ℕ) → at + (length p + 2 + length q) ≤ length s
+pub put-slot-done : (s p q : List ℕ) (at used a k : ℕ) → at + (length p + 2 + length q) ≤ length s
     → pasted (set (set (pasted (opened s at (length p + 2 + length q) used) at p) (at + length p) a) (at + length p + 1) k) (at + length p + 2) q
     ≡ spliced s at used (p ++ (a ∷ (k ∷ q)))
-put-row-done s p q at used a k room =
+put-slot-done s p q at used a k room =
     let w : ℕ = length p + 2 + length q in
     let l : List ℕ = opened s at w used in
     let long : at + w ≤ length l = opened-long s at w used room in

@@ -6,7 +6,7 @@ pub mod Removing
 pub mod Checking
 pub mod Exact
 pub mod After
-pub mod Keeping
+pub mod Staying
 pub mod Clearing
 pub mod Setting
 pub mod Typed

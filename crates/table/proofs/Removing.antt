@@ -5,23 +5,23 @@ use Prim.Native.Nat.{ℕ, suc, _+_, _-_, _*_, _≤_, _<_, _^_}
 use native.Mathlib.Omega.{arith}
 use native.Mathlib.Nat.{suc-mul, add-mul}
 use lib.ListN.{length, take, drop, set, getD, length-append, length-drop}
-use Rattle.words.specs.Words.{closed}
-use Rattle.table.specs.Table.{Entry, width, rows, bodies, pad, encode, Wide, decode, restarted, counts, Removable, startOf, removeAt}
-use Rattle.table.proofs.Tables.{bodies-append, length-rows, pad-close, restart-pad, counts-pad, encode-split}
-use Rattle.table.proofs.Sounds.{count-is, body-is, split-mul, nth, cut, start-is, row-count-is, wide-before, wide-at, before}
-use Rattle.table.proofs.Inserting.{row, length-row}
+use Rattle.runs.specs.Words.{closed}
+use Rattle.table.specs.Table.{Entry, width, slots, bodies, pad, encode, Wide, decode, restarted, counts, Removable, startOf, removeAt}
+use Rattle.table.proofs.Tables.{bodies-append, length-slots, pad-close, restart-pad, counts-pad, encode-split}
+use Rattle.table.proofs.Sounds.{count-is, body-is, split-mul, nth, cut, start-is, slot-count-is, wide-before, wide-at, before}
+use Rattle.table.proofs.Inserting.{slot, length-slot}
 
 -- The table after the body went out.
 abbrev pub out₁ : ℕ → List Entry → List Entry → Entry → List ℕ
 out₁ size es fs e =
     pad size (length (es ++ (e ∷ fs))
     ∷ (length (bodies (es ++ (e ∷ fs)))
-    ∷ (rows 0 es ++ (row (length (bodies es)) e ++ (rows (length (bodies es) + length (e .body)) fs ++ (bodies es ++ bodies fs))))))
+    ∷ (slots 0 es ++ (slot (length (bodies es)) e ++ (slots (length (bodies es) + length (e .body)) fs ++ (bodies es ++ bodies fs))))))
 
--- The table after the row went out, where the rows behind it start at q.
+-- The table after the slot went out, where the slots behind it start at q.
 abbrev pub out₂ : ℕ → List Entry → List Entry → Entry → ℕ → List ℕ
 out₂ size es fs e q =
-    pad size (length (es ++ (e ∷ fs)) ∷ (length (bodies (es ++ (e ∷ fs))) ∷ (rows 0 es ++ (rows q fs ++ (bodies es ++ bodies fs)))))
+    pad size (length (es ++ (e ∷ fs)) ∷ (length (bodies (es ++ (e ∷ fs))) ∷ (slots 0 es ++ (slots q fs ++ (bodies es ++ bodies fs)))))
 
 module _ (size h t : ℕ) (es fs : List Entry) (e : Entry) (we : Wide h t es) (wf : Wide h t fs) (lh : length (e .head) ≡ h) (lt : length (e .tail) ≡ t) where
   -- The start of the body that goes.
@@ -32,9 +32,9 @@ module _ (size h t : ℕ) (es fs : List Entry) (e : Entry) (we : Wide h t es) (w
   abbrev k : ℕ
   k = length (e .body)
 
-  -- The rows are those before, the one that goes, and those behind.
-  l-rows : length (es ++ (e ∷ fs)) * width h t ≡ length es * width h t + width h t + length fs * width h t
-  l-rows =
+  -- The slots are those before, the one that goes, and those behind.
+  l-slots : length (es ++ (e ∷ fs)) * width h t ≡ length es * width h t + width h t + length fs * width h t
+  l-slots =
       let a : length (es ++ (e ∷ fs)) ≡ suc (length es) + length fs = length-append es (e ∷ fs) ∙ omega arith in
       ap (λ (m : ℕ). m * width h t) a
       ∙ add-mul (suc (length es)) (length fs) (width h t)
@@ -49,47 +49,47 @@ module _ (size h t : ℕ) (es fs : List Entry) (e : Entry) (we : Wide h t es) (w
   remove-1 : (at used : ℕ) → 2 + length (es ++ (e ∷ fs)) * width h t + length (bodies es) ≡ at
       → 2 + length (es ++ (e ∷ fs)) * width h t + length (bodies (es ++ (e ∷ fs))) ≡ used → used ≤ size
       → closed (encode size (es ++ (e ∷ fs))) at (length (e .body)) used ≡ out₁ size es fs e
-  unfolding rows bodies
+  unfolding slots bodies
   remove-1 at used ea eu room =
-      let y : List ℕ = row o e ++ (rows (o + k) fs ++ bodies es) in
-      let x : List ℕ = rows 0 es ++ y in
+      let y : List ℕ = slot o e ++ (slots (o + k) fs ++ bodies es) in
+      let x : List ℕ = slots 0 es ++ y in
       let p : List ℕ = length (es ++ (e ∷ fs)) ∷ (length (bodies (es ++ (e ∷ fs))) ∷ x) in
       let lp : length p ≡ at =
       omega (
         arith,
-        l-rows,
-        length-append (rows 0 es) y,
-        length-append (row o e) (rows (o + k) fs ++ bodies es),
-        length-append (rows (o + k) fs) (bodies es),
-        length-row h t o e lh lt,
-        length-rows h t 0 es we,
-        length-rows h t (o + k) fs wf,
+        l-slots,
+        length-append (slots 0 es) y,
+        length-append (slot o e) (slots (o + k) fs ++ bodies es),
+        length-append (slots (o + k) fs) (bodies es),
+        length-slot h t o e lh lt,
+        length-slots h t 0 es we,
+        length-slots h t (o + k) fs wf,
       ) in
-      let a : rows 0 es ++ (rows o (e ∷ fs) ++ (bodies es ++ bodies (e ∷ fs))) ≡ x ++ (e .body ++ bodies fs) = simp append-assoc in
+      let a : slots 0 es ++ (slots o (e ∷ fs) ++ (bodies es ++ bodies (e ∷ fs))) ≡ x ++ (e .body ++ bodies fs) = simp append-assoc in
       rw (encode-split size es (e ∷ fs), a) (pad-close size p (e .body) (bodies fs) at k used lp refl (omega (arith, l-bodies)) room ∙ (simp append-assoc))
 
-  -- The row goes out.
+  -- The slot goes out.
   remove-2 : (at used : ℕ) → 2 + length es * width h t ≡ at
       → 2 + length (es ++ (e ∷ fs)) * width h t + length (bodies (es ++ (e ∷ fs))) ≡ used + length (e .body) → used ≤ size
       → closed (out₁ size es fs e) at (width h t) used ≡ out₂ size es fs e (length (bodies es) + length (e .body))
   remove-2 at used ea eu room =
-      let p : List ℕ = length (es ++ (e ∷ fs)) ∷ (length (bodies (es ++ (e ∷ fs))) ∷ rows 0 es) in
-      let q : List ℕ = rows (o + k) fs ++ (bodies es ++ bodies fs) in
-      let lp : length p ≡ at = omega (arith, length-rows h t 0 es we) in
-      let lq : at + width h t + length q ≡ used = simp length-append (omega (arith, l-rows, l-bodies, length-rows h t (o + k) fs wf)) in
-      pad-close size p (row o e) q at (width h t) used lp (length-row h t o e lh lt) lq room
+      let p : List ℕ = length (es ++ (e ∷ fs)) ∷ (length (bodies (es ++ (e ∷ fs))) ∷ slots 0 es) in
+      let q : List ℕ = slots (o + k) fs ++ (bodies es ++ bodies fs) in
+      let lp : length p ≡ at = omega (arith, length-slots h t 0 es we) in
+      let lq : at + width h t + length q ≡ used = simp length-append (omega (arith, l-slots, l-bodies, length-slots h t (o + k) fs wf)) in
+      pad-close size p (slot o e) q at (width h t) used lp (length-slot h t o e lh lt) lq room
 
   -- The starts behind it are counted anew.
   remove-3 : (at : ℕ) → 2 + length es * width h t ≡ at
       → take at (out₂ size es fs e (length (bodies es) + length (e .body)))
       ++ restarted h t (length fs) (length (bodies es)) (drop at (out₂ size es fs e (length (bodies es) + length (e .body))))
       ≡ out₂ size es fs e (length (bodies es))
-  remove-3 at ea = restart-pad size _ _ h t (o + k) o at (rows 0 es) (bodies es ++ bodies fs) fs wf (omega (arith, length-rows h t 0 es we))
+  remove-3 at ea = restart-pad size _ _ h t (o + k) o at (slots 0 es) (bodies es ++ bodies fs) fs wf (omega (arith, length-slots h t 0 es we))
 
   -- The counts that this reads.
   remove-counts : (at : ℕ) → 2 + length es * width h t ≡ at
       → counts h t (length fs) (drop at (out₂ size es fs e (length (bodies es) + length (e .body)))) ≡ length (bodies fs)
-  remove-counts at ea = counts-pad size _ _ h t (o + k) at (rows 0 es) (bodies es ++ bodies fs) fs wf (omega (arith, length-rows h t 0 es we))
+  remove-counts at ea = counts-pad size _ _ h t (o + k) at (slots 0 es) (bodies es ++ bodies fs) fs wf (omega (arith, length-slots h t 0 es we))
 
   -- The two counters are written.
   remove-4 : (n b : ℕ) → n + 1 ≡ length (es ++ (e ∷ fs)) → b + length (e .body) ≡ length (bodies (es ++ (e ∷ fs)))
@@ -98,7 +98,7 @@ module _ (size h t : ℕ) (es fs : List Entry) (e : Entry) (we : Wide h t es) (w
   remove-4 n b en eb =
       let l₁ : length (es ++ fs) ≡ n = length-append es fs ∙ omega (arith, length-append es (e ∷ fs)) in
       let l₂ : length (bodies (es ++ fs)) ≡ b = ap length (bodies-append es fs) ∙ length-append (bodies es) (bodies fs) ∙ omega (arith, l-bodies) in
-      (λ j. pad size (sym l₁ j ∷ (sym l₂ j ∷ (rows 0 es ++ (rows o fs ++ (bodies es ++ bodies fs)))))) ∙ sym (encode-split size es fs)
+      (λ j. pad size (sym l₁ j ∷ (sym l₂ j ∷ (slots 0 es ++ (slots o fs ++ (bodies es ++ bodies fs)))))) ∙ sym (encode-split size es fs)
 
 -- ---- the same at the numbers that `remove` has in hand
 
@@ -122,15 +122,15 @@ pub record Placed (w i n b size : ℕ) : Type 0 where
   pub small : size < 2 ^ 32
 
 module _ (K : Found) where
-  -- The width of a row.
+  -- The width of a slot.
   abbrev pub w : ℕ
   w = width (K .h) (K .t)
 
-  -- Where row i is, or goes.
+  -- Where slot i is, or goes.
   abbrev pub at : ℕ
   at = 2 + K .i * w
 
-  -- Where the rows end.
+  -- Where the slots end.
   abbrev pub end : ℕ
   end = 2 + K .n * w
 
@@ -180,11 +180,11 @@ module _ (K : Found) where
   wide-x : ((length (X .head) ≡ K .h) × (length (X .tail) ≡ K .t)) × Wide (K .h) (K .t) F
   wide-x = wide-at (K .h) (K .t) (K .ws) (K .may .sound) (K .i) (K .may .within)
 
-  -- The rows before i.
+  -- The slots before i.
   i-mul : length E * w ≡ K .i * w
   i-mul = ap (λ (m : ℕ). m * w) (before (K .h) (K .t) (K .ws) (K .may .sound) (K .i) (K .may .within))
 
-  -- All rows, by the first counter.
+  -- All slots, by the first counter.
   all-mul : length (E ++ (X ∷ F)) * w ≡ K .n * w
   all-mul = ap (λ (l : List Entry). length l * w) back ∙ ap (λ (m : ℕ). m * w) (sym n-is)
 
@@ -192,11 +192,11 @@ module _ (K : Found) where
   all-b : length (bodies (E ++ (X ∷ F))) ≡ K .b
   all-b = ap (λ (l : List Entry). length (bodies l)) back ∙ sym b-is
 
-  -- The number of rows whose starts are counted anew.
+  -- The number of slots whose starts are counted anew.
   rest-is : length F ≡ K .n - K .i - 1
   rest-is = length-drop (suc (K .i)) D ∙ omega (arith, n-is)
 
--- The two words of the row that `remove` reads as well.
+-- The two words of the slot that `remove` reads as well.
 pub record Known : Type 0 where
   pub of : Found
   pub start : ℕ
@@ -227,7 +227,7 @@ module _ (K : Known) where
 
   -- The count is the length of the body.
   k-is : length (it .body) ≡ K .k
-  k-is = sym (K .k-read ∙ row-count-is (K .of .h) (K .of .t) (K .of .ws) (K .of .may .sound) (K .of .i) (K .of .may .within))
+  k-is = sym (K .k-read ∙ slot-count-is (K .of .h) (K .of .t) (K .of .ws) (K .of .may .sound) (K .of .i) (K .of .may .within))
 
   -- The body lies within the bodies.
   inside : K .start + K .k ≤ K .of .b
@@ -236,7 +236,7 @@ module _ (K : Known) where
       let l = l-bodies size (K .of .h) (K .of .t) before-it after-it it (wide-es (K .of)) (x .1) (x .0 .0) (x .0 .1) in
       omega (arith, l, all-b (K .of), o-is, k-is)
 
-  -- The linear facts, with the row's two words.
+  -- The linear facts, with the slot's two words.
   pub fits : Placed (w (K .of)) (K .of .i) (K .of .n) (K .of .b) (length (K .of .ws)) × (K .start + K .k ≤ K .of .b)
   fits = (places (K .of), inside)
 
@@ -244,7 +244,7 @@ module _ (K : Known) where
   abbrev pub O₁ : List ℕ
   O₁ = out₁ size before-it after-it it
 
-  -- The table after the row went out, where the rows behind it start at q.
+  -- The table after the slot went out, where the slots behind it start at q.
   abbrev pub O₂ : ℕ → List ℕ
   O₂ q = out₂ size before-it after-it it q
 
@@ -258,7 +258,7 @@ module _ (K : Known) where
       ∙ remove-1 size (K .of .h) (K .of .t) before-it after-it it (wide-es (K .of)) (x .1) (x .0 .0) (x .0 .1) from used
       (omega (arith, all-mul (K .of), o-is)) (omega (arith, all-mul (K .of), all-b (K .of))) (places (K .of) .room)
 
-  -- The row goes out.
+  -- The slot goes out.
   pub step-2 : (s u : List ℕ) → s ≡ O₁ → u ≡ closed s (at (K .of)) (w (K .of)) (end (K .of) + K .of .b - K .k) → u ≡ O₂ (K .start + K .k)
   step-2 s u p e =
       let x = wide-x (K .of) in

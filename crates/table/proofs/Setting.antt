@@ -5,9 +5,9 @@ use Prim.Native.Nat.{ℕ, suc, _+_, _-_, _*_, _≤_, _<_}
 use native.Mathlib.Omega.{arith}
 use lib.ListN.{length, take, drop, set, replicate, length-append, length-set}
 use lib.Seq.{set-append-left, set-split}
-use Rattle.words.proofs.Laws.{set-append-add}
-use Rattle.table.specs.Table.{Entry, width, rows, bodies, pad, encode, Wide, decode, Sound}
-use Rattle.table.proofs.Tables.{bodies-append, length-rows, wide-append, encode-split}
+use Rattle.runs.proofs.Laws.{set-append-add}
+use Rattle.table.specs.Table.{Entry, width, slots, bodies, pad, encode, Wide, decode, Sound}
+use Rattle.table.proofs.Tables.{bodies-append, length-slots, wide-append, encode-split}
 use Rattle.table.proofs.Sounds.{nth, cut, wide-before, wide-at, laid, before}
 use Rattle.table.proofs.After.{holds}
 
@@ -48,18 +48,18 @@ module _ (es fs : List Entry) (e : Entry) (l : List ℕ) where
 -- A store into word j of the head of entry e.
 pub encode-set : (size h t : ℕ) (es fs : List Entry) (e : Entry) → Wide h t es → length (e .head) ≡ h → (j : ℕ) → j < h → (x : ℕ)
     → set (encode size (es ++ (e ∷ fs))) (2 + length es * width h t + j) x ≡ encode size (es ++ (withHead e (set (e .head) j x) ∷ fs))
-unfolding rows bodies
+unfolding slots bodies
 encode-set size h t es fs e w le j lj x =
     let e′ : Entry = withHead e (set (e .head) j x) in
     let o : ℕ = length (bodies es) in
     let k : ℕ = length (e .body) in
     let n : ℕ = length (es ++ (e ∷ fs)) in
     let b : ℕ = length (bodies (es ++ (e ∷ fs))) in
-    let a : List ℕ = n ∷ (b ∷ rows 0 es) in
-    let c : List ℕ = o ∷ (k ∷ (e .tail ++ rows (o + k) fs)) in
+    let a : List ℕ = n ∷ (b ∷ slots 0 es) in
+    let c : List ℕ = o ∷ (k ∷ (e .tail ++ slots (o + k) fs)) in
     let y : List ℕ = bodies es ++ (e .body ++ bodies fs) in
     let N : ℕ = 2 + length es * width h t in
-    let la : length a ≡ N = omega (arith, length-rows h t 0 es w) in
+    let la : length a ≡ N = omega (arith, length-slots h t 0 es w) in
     let ll : length (a ++ ((e .head ++ c) ++ y)) ≡ length a + (length (e .head) + length c + length y) =
     length-append a ((e .head ++ c) ++ y)
     ∙ ap (λ (m : ℕ). length a + m) (length-append (e .head ++ c) y ∙ ap (λ (m : ℕ). m + length y) (length-append (e .head) c)) in
@@ -68,7 +68,7 @@ encode-set size h t es fs e w le j lj x =
     ap (λ (r : List ℕ). set r (N + j) x) (encode-split size es (e ∷ fs))
     ∙ set-pad size (a ++ ((e .head ++ c) ++ y)) (N + j) x (omega arith)
     ∙ ap (pad size) (set-between a (e .head) c y N j x la (omega arith))
-    ∙ (λ i. pad size (same-n i ∷ (length (same-b i) ∷ (rows 0 es ++ ((e′ .head ++ c) ++ y)))))
+    ∙ (λ i. pad size (same-n i ∷ (length (same-b i) ∷ (slots 0 es ++ ((e′ .head ++ c) ++ y)))))
     ∙ sym (encode-split size es (e′ ∷ fs))
 
 -- ---- sound words

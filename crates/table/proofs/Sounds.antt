@@ -9,11 +9,11 @@ use lib.Seq.{split-at, length-take-le, take-all}
 use Rattle.table.specs.Table.{Entry, width, bodies, pad, encode, Wide, decode, Sound, startOf}
 use Rattle.table.proofs.Tables.{wide-left, wide-right, start-at, count-at, head-at, tail-at, head-part, body-at, bodies-append}
 
--- A row before others ends before they do.
+-- A slot before others ends before they do.
 pub less-mul : (i n w : ℕ) → i < n → i * w + w ≤ n * w
 less-mul i n w l = subst (λ (m : ℕ). m ≤ n * w) (suc-mul i w) (mul-le-mul-right w l)
 
--- The rows before row i and those from it on are all rows.
+-- The slots before slot i and those from it on are all slots.
 pub split-mul : (i n w : ℕ) → i ≤ n → i * w + (n - i) * w ≡ n * w
 split-mul i n w l =
     let e : i + (n - i) ≡ n = omega arith in
@@ -64,9 +64,9 @@ module _ (h t : ℕ) (ws : List ℕ) (s : Sound h t ws) where
   start-last i l = body-is ∙ ap (λ (d : List Entry). length (bodies d)) (sym (take-all i (decode h t ws) l))
 
   module _ (i : ℕ) (l : i < length (decode h t ws)) where
-    -- The row of an entry is there.
-    pub in-row : 2 + i * width h t + width h t ≤ length ws
-    in-row = omega (arith, s .fits, less-mul i (length (decode h t ws)) (width h t) l)
+    -- The slot of an entry is there.
+    pub in-slot : 2 + i * width h t + width h t ≤ length ws
+    in-slot = omega (arith, s .fits, less-mul i (length (decode h t ws)) (width h t) l)
 
     -- The widths, of the entries as they are cut.
     pub wides : Wide h t (parts i (decode h t ws))
@@ -89,7 +89,7 @@ module _ (h t : ℕ) (ws : List ℕ) (s : Sound h t ws) where
     pub before : length (take i (decode h t ws)) ≡ i
     before = length-take-le i (decode h t ws) (omega arith)
 
-    -- A row's start is where its entry's body starts.
+    -- A slot's start is where its entry's body starts.
     pub start-is : getD ws (2 + i * width h t + h) 0 ≡ startOf i (decode h t ws)
     unfolding startOf
     start-is =
@@ -97,21 +97,21 @@ module _ (h t : ℕ) (ws : List ℕ) (s : Sound h t ws) where
         (λ q. getD (laid q) (2 + sym before q * width h t + h) 0)
         ∙ start-at (length ws) h t (take i D) (drop (suc i) D) (nth i D) wide-before (wide-at .0 .0)
 
-    -- A row's count is the length of its entry's body.
-    pub row-count-is : getD ws (2 + i * width h t + h + 1) 0 ≡ length (nth i (decode h t ws) .body)
-    row-count-is =
+    -- A slot's count is the length of its entry's body.
+    pub slot-count-is : getD ws (2 + i * width h t + h + 1) 0 ≡ length (nth i (decode h t ws) .body)
+    slot-count-is =
         let D : List Entry = decode h t ws in
         (λ q. getD (laid q) (2 + sym before q * width h t + h + 1) 0)
         ∙ count-at (length ws) h t (take i D) (drop (suc i) D) (nth i D) wide-before (wide-at .0 .0)
 
-    -- Word j of a row is word j of its entry's head.
+    -- Word j of a slot is word j of its entry's head.
     pub head-is : (j : ℕ) → j < h → getD ws (2 + i * width h t + j) 0 ≡ getD (nth i (decode h t ws) .head) j 0
     head-is j jh =
         let D : List Entry = decode h t ws in
         (λ q. getD (laid q) (2 + sym before q * width h t + j) 0)
         ∙ head-at (length ws) h t (take i D) (drop (suc i) D) (nth i D) wide-before (wide-at .0 .0) j jh
 
-    -- Word j behind a row's count is word j of its entry's tail.
+    -- Word j behind a slot's count is word j of its entry's tail.
     pub tail-is : (j : ℕ) → j < t → getD ws (2 + i * width h t + h + 2 + j) 0 ≡ getD (nth i (decode h t ws) .tail) j 0
     tail-is j jt =
         let D : List Entry = decode h t ws in

@@ -1,4 +1,4 @@
--- Laws of rows, bodies and `encode`, with the entries cut in two where the work is done. Assumes nothing.
+-- Laws of slots, bodies and `encode`, with the entries cut in two where the work is done. Assumes nothing.
 use mathlib.Core.Path.{_≡_, refl, sym, ap, _∙_}
 use mathlib.Core.List.{List, [], _∷_, _++_, append-assoc}
 use Prim.Native.Nat.{ℕ, suc, _+_, _-_, _*_, _≤_, _<_}
@@ -6,25 +6,25 @@ use native.Mathlib.Omega.{arith}
 use native.Mathlib.Nat.{add-zero, zero-add, add-assoc, suc-mul, zero-mul}
 use lib.ListN.{length, take, drop, getD, replicate, length-append, length-replicate, replicate-append-replicate, List·getD-append}
 use lib.Seq.{take-at, drop-at, drop-drop, drop-append-add, getD-append-add, getD-at, take-append-seam}
-use Rattle.words.specs.Words.{spliced, closed}
-use Rattle.table.specs.Table.{Entry, width, rows, bodies, pad, encode, Wide, restarted, counts}
+use Rattle.runs.specs.Words.{spliced, closed}
+use Rattle.table.specs.Table.{Entry, width, slots, bodies, pad, encode, Wide, restarted, counts}
 
--- ---- rows and bodies
+-- ---- slots and bodies
 
--- A row before others and what follows them, without the brackets.
-row-assoc : (p : List ℕ) (a k : ℕ) (q r z : List ℕ) → (p ++ (a ∷ (k ∷ (q ++ r)))) ++ z ≡ p ++ (a ∷ (k ∷ (q ++ (r ++ z))))
-row-assoc p a k q r z = simp append-assoc
+-- A slot before others and what follows them, without the brackets.
+slot-assoc : (p : List ℕ) (a k : ℕ) (q r z : List ℕ) → (p ++ (a ∷ (k ∷ (q ++ r)))) ++ z ≡ p ++ (a ∷ (k ∷ (q ++ (r ++ z))))
+slot-assoc p a k q r z = simp append-assoc
 
--- The rows of two lists of entries follow each other; the second starts where the bodies of the first end.
-pub rows-append : (o : ℕ) (es fs : List Entry) → rows o (es ++ fs) ≡ rows o es ++ rows (o + length (bodies es)) fs
-unfolding rows bodies
-rows-append o [] fs = ap (λ (k : ℕ). rows k fs) (sym (add-zero o))
-rows-append o (e ∷ es) fs =
+-- The slots of two lists of entries follow each other; the second starts where the bodies of the first end.
+pub slots-append : (o : ℕ) (es fs : List Entry) → slots o (es ++ fs) ≡ slots o es ++ slots (o + length (bodies es)) fs
+unfolding slots bodies
+slots-append o [] fs = ap (λ (k : ℕ). slots k fs) (sym (add-zero o))
+slots-append o (e ∷ es) fs =
     let k : ℕ = length (e .body) in
     let n : o + k + length (bodies es) ≡ o + length (e .body ++ bodies es) =
     add-assoc o k (length (bodies es)) ∙ ap (λ (m : ℕ). o + m) (sym (length-append (e .body) (bodies es))) in
-    ap (λ (l : List ℕ). e .head ++ (o ∷ (k ∷ (e .tail ++ l)))) (rows-append (o + k) es fs ∙ ap (λ (m : ℕ). rows (o + k) es ++ rows m fs) n)
-    ∙ sym (row-assoc (e .head) o k (e .tail) (rows (o + k) es) (rows (o + length (e .body ++ bodies es)) fs))
+    ap (λ (l : List ℕ). e .head ++ (o ∷ (k ∷ (e .tail ++ l)))) (slots-append (o + k) es fs ∙ ap (λ (m : ℕ). slots (o + k) es ++ slots m fs) n)
+    ∙ sym (slot-assoc (e .head) o k (e .tail) (slots (o + k) es) (slots (o + length (e .body ++ bodies es)) fs))
 
 -- The bodies of two lists of entries follow each other.
 pub bodies-append : (es fs : List Entry) → bodies (es ++ fs) ≡ bodies es ++ bodies fs
@@ -32,13 +32,13 @@ unfolding bodies
 bodies-append [] fs = refl
 bodies-append (e ∷ es) fs = ap (λ (l : List ℕ). e .body ++ l) (bodies-append es fs) ∙ sym (append-assoc (e .body) (bodies es) (bodies fs))
 
--- Every row has the same width.
-pub length-rows : (h t o : ℕ) (es : List Entry) → Wide h t es → length (rows o es) ≡ length es * width h t
-unfolding rows Wide
-length-rows h t o [] w = sym (zero-mul (width h t))
-length-rows h t o (e ∷ es) w =
-    let ih = length-rows h t (o + length (e .body)) es (w .1) in
-    length-append (e .head) _ ∙ omega (arith, ih, w .0, length-append (e .tail) (rows (o + length (e .body)) es), suc-mul (length es) (width h t))
+-- Every slot has the same width.
+pub length-slots : (h t o : ℕ) (es : List Entry) → Wide h t es → length (slots o es) ≡ length es * width h t
+unfolding slots Wide
+length-slots h t o [] w = sym (zero-mul (width h t))
+length-slots h t o (e ∷ es) w =
+    let ih = length-slots h t (o + length (e .body)) es (w .1) in
+    length-append (e .head) _ ∙ omega (arith, ih, w .0, length-append (e .tail) (slots (o + length (e .body)) es), suc-mul (length es) (width h t))
 
 -- Two lists with heads and tails of the right lengths make one.
 pub wide-append : (h t : ℕ) (es fs : List Entry) → Wide h t es → Wide h t fs → Wide h t (es ++ fs)
@@ -110,77 +110,77 @@ pad-close size p x q at k used lp lx lq room =
     ∙ ap (λ (l : List ℕ). p ++ (q ++ l)) (replicate-append-replicate k n 0 ∙ ap (λ (m : ℕ). replicate {A = ℕ} m 0) left)
     ∙ sym (append-assoc p q (replicate (size - length (p ++ q)) 0))
 
--- ---- one row: p, a, k, q, and u behind it
+-- ---- one slot: p, a, k, q, and u behind it
 
 module _ (p q u : List ℕ) (a k h t : ℕ) (lp : length p ≡ h) (lq : length q ≡ t) where
   -- What stands behind the count.
-  row-on : drop (h + 2) (p ++ (a ∷ (k ∷ (q ++ u)))) ≡ q ++ u
-  row-on = ap (λ (n : ℕ). drop (n + 2) (p ++ (a ∷ (k ∷ (q ++ u))))) (sym lp) ∙ drop-append-add p (a ∷ (k ∷ (q ++ u))) 2
+  slot-on : drop (h + 2) (p ++ (a ∷ (k ∷ (q ++ u)))) ≡ q ++ u
+  slot-on = ap (λ (n : ℕ). drop (n + 2) (p ++ (a ∷ (k ∷ (q ++ u))))) (sym lp) ∙ drop-append-add p (a ∷ (k ∷ (q ++ u))) 2
 
-  -- The row's head.
-  pub row-head : take h (p ++ (a ∷ (k ∷ (q ++ u)))) ≡ p
-  row-head = take-at p (a ∷ (k ∷ (q ++ u))) h lp
+  -- The slot's head.
+  pub slot-head : take h (p ++ (a ∷ (k ∷ (q ++ u)))) ≡ p
+  slot-head = take-at p (a ∷ (k ∷ (q ++ u))) h lp
 
-  -- The row's start.
-  pub row-start : getD (p ++ (a ∷ (k ∷ (q ++ u)))) h 0 ≡ a
-  row-start = getD-at p a (k ∷ (q ++ u)) 0 h lp
+  -- The slot's start.
+  pub slot-start : getD (p ++ (a ∷ (k ∷ (q ++ u)))) h 0 ≡ a
+  slot-start = getD-at p a (k ∷ (q ++ u)) 0 h lp
 
-  -- The row's count.
-  pub row-count : getD (p ++ (a ∷ (k ∷ (q ++ u)))) (h + 1) 0 ≡ k
-  row-count = ap (λ (n : ℕ). getD (p ++ (a ∷ (k ∷ (q ++ u)))) (n + 1) 0) (sym lp) ∙ getD-append-add p (a ∷ (k ∷ (q ++ u))) 1 0
+  -- The slot's count.
+  pub slot-count : getD (p ++ (a ∷ (k ∷ (q ++ u)))) (h + 1) 0 ≡ k
+  slot-count = ap (λ (n : ℕ). getD (p ++ (a ∷ (k ∷ (q ++ u)))) (n + 1) 0) (sym lp) ∙ getD-append-add p (a ∷ (k ∷ (q ++ u))) 1 0
 
-  -- The row's tail.
-  pub row-tail : take t (drop (h + 2) (p ++ (a ∷ (k ∷ (q ++ u))))) ≡ q
-  row-tail = ap (take t) row-on ∙ take-at q u t lq
+  -- The slot's tail.
+  pub slot-tail : take t (drop (h + 2) (p ++ (a ∷ (k ∷ (q ++ u))))) ≡ q
+  slot-tail = ap (take t) slot-on ∙ take-at q u t lq
 
-  -- What stands behind the row.
-  pub row-rest : drop (width h t) (p ++ (a ∷ (k ∷ (q ++ u)))) ≡ u
-  row-rest = sym (drop-drop t (h + 2) (p ++ (a ∷ (k ∷ (q ++ u))))) ∙ ap (drop t) row-on ∙ drop-at q u t lq
+  -- What stands behind the slot.
+  pub slot-rest : drop (width h t) (p ++ (a ∷ (k ∷ (q ++ u)))) ≡ u
+  slot-rest = sym (drop-drop t (h + 2) (p ++ (a ∷ (k ∷ (q ++ u))))) ∙ ap (drop t) slot-on ∙ drop-at q u t lq
 
-  -- One row with its start counted anew.
-  restarted-row : (m o : ℕ) → restarted h t (suc m) o (p ++ (a ∷ (k ∷ (q ++ u)))) ≡ p ++ (o ∷ (k ∷ (q ++ restarted h t m (o + k) u)))
+  -- One slot with its start counted anew.
+  restarted-slot : (m o : ℕ) → restarted h t (suc m) o (p ++ (a ∷ (k ∷ (q ++ u)))) ≡ p ++ (o ∷ (k ∷ (q ++ restarted h t m (o + k) u)))
   unfolding restarted
-  restarted-row m o = λ i. row-head i ++ (o ∷ (row-count i ∷ (row-tail i ++ restarted h t m (o + row-count i) (row-rest i))))
+  restarted-slot m o = λ i. slot-head i ++ (o ∷ (slot-count i ∷ (slot-tail i ++ restarted h t m (o + slot-count i) (slot-rest i))))
 
-  -- One row's count.
-  counts-row : (m : ℕ) → counts h t (suc m) (p ++ (a ∷ (k ∷ (q ++ u)))) ≡ k + counts h t m u
+  -- One slot's count.
+  counts-slot : (m : ℕ) → counts h t (suc m) (p ++ (a ∷ (k ∷ (q ++ u)))) ≡ k + counts h t m u
   unfolding counts
-  counts-row m = λ i. row-count i + counts h t m (row-rest i)
+  counts-slot m = λ i. slot-count i + counts h t m (slot-rest i)
 
 -- ---- starts
 
--- Rows with their starts counted anew are the rows from the new start.
-pub restarted-rows : (h t o q : ℕ) (es : List Entry) (z : List ℕ) → Wide h t es → restarted h t (length es) o (rows q es ++ z) ≡ rows o es ++ z
-unfolding restarted rows Wide
-restarted-rows h t o q [] z w = refl
-restarted-rows h t o q (e ∷ es) z w =
+-- Slots with their starts counted anew are the slots from the new start.
+pub restarted-slots : (h t o q : ℕ) (es : List Entry) (z : List ℕ) → Wide h t es → restarted h t (length es) o (slots q es ++ z) ≡ slots o es ++ z
+unfolding restarted slots Wide
+restarted-slots h t o q [] z w = refl
+restarted-slots h t o q (e ∷ es) z w =
     let k : ℕ = length (e .body) in
-    let u : List ℕ = rows (q + k) es ++ z in
-    ap (restarted h t (suc (length es)) o) (row-assoc (e .head) q k (e .tail) (rows (q + k) es) z)
-    ∙ restarted-row (e .head) (e .tail) u q k h t (w .0 .0) (w .0 .1) (length es) o
-    ∙ ap (λ (l : List ℕ). e .head ++ (o ∷ (k ∷ (e .tail ++ l)))) (restarted-rows h t (o + k) (q + k) es z (w .1))
-    ∙ sym (row-assoc (e .head) o k (e .tail) (rows (o + k) es) z)
+    let u : List ℕ = slots (q + k) es ++ z in
+    ap (restarted h t (suc (length es)) o) (slot-assoc (e .head) q k (e .tail) (slots (q + k) es) z)
+    ∙ restarted-slot (e .head) (e .tail) u q k h t (w .0 .0) (w .0 .1) (length es) o
+    ∙ ap (λ (l : List ℕ). e .head ++ (o ∷ (k ∷ (e .tail ++ l)))) (restarted-slots h t (o + k) (q + k) es z (w .1))
+    ∙ sym (slot-assoc (e .head) o k (e .tail) (slots (o + k) es) z)
 
--- The counts of rows add up to the length of the bodies.
-pub counts-rows : (h t q : ℕ) (es : List Entry) (z : List ℕ) → Wide h t es → counts h t (length es) (rows q es ++ z) ≡ length (bodies es)
-unfolding counts rows bodies Wide
-counts-rows h t q [] z w = refl
-counts-rows h t q (e ∷ es) z w =
+-- The counts of slots add up to the length of the bodies.
+pub counts-slots : (h t q : ℕ) (es : List Entry) (z : List ℕ) → Wide h t es → counts h t (length es) (slots q es ++ z) ≡ length (bodies es)
+unfolding counts slots bodies Wide
+counts-slots h t q [] z w = refl
+counts-slots h t q (e ∷ es) z w =
     let k : ℕ = length (e .body) in
-    let u : List ℕ = rows (q + k) es ++ z in
-    ap (counts h t (suc (length es))) (row-assoc (e .head) q k (e .tail) (rows (q + k) es) z)
-    ∙ counts-row (e .head) (e .tail) u q k h t (w .0 .0) (w .0 .1) (length es)
-    ∙ ap (λ (m : ℕ). k + m) (counts-rows h t (q + k) es z (w .1))
+    let u : List ℕ = slots (q + k) es ++ z in
+    ap (counts h t (suc (length es))) (slot-assoc (e .head) q k (e .tail) (slots (q + k) es) z)
+    ∙ counts-slot (e .head) (e .tail) u q k h t (w .0 .0) (w .0 .1) (length es)
+    ∙ ap (λ (m : ℕ). k + m) (counts-slots h t (q + k) es z (w .1))
     ∙ sym (length-append (e .body) (bodies es))
 
 -- ---- a table, cut in two at an entry
 
--- A table is the entries before the cut, then those behind it: first all rows, then all bodies.
+-- A table is the entries before the cut, then those behind it: first all slots, then all bodies.
 pub encode-split : (size : ℕ) (es fs : List Entry)
     → encode size (es ++ fs)
-    ≡ pad size (length (es ++ fs) ∷ (length (bodies (es ++ fs)) ∷ (rows 0 es ++ (rows (length (bodies es)) fs ++ (bodies es ++ bodies fs)))))
+    ≡ pad size (length (es ++ fs) ∷ (length (bodies (es ++ fs)) ∷ (slots 0 es ++ (slots (length (bodies es)) fs ++ (bodies es ++ bodies fs)))))
 unfolding encode
-encode-split size es fs = rw (rows-append, bodies-append es fs, zero-add, append-assoc)
+encode-split size es fs = rw (slots-append, bodies-append es fs, zero-add, append-assoc)
 
 -- A padded table in three parts, with the number of its zeros.
 pub pad-form : (size n b : ℕ) (x y z : List ℕ)
@@ -190,108 +190,108 @@ pad-form size n b x y z =
     let e : suc (suc (length (x ++ (y ++ z)))) ≡ 2 + length x + length y + length z = simp length-append (omega arith) in
     rw (append-assoc, append-assoc y z, e)
 
--- What `restart` makes of a table from the row behind x on.
+-- What `restart` makes of a table from the slot behind x on.
 pub restart-pad : (size n b h t q o at : ℕ) (x z : List ℕ) (es : List Entry) → Wide h t es → 2 + length x ≡ at
-    → take at (pad size (n ∷ (b ∷ (x ++ (rows q es ++ z)))))
-    ++ restarted h t (length es) o (drop at (pad size (n ∷ (b ∷ (x ++ (rows q es ++ z))))))
-    ≡ pad size (n ∷ (b ∷ (x ++ (rows o es ++ z))))
+    → take at (pad size (n ∷ (b ∷ (x ++ (slots q es ++ z)))))
+    ++ restarted h t (length es) o (drop at (pad size (n ∷ (b ∷ (x ++ (slots q es ++ z))))))
+    ≡ pad size (n ∷ (b ∷ (x ++ (slots o es ++ z))))
 restart-pad size n b h t q o at x z es w l =
     let p : List ℕ = n ∷ (b ∷ x) in
     let lp : length p ≡ at = omega arith in
-    let zeros : List ℕ = replicate (size - (2 + length x + length (rows q es) + length z)) 0 in
-    let u : List ℕ = rows q es ++ (z ++ zeros) in
-    let same : length (rows q es) ≡ length (rows o es) = length-rows h t q es w ∙ sym (length-rows h t o es w) in
-    (λ i. take at (pad-form size n b x (rows q es) z i) ++ restarted h t (length es) o (drop at (pad-form size n b x (rows q es) z i)))
+    let zeros : List ℕ = replicate (size - (2 + length x + length (slots q es) + length z)) 0 in
+    let u : List ℕ = slots q es ++ (z ++ zeros) in
+    let same : length (slots q es) ≡ length (slots o es) = length-slots h t q es w ∙ sym (length-slots h t o es w) in
+    (λ i. take at (pad-form size n b x (slots q es) z i) ++ restarted h t (length es) o (drop at (pad-form size n b x (slots q es) z i)))
     ∙ (λ i. take-at p u at lp i ++ restarted h t (length es) o (drop-at p u at lp i))
-    ∙ ap (λ (r : List ℕ). p ++ r) (restarted-rows h t o q es (z ++ zeros) w)
-    ∙ ap (λ (m : ℕ). p ++ (rows o es ++ (z ++ replicate (size - (2 + length x + m + length z)) 0))) same
-    ∙ sym (pad-form size n b x (rows o es) z)
+    ∙ ap (λ (r : List ℕ). p ++ r) (restarted-slots h t o q es (z ++ zeros) w)
+    ∙ ap (λ (m : ℕ). p ++ (slots o es ++ (z ++ replicate (size - (2 + length x + m + length z)) 0))) same
+    ∙ sym (pad-form size n b x (slots o es) z)
 
 -- The counts that `restart` reads there.
 pub counts-pad : (size n b h t q at : ℕ) (x z : List ℕ) (es : List Entry) → Wide h t es → 2 + length x ≡ at
-    → counts h t (length es) (drop at (pad size (n ∷ (b ∷ (x ++ (rows q es ++ z)))))) ≡ length (bodies es)
+    → counts h t (length es) (drop at (pad size (n ∷ (b ∷ (x ++ (slots q es ++ z)))))) ≡ length (bodies es)
 counts-pad size n b h t q at x z es w l =
     let p : List ℕ = n ∷ (b ∷ x) in
     let lp : length p ≡ at = omega arith in
-    let u : List ℕ = z ++ replicate (size - (2 + length x + length (rows q es) + length z)) 0 in
-    rw (pad-form size n b x (rows q es) z, drop-at p (rows q es ++ u) at lp, counts-rows h t q es u w)
+    let u : List ℕ = z ++ replicate (size - (2 + length x + length (slots q es) + length z)) 0 in
+    rw (pad-form size n b x (slots q es) z, drop-at p (slots q es ++ u) at lp, counts-slots h t q es u w)
 
 -- ---- one entry's words
 
 -- A table up to the head of entry e.
 abbrev front : List Entry → List Entry → Entry → List ℕ
-front es fs e = length (es ++ (e ∷ fs)) ∷ (length (bodies (es ++ (e ∷ fs))) ∷ (rows 0 es ++ e .head))
+front es fs e = length (es ++ (e ∷ fs)) ∷ (length (bodies (es ++ (e ∷ fs))) ∷ (slots 0 es ++ e .head))
 
 -- A table from the head of entry e on.
 encode-at : (size : ℕ) (es fs : List Entry) (e : Entry)
     → (rest : List ℕ) × (encode size (es ++ (e ∷ fs)) ≡ front es fs e ++ (length (bodies es) ∷ (length (e .body) ∷ (e .tail ++ rest))))
-unfolding rows pad
+unfolding slots pad
 encode-at size es fs e =
     let o : ℕ = length (bodies es) in
     let all : List Entry = es ++ (e ∷ fs) in
     let k : ℕ = length (e .body) in
     let ys : List ℕ = bodies es ++ bodies (e ∷ fs) in
-    (_, encode-split size es (e ∷ fs) ∙ laid (length all) (length (bodies all)) (rows 0 es) (e .head) o k (e .tail) (rows (o + k) fs) ys _)
+    (_, encode-split size es (e ∷ fs) ∙ laid (length all) (length (bodies all)) (slots 0 es) (e .head) o k (e .tail) (slots (o + k) fs) ys _)
   where
     laid : (n b : ℕ) (x p : List ℕ) (o k : ℕ) (q r y z : List ℕ)
         → (n ∷ (b ∷ (x ++ ((p ++ (o ∷ (k ∷ (q ++ r)))) ++ y)))) ++ z ≡ (n ∷ (b ∷ (x ++ p))) ++ (o ∷ (k ∷ (q ++ (r ++ (y ++ z)))))
     laid n b x p o k q r y z = simp append-assoc
 
--- What stands in the row of entry e.
+-- What stands in the slot of entry e.
 module _ (size h t : ℕ) (es fs : List Entry) (e : Entry) (w : Wide h t es) (l : length (e .head) ≡ h) where
   -- A table behind the head of entry e.
   abbrev behind : List ℕ
   behind = length (bodies es) ∷ (length (e .body) ∷ (e .tail ++ encode-at size es fs e .0))
 
   -- Where the start of entry e stands.
-  before-row : length (front es fs e) ≡ 2 + length es * width h t + h
-  before-row = omega (arith, length-append (rows 0 es) (e .head), length-rows h t 0 es w)
+  before-slot : length (front es fs e) ≡ 2 + length es * width h t + h
+  before-slot = omega (arith, length-append (slots 0 es) (e .head), length-slots h t 0 es w)
 
   -- The start.
   pub start-at : getD (encode size (es ++ (e ∷ fs))) (2 + length es * width h t + h) 0 ≡ length (bodies es)
   start-at =
       ap (λ (x : List ℕ). getD x (2 + length es * width h t + h) 0) (encode-at size es fs e .1)
-      ∙ getD-at (front es fs e) (length (bodies es)) (length (e .body) ∷ (e .tail ++ encode-at size es fs e .0)) 0 (2 + length es * width h t + h) before-row
+      ∙ getD-at (front es fs e) (length (bodies es)) (length (e .body) ∷ (e .tail ++ encode-at size es fs e .0)) 0 (2 + length es * width h t + h) before-slot
 
   -- The count.
   pub count-at : getD (encode size (es ++ (e ∷ fs))) (2 + length es * width h t + h + 1) 0 ≡ length (e .body)
   count-at =
       ap (λ (x : List ℕ). getD x (2 + length es * width h t + h + 1) 0) (encode-at size es fs e .1)
-      ∙ ap (λ (n : ℕ). getD (front es fs e ++ behind) (n + 1) 0) (sym before-row)
+      ∙ ap (λ (n : ℕ). getD (front es fs e ++ behind) (n + 1) 0) (sym before-slot)
       ∙ getD-append-add (front es fs e) behind 1 0
 
   -- Word j of the tail.
   pub tail-at : (j : ℕ) → j < length (e .tail) → getD (encode size (es ++ (e ∷ fs))) (2 + length es * width h t + h + 2 + j) 0 ≡ getD (e .tail) j 0
   tail-at j jt =
-      let n : 2 + length es * width h t + h + 2 + j ≡ length (front es fs e) + suc (suc j) = omega (arith, before-row) in
+      let n : 2 + length es * width h t + h + 2 + j ≡ length (front es fs e) + suc (suc j) = omega (arith, before-slot) in
       (λ i. getD (encode-at size es fs e .1 i) (n i) 0)
       ∙ getD-append-add (front es fs e) behind (suc (suc j)) 0
       ∙ List·getD-append (e .tail) (encode-at size es fs e .0) 0 j jt
 
-  -- A table up to the row of entry e.
+  -- A table up to the slot of entry e.
   abbrev above : List ℕ
-  above = length (es ++ (e ∷ fs)) ∷ (length (bodies (es ++ (e ∷ fs))) ∷ rows 0 es)
+  above = length (es ++ (e ∷ fs)) ∷ (length (bodies (es ++ (e ∷ fs))) ∷ slots 0 es)
 
-  -- Where the row of entry e stands.
-  above-row : length above ≡ 2 + length es * width h t
-  above-row = omega (arith, length-rows h t 0 es w)
+  -- Where the slot of entry e stands.
+  above-slot : length above ≡ 2 + length es * width h t
+  above-slot = omega (arith, length-slots h t 0 es w)
 
-  -- A table from the row of entry e on.
-  encode-row : encode size (es ++ (e ∷ fs)) ≡ above ++ (e .head ++ behind)
-  encode-row = encode-at size es fs e .1 ∙ append-assoc above (e .head) behind
+  -- A table from the slot of entry e on.
+  encode-slot : encode size (es ++ (e ∷ fs)) ≡ above ++ (e .head ++ behind)
+  encode-slot = encode-at size es fs e .1 ∙ append-assoc above (e .head) behind
 
   -- Word j of the head.
   pub head-at : (j : ℕ) → j < h → getD (encode size (es ++ (e ∷ fs))) (2 + length es * width h t + j) 0 ≡ getD (e .head) j 0
   head-at j jh =
-      (λ i. getD (encode-row i) (sym above-row i + j) 0)
+      (λ i. getD (encode-slot i) (sym above-slot i + j) 0)
       ∙ getD-append-add above (e .head ++ behind) j 0
       ∙ List·getD-append (e .head) behind 0 j (omega arith)
 
   -- The head itself.
   pub head-part : take h (drop (2 + length es * width h t) (encode size (es ++ (e ∷ fs)))) ≡ e .head
   head-part =
-      ap (λ (x : List ℕ). take h (drop (2 + length es * width h t) x)) encode-row
-      ∙ ap (take h) (drop-at above (e .head ++ behind) (2 + length es * width h t) above-row)
+      ap (λ (x : List ℕ). take h (drop (2 + length es * width h t) x)) encode-slot
+      ∙ ap (take h) (drop-at above (e .head ++ behind) (2 + length es * width h t) above-slot)
       ∙ take-at (e .head) behind h l
 
 -- The body of entry e.
@@ -300,16 +300,16 @@ pub body-at : (size h t : ℕ) (es fs : List Entry) (e : Entry) → Wide h t (es
 unfolding bodies encode
 body-at size h t es fs e w =
     let all : List Entry = es ++ (e ∷ fs) in
-    let x : List ℕ = rows 0 all ++ bodies es in
+    let x : List ℕ = slots 0 all ++ bodies es in
     let p : List ℕ = length all ∷ (length (bodies all) ∷ x) in
     let z : List ℕ = bodies fs ++ replicate (size - (2 + length x + length (e .body) + length (bodies fs))) 0 in
-    let lp : length p ≡ 2 + length all * width h t + length (bodies es) = omega (arith, length-append (rows 0 all) (bodies es), length-rows h t 0 all w) in
-    let a : rows 0 all ++ bodies all ≡ x ++ (e .body ++ bodies fs) =
-    ap (λ (l : List ℕ). rows 0 all ++ l) (bodies-append es (e ∷ fs)) ∙ sym (append-assoc (rows 0 all) (bodies es) (e .body ++ bodies fs)) in
+    let lp : length p ≡ 2 + length all * width h t + length (bodies es) = omega (arith, length-append (slots 0 all) (bodies es), length-slots h t 0 all w) in
+    let a : slots 0 all ++ bodies all ≡ x ++ (e .body ++ bodies fs) =
+    ap (λ (l : List ℕ). slots 0 all ++ l) (bodies-append es (e ∷ fs)) ∙ sym (append-assoc (slots 0 all) (bodies es) (e .body ++ bodies fs)) in
     let f : encode size all ≡ p ++ (e .body ++ z) =
     open-up all ∙ ap (λ (l : List ℕ). pad size (length all ∷ (length (bodies all) ∷ l))) a
     ∙ pad-form size (length all) (length (bodies all)) x (e .body) (bodies fs) in
     rw (f, drop-at p (e .body ++ z) (2 + length all * width h t + length (bodies es)) lp) (take-append-seam (e .body) z)
   where
-    open-up : (all : List Entry) → encode size all ≡ pad size (length all ∷ (length (bodies all) ∷ (rows 0 all ++ bodies all)))
+    open-up : (all : List Entry) → encode size all ≡ pad size (length all ∷ (length (bodies all) ∷ (slots 0 all ++ bodies all)))
     open-up all = refl

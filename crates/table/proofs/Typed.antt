@@ -7,7 +7,7 @@ use native.Mathlib.Omega.{arith}
 use native.Mathlib.Nat.{add-zero}
 use lib.ListN.{length, take, drop, getD, length-append, length-map, List·getD-map}
 use Rattle.table.specs.Table.{Entry, width, bodies, encode, decode, insertAt, removeAt, Wide, Sound, startOf, wellFormed}
-use Rattle.table.proofs.Sounds.{blank, nth, count-is, body-is, in-row, wide-at, start-is, row-count-is, head-is, part-is}
+use Rattle.table.proofs.Sounds.{blank, nth, count-is, body-is, in-slot, wide-at, start-is, slot-count-is, head-is, part-is}
 use Rattle.table.proofs.Exact.{decode-encode, length-encode, encode-passes}
 
 -- Records are written as entries of h head words and t tail words, and read back.
@@ -67,7 +67,7 @@ module _ {R : Type 0} (toEntry : R → Entry) where
         length-append (toEntry r .body) (bodies (map toEntry rs)),
       )
 
-  -- A record put in at a place adds its own body.
+  -- A record put in at a position adds its own body.
   pub bodied-inserted : (i : ℕ) (r : R) (rs : List R) → bodied (take i rs ++ (r ∷ drop i rs)) ≡ bodied rs + length (toEntry r .body)
   unfolding bodies
   bodied-inserted zero r rs = omega (arith, length-append (toEntry r .body) (bodies (map toEntry rs)))
@@ -80,7 +80,7 @@ module _ {R : Type 0} (toEntry : R → Entry) where
         length-append (toEntry x .body) (bodies (map toEntry rs)),
       )
 
-  -- ---- a record put in or taken out at a place, as entries
+  -- ---- a record put in or taken out at a position, as entries
 
   -- The entry of a record goes in among those of others.
   pub inserted-entries : (i : ℕ) (r : R) (rs : List R)
@@ -176,26 +176,26 @@ module _ {R : Type 0} {h t : ℕ} {toEntry : R → Entry} {ofEntry : Entry → R
       start-of =
           ap (λ es. length (bodies (take i es))) decoded ∙ ap (λ es. length (bodies es)) (take-map toEntry i (map ofEntry (decode h t ws)))
 
-      -- Row i lies within the words.
-      pub row-within : 2 + i * width h t + width h t ≤ length ws
-      row-within = in-row h t ws s i within
+      -- Slot i lies within the words.
+      pub slot-within : 2 + i * width h t + width h t ≤ length ws
+      slot-within = in-slot h t ws s i within
 
-      -- Word j of row i is head word j of record i.
+      -- Word j of slot i is head word j of record i.
       pub head-word : (j : ℕ) → j < h
           → getD ws (2 + i * width h t + j) 0 ≡ getD (toEntry (getD (map ofEntry (decode h t ws)) i (ofEntry blank)) .head) j 0
       head-word j k = head-is h t ws s i within j k ∙ ap (λ e. getD (e .head) j 0) entry-is
 
-      -- The first word of row i is the first head word of record i.
+      -- The first word of slot i is the first head word of record i.
       pub first-word : 0 < h → getD ws (2 + i * width h t) 0 ≡ getD (toEntry (getD (map ofEntry (decode h t ws)) i (ofEntry blank)) .head) 0 0
       first-word k = ap (λ (m : ℕ). getD ws m 0) (sym (add-zero (2 + i * width h t))) ∙ head-word 0 k
 
-      -- Behind the head words of row i: where its body starts.
+      -- Behind the head words of slot i: where its body starts.
       pub start-word : getD ws (2 + i * width h t + h) 0 ≡ bodied toEntry (take i (map ofEntry (decode h t ws)))
       start-word = start-is h t ws s i within ∙ start-of
 
       -- Behind the start: how many words its body has.
       pub length-word : getD ws (2 + i * width h t + h + 1) 0 ≡ length (toEntry (getD (map ofEntry (decode h t ws)) i (ofEntry blank)) .body)
-      length-word = row-count-is h t ws s i within ∙ ap (λ e. length (e .body)) entry-is
+      length-word = slot-count-is h t ws s i within ∙ ap (λ e. length (e .body)) entry-is
 
       -- The body of record i, as the part of the words that it is.
       pub body-part :

@@ -1,5 +1,5 @@
--- A packed table of words ("Tables"): word 0 the number of entries, word 1 the number of body words, a row for
--- each entry, the bodies, zeros to the end. A row is h head words, the start of the entry's body, the body's length, and t tail words.
+-- A packed table of words ("Tables"): word 0 the number of entries, word 1 the number of body words, a slot for
+-- each entry, the bodies, zeros to the end. A slot is h head words, the start of the entry's body, the body's length, and t tail words.
 use mathlib.Core.Path.{_≡_}
 use mathlib.Core.Bool.{Bool, true, cond, _&&_}
 use mathlib.Core.List.{List, [], _∷_, _++_}
@@ -12,14 +12,14 @@ pub record Entry : Type 0 where
   pub body : List ℕ
   pub tail : List ℕ
 
--- The words of a row.
+-- The words of a slot.
 abbrev pub width : ℕ → ℕ → ℕ
 width h t = h + 2 + t
 
--- The rows of entries, where the bodies before them take o words.
-unfoldable pub rows : ℕ → List Entry → List ℕ
-rows o [] = []
-rows o (e ∷ es) = e .head ++ (o ∷ (length (e .body) ∷ (e .tail ++ rows (o + length (e .body)) es)))
+-- The slots of entries, where the bodies before them take o words.
+unfoldable pub slots : ℕ → List Entry → List ℕ
+slots o [] = []
+slots o (e ∷ es) = e .head ++ (o ∷ (length (e .body) ∷ (e .tail ++ slots (o + length (e .body)) es)))
 
 unfoldable pub bodies : List Entry → List ℕ
 bodies [] = []
@@ -31,40 +31,40 @@ pad size l = l ++ replicate (size - length l) 0
 
 -- The table of size words that holds the entries.
 unfoldable pub encode : ℕ → List Entry → List ℕ
-encode size es = pad size (length es ∷ (length (bodies es) ∷ (rows 0 es ++ bodies es)))
+encode size es = pad size (length es ∷ (length (bodies es) ∷ (slots 0 es ++ bodies es)))
 
--- The m entries whose rows begin xs and whose bodies begin ys. A row's start is not looked at.
-unfoldable pub decodeRows : ℕ → ℕ → ℕ → List ℕ → List ℕ → List Entry
-decodeRows h t zero xs ys = []
-decodeRows h t (suc m) xs ys =
+-- The m entries whose slots begin xs and whose bodies begin ys. A slot's start is not looked at.
+unfoldable pub decodeSlots : ℕ → ℕ → ℕ → List ℕ → List ℕ → List Entry
+decodeSlots h t zero xs ys = []
+decodeSlots h t (suc m) xs ys =
     let c = getD xs (h + 1) 0 in
-    let es = decodeRows h t m (drop (width h t) xs) (drop c ys) in
+    let es = decodeSlots h t m (drop (width h t) xs) (drop c ys) in
     record { head = take h xs; body = take c ys; tail = take t (drop (h + 2) xs) } ∷ es
 
 -- The entries that a table holds.
 unfoldable pub decode : ℕ → ℕ → List ℕ → List Entry
-decode h t ws = decodeRows h t (getD ws 0 0) (drop 2 ws) (drop (2 + getD ws 0 0 * width h t) ws)
+decode h t ws = decodeSlots h t (getD ws 0 0) (drop 2 ws) (drop (2 + getD ws 0 0 * width h t) ws)
 
 -- ---- the word rules
 
--- The m rows that begin xs have the starts that their counts make from o on, and the counts end at b.
-unfoldable pub rowsOk : ℕ → ℕ → ℕ → ℕ → ℕ → List ℕ → Bool
-rowsOk h t zero o b xs = eqb o b
-rowsOk h t (suc m) o b xs =
-    let r = rowsOk h t m (o + getD xs (h + 1) 0) b (drop (width h t) xs) in
+-- The m slots that begin xs have the starts that their counts make from o on, and the counts end at b.
+unfoldable pub slotsOk : ℕ → ℕ → ℕ → ℕ → ℕ → List ℕ → Bool
+slotsOk h t zero o b xs = eqb o b
+slotsOk h t (suc m) o b xs =
+    let r = slotsOk h t m (o + getD xs (h + 1) 0) b (drop (width h t) xs) in
     eqb (getD xs h 0) o && (leb (getD xs (h + 1) 0) (b - o) && r)
 
 unfoldable pub allZero : List ℕ → Bool
 allZero [] = true
 allZero (x ∷ xs) = eqb x 0 && allZero xs
 
--- Rows and bodies fit, the starts and counts are right, and zeros follow to the end.
+-- Slots and bodies fit, the starts and counts are right, and zeros follow to the end.
 unfoldable pub wellFormed : ℕ → ℕ → List ℕ → Bool
 wellFormed h t ws =
     let n = getD ws 0 0 in
     let b = getD ws 1 0 in
     let end = 2 + n * width h t + b in
-    leb 2 (length ws) && (leb end (length ws) && (rowsOk h t n 0 b (drop 2 ws) && allZero (drop end ws)))
+    leb 2 (length ws) && (leb end (length ws) && (slotsOk h t n 0 b (drop 2 ws) && allZero (drop end ws)))
 
 -- Each head has h words and each tail t.
 unfoldable pub Wide : ℕ → ℕ → List Entry → Type 0
@@ -100,14 +100,14 @@ pub record Removable (h t : ℕ) (ws : List ℕ) (i : ℕ) : Type 0 where
   pub within : i < length (decode h t ws)
   pub small : length ws < 2 ^ 32
 
--- The m rows that begin xs, with their starts counted anew from o.
+-- The m slots that begin xs, with their starts counted anew from o.
 unfoldable pub restarted : ℕ → ℕ → ℕ → ℕ → List ℕ → List ℕ
 restarted h t zero o xs = xs
 restarted h t (suc m) o xs =
     let c = getD xs (h + 1) 0 in
     take h xs ++ (o ∷ (c ∷ (take t (drop (h + 2) xs) ++ restarted h t m (o + c) (drop (width h t) xs))))
 
--- The sum of the counts of the m rows that begin xs.
+-- The sum of the counts of the m slots that begin xs.
 unfoldable pub counts : ℕ → ℕ → ℕ → List ℕ → ℕ
 counts h t zero xs = 0
 counts h t (suc m) xs = getD xs (h + 1) 0 + counts h t m (drop (width h t) xs)
@@ -118,18 +118,18 @@ startOf i es = length (bodies (take i es))
 
 -- ---- the entries whose head word at a column is not a value
 
-unfoldable pub keptEntries : ℕ → ℕ → List Entry → List Entry
-keptEntries column value [] = []
-keptEntries column value (e ∷ es) =
-    cond (eqb (getD (e .head) column 0) value) (keptEntries column value es) (e ∷ keptEntries column value es)
+unfoldable pub stayingEntries : ℕ → ℕ → List Entry → List Entry
+stayingEntries column value [] = []
+stayingEntries column value (e ∷ es) =
+    cond (eqb (getD (e .head) column 0) value) (stayingEntries column value es) (e ∷ stayingEntries column value es)
 
--- The same on words: of the m rows that begin xs, those kept, with their starts counted anew from o.
-unfoldable pub keptRows : ℕ → ℕ → ℕ → ℕ → ℕ → ℕ → List ℕ → List ℕ
-keptRows h t column value zero o xs = []
-keptRows h t column value (suc m) o xs =
+-- The same on words: of the m slots that begin xs, those kept, with their starts counted anew from o.
+unfoldable pub stayingSlots : ℕ → ℕ → ℕ → ℕ → ℕ → ℕ → List ℕ → List ℕ
+stayingSlots h t column value zero o xs = []
+stayingSlots h t column value (suc m) o xs =
     let c = getD xs (h + 1) 0 in
-    cond (eqb (getD xs column 0) value) (keptRows h t column value m o (drop (width h t) xs))
-    (take h xs ++ (o ∷ (c ∷ (take t (drop (h + 2) xs) ++ keptRows h t column value m (o + c) (drop (width h t) xs)))))
+    cond (eqb (getD xs column 0) value) (stayingSlots h t column value m o (drop (width h t) xs))
+    (take h xs ++ (o ∷ (c ∷ (take t (drop (h + 2) xs) ++ stayingSlots h t column value m (o + c) (drop (width h t) xs)))))
 
 -- The entries with a value in a column may go out.
 pub record Clearable (h t : ℕ) (ws : List ℕ) (column : ℕ) : Type 0 where

@@ -1,10 +1,10 @@
-// Packed tables of entries in lent words. Every row has h head words and t tail words.
+// Packed tables of entries in lent words. Every slot has h head words and t tail words.
 ghost use mathlib.Core.Path.{_≡_};
 ghost use mathlib.Core.List.{[], _∷_, _++_};
 ghost use Prim.Native.Nat.{_+_, _*_, _^_, _≤_, _<_};
 ghost use lib.ListN.{length, take, drop, getD};
-ghost use Rattle.words.specs.Words.{spliced, pasted};
-ghost use Rattle.table.specs.Table.{width, restarted, counts, encode, decode, Sound, Insertable, Removable, insertAt, removeAt, startOf, rowsOk, allZero, wellFormed, bodies, keptEntries, keptRows, Clearable};
+ghost use Rattle.runs.specs.Words.{spliced, pasted};
+ghost use Rattle.table.specs.Table.{width, restarted, counts, encode, decode, Sound, Insertable, Removable, insertAt, removeAt, startOf, slotsOk, allZero, wellFormed, bodies, stayingEntries, stayingSlots, Clearable};
 
 pub fn word(s: &[u32], i: usize) -> usize
     requires { ⌜ i < length (now s) ⌝ }
@@ -13,10 +13,10 @@ pub fn word(s: &[u32], i: usize) -> usize
     s[i] as usize
 }
 
-// The starts and counts of m rows from index at on.
-fn rows_ok(s: &[u32], h: usize, t: usize, at: usize, m: usize, b: u32) -> bool
+// The starts and counts of m slots from index at on.
+fn slots_ok(s: &[u32], h: usize, t: usize, at: usize, m: usize, b: u32) -> bool
     requires { ⌜ at + m * width h t ≤ length (now s) ⌝ }
-    ensures { λ r. ⌜ r ≡ rowsOk h t m 0 b (drop at (now (s .entry))) ⌝ }
+    ensures { λ r. ⌜ r ≡ slotsOk h t m 0 b (drop at (now (s .entry))) ⌝ }
 {
     let mut p = at;
     let mut left = m;
@@ -68,13 +68,13 @@ pub fn well_formed(s: &[u32], h: usize, t: usize) -> bool
     if s.len() < end {
         return false;
     }
-    if rows_ok(s, h, t, 2, n, b) {
+    if slots_ok(s, h, t, 2, n, b) {
         return zeros_from(s, end);
     }
     false
 }
 
-// The m rows from index at on get their starts anew, from o.
+// The m slots from index at on get their starts anew, from o.
 fn restart(s: &mut [u32], h: usize, t: usize, at: usize, m: usize, o: u32)
     requires { ⌜ (at + m * width h t ≤ length (now s)) × (o + counts h t m (drop at (now s)) < 2 ^ 32) ⌝ }
     ensures { λ _. ⌜ now (s .exit) ≡ take at (now (s .entry)) ++ restarted h t m o (drop at (now (s .entry))) ⌝ }
@@ -103,8 +103,8 @@ fn start_of(s: &[u32], h: usize, t: usize, i: usize) -> usize
     }
 }
 
-// A row goes in at index at; the words at..used move up.
-fn put_row(
+// A slot goes in at index at; the words at..used move up.
+fn put_slot(
     s: &mut [u32],
     at: usize,
     used: usize,
@@ -117,11 +117,11 @@ fn put_row(
     ensures { λ _. ⌜ now (s .exit) ≡ spliced (now (s .entry)) at used (now (head .entry) ++ (start ∷ (count ∷ now (tail .entry)))) ⌝ }
 {
     let h = head.len();
-    words::open_gap(s, at, h + 2 + tail.len(), used);
-    words::paste(s, at, head);
+    runs::open_room(s, at, h + 2 + tail.len(), used);
+    runs::paste(s, at, head);
     s[at + h] = start;
     s[at + h + 1] = count;
-    words::paste(s, at + h + 2, tail);
+    runs::paste(s, at + h + 2, tail);
 }
 
 // An entry goes in at i.
@@ -135,8 +135,8 @@ pub fn insert(s: &mut [u32], h: usize, t: usize, i: usize, head: &[u32], body: &
     let k = body.len();
     let at = 2 + i * (h + 2 + t);
     let end = 2 + n * (h + 2 + t);
-    words::splice(s, end + start, end + b, body);
-    put_row(s, at, end + b + k, head, start as u32, k as u32, tail);
+    runs::splice(s, end + start, end + b, body);
+    put_slot(s, at, end + b + k, head, start as u32, k as u32, tail);
     restart(s, h, t, at + (h + 2 + t), n - i, (start + k) as u32);
     s[0] = (n + 1) as u32;
     s[1] = (b + k) as u32;
@@ -153,8 +153,8 @@ pub fn remove(s: &mut [u32], h: usize, t: usize, i: usize)
     let end = 2 + n * (h + 2 + t);
     let start = word(s, at + h);
     let k = word(s, at + h + 1);
-    words::close_gap(s, end + start, k, end + b);
-    words::close_gap(s, at, h + 2 + t, end + b - k);
+    runs::close_room(s, end + start, k, end + b);
+    runs::close_room(s, at, h + 2 + t, end + b - k);
     restart(s, h, t, at, n - i - 1, start as u32);
     s[0] = (n - 1) as u32;
     s[1] = (b - k) as u32;
@@ -163,7 +163,7 @@ pub fn remove(s: &mut [u32], h: usize, t: usize, i: usize)
 // The bodies of the entries to keep move together, over the others; answers how many words they take.
 fn pack_bodies(s: &mut [u32], h: usize, t: usize, column: usize, value: u32) -> usize
     requires { ⌜ Clearable h t (now s) column × (0 < length (decode h t (now s))) ⌝ }
-    ensures { λ r. ⌜ (now (s .exit) ≡ pasted (now (s .entry)) (2 + length (decode h t (now (s .entry))) * width h t) (bodies (keptEntries column value (decode h t (now (s .entry)))))) × (r ≡ length (bodies (keptEntries column value (decode h t (now (s .entry)))))) ⌝ }
+    ensures { λ r. ⌜ (now (s .exit) ≡ pasted (now (s .entry)) (2 + length (decode h t (now (s .entry))) * width h t) (bodies (stayingEntries column value (decode h t (now (s .entry)))))) × (r ≡ length (bodies (stayingEntries column value (decode h t (now (s .entry)))))) ⌝ }
 {
     let n = word(s, 0);
     let end = 2 + n * (h + 2 + t);
@@ -171,37 +171,37 @@ fn pack_bodies(s: &mut [u32], h: usize, t: usize, column: usize, value: u32) -> 
     let mut to = end;
     let mut i: usize = 0;
     while i < n {
-        let row = 2 + i * (h + 2 + t);
-        let count = word(s, row + h + 1);
-        let x = s[row + column];
+        let slot = 2 + i * (h + 2 + t);
+        let count = word(s, slot + h + 1);
+        let x = s[slot + column];
         let start = from;
         from += count;
         i += 1;
         if x != value {
-            words::copy_down(s, to, start, count);
+            runs::copy_down(s, to, start, count);
             to += count;
         }
     }
     to - end
 }
 
-// The rows to keep move together, over the others, and get their starts anew; answers how many there are.
-fn pack_rows(s: &mut [u32], h: usize, t: usize, column: usize, value: u32) -> usize
+// The slots to keep move together, over the others, and get their starts anew; answers how many there are.
+fn pack_slots(s: &mut [u32], h: usize, t: usize, column: usize, value: u32) -> usize
     requires { ⌜ (2 + getD (now s) 0 0 * width h t ≤ length (now s)) × (column < h) × (counts h t (getD (now s) 0 0) (drop 2 (now s)) < 2 ^ 32) ⌝ }
-    ensures { λ r. ⌜ (now (s .exit) ≡ pasted (now (s .entry)) 2 (keptRows h t column value (getD (now (s .entry)) 0 0) 0 (drop 2 (now (s .entry))))) × (r * width h t ≡ length (keptRows h t column value (getD (now (s .entry)) 0 0) 0 (drop 2 (now (s .entry))))) ⌝ }
+    ensures { λ r. ⌜ (now (s .exit) ≡ pasted (now (s .entry)) 2 (stayingSlots h t column value (getD (now (s .entry)) 0 0) 0 (drop 2 (now (s .entry))))) × (r * width h t ≡ length (stayingSlots h t column value (getD (now (s .entry)) 0 0) 0 (drop 2 (now (s .entry))))) ⌝ }
 {
     let n = word(s, 0);
     let mut m: usize = 0;
     let mut next: u32 = 0;
     let mut i: usize = 0;
     while i < n {
-        let row = 2 + i * (h + 2 + t);
-        let count = s[row + h + 1];
-        let x = s[row + column];
+        let slot = 2 + i * (h + 2 + t);
+        let count = s[slot + h + 1];
+        let x = s[slot + column];
         i += 1;
         if x != value {
             let at = 2 + m * (h + 2 + t);
-            words::copy_down(s, at, row, h + 2 + t);
+            runs::copy_down(s, at, slot, h + 2 + t);
             s[at + h] = next;
             next += count;
             m += 1;
@@ -210,10 +210,10 @@ fn pack_rows(s: &mut [u32], h: usize, t: usize, column: usize, value: u32) -> us
     m
 }
 
-// The entries whose head word at a column is a value go out, in one pass over rows and bodies; answers how many went.
+// The entries whose head word at a column is a value go out, in one pass over slots and bodies; answers how many went.
 pub fn clear(s: &mut [u32], h: usize, t: usize, column: usize, value: u32) -> usize
     requires { ⌜ Clearable h t (now s) column ⌝ }
-    ensures { λ r. ⌜ (now (s .exit) ≡ encode (length (now (s .entry))) (keptEntries column value (decode h t (now (s .entry))))) × (r + length (keptEntries column value (decode h t (now (s .entry)))) ≡ length (decode h t (now (s .entry)))) ⌝ }
+    ensures { λ r. ⌜ (now (s .exit) ≡ encode (length (now (s .entry))) (stayingEntries column value (decode h t (now (s .entry))))) × (r + length (stayingEntries column value (decode h t (now (s .entry)))) ≡ length (decode h t (now (s .entry)))) ⌝ }
 {
     let n = word(s, 0);
     if n == 0 {
@@ -222,10 +222,10 @@ pub fn clear(s: &mut [u32], h: usize, t: usize, column: usize, value: u32) -> us
     let b = word(s, 1);
     let end = 2 + n * (h + 2 + t);
     let k = pack_bodies(s, h, t, column, value);
-    let m = pack_rows(s, h, t, column, value);
+    let m = pack_slots(s, h, t, column, value);
     let kept = 2 + m * (h + 2 + t);
-    words::copy_down(s, kept, end, k);
-    words::zero(s, kept + k, end + b);
+    runs::copy_down(s, kept, end, k);
+    runs::zero(s, kept + k, end + b);
     s[0] = m as u32;
     s[1] = k as u32;
     n - m

@@ -10,13 +10,8 @@ use Rattle.types.specs.declared.Refusal.{Refusal}
 use Rattle.types.specs.declared.Removal.the-variants as removal
 use mathlib.Core.Logic.{_↔_}
 use Rattle.types.specs.Numbers.{refusalNumber}
-use Rattle.types.specs.Rows.{rowIf, orElse, firstGiven, Step, unlessRefused}
+use Rattle.types.specs.Rows.{rowIf, orElse, firstGiven, FirstAt, Effect, unlessRefused}
 use Rattle.types.proofs.Clashes.{clash, some-not-none}
-
--- Row i is given as r, and no row before it is given.
-pub record FirstAt (rows : List (Option Refusal)) (i : ℕ) (r : Refusal) : Type 0 where
-  pub given : getD rows i none ≡ some r
-  pub earlier : (j : ℕ) → j < i → getD rows j none ≡ none
 
 -- A call is refused by r exactly when some row is given as r and no row before it is given.
 pub refused-first : (rows : List (Option Refusal)) (r : Refusal) → firstGiven rows ≡ some r → (i : ℕ) × FirstAt rows i r
@@ -72,7 +67,7 @@ row-passed false r e = refl
 -- A call that is refused by its rows answers a refusal exactly when that is its first given row. The accepted answer is no refusal, and each
 -- refusal is another answer.
 pub answers-first :
-    {A : Type 0} (rows : List (Option Refusal)) (refuse : Refusal → A) (ws : List ℕ) (accepted : Step A)
+    {A : Type 0} (rows : List (Option Refusal)) (refuse : Refusal → A) (ws : List ℕ) (accepted : Effect A)
     → ((r s : Refusal) → refuse r ≡ refuse s → r ≡ s) → ((r : Refusal) → accepted .answer ≡ refuse r → ⊥) → (r : Refusal)
     → (unlessRefused (firstGiven rows) refuse ws accepted .answer ≡ refuse r) ↔ ((i : ℕ) × FirstAt rows i r)
 answers-first rows refuse ws accepted inj not r = (to (firstGiven rows) refl, from)
@@ -86,7 +81,7 @@ answers-first rows refuse ws accepted inj not r = (to (firstGiven rows) refl, fr
 
 -- A refused call leaves the words.
 pub refusal-leaves :
-    {A : Type 0} (rows : List (Option Refusal)) (refuse : Refusal → A) (ws : List ℕ) (accepted : Step A)
+    {A : Type 0} (rows : List (Option Refusal)) (refuse : Refusal → A) (ws : List ℕ) (accepted : Effect A)
     → ((r : Refusal) → accepted .answer ≡ refuse r → ⊥) → (r : Refusal)
     → unlessRefused (firstGiven rows) refuse ws accepted .answer ≡ refuse r → unlessRefused (firstGiven rows) refuse ws accepted .words ≡ ws
 refusal-leaves rows refuse ws accepted not r = go (firstGiven rows)
@@ -95,18 +90,12 @@ refusal-leaves rows refuse ws accepted not r = go (firstGiven rows)
     go (some s) h = refl
     go none h = absurd (not r h)
 
--- Each row, where it is given, has its number: so a call's rows are tested in the order of their numbers.
-abbrev pub Numbered : List (Option Refusal) → List ℕ → Type 0
-Numbered [] [] = Unit
-Numbered [] (n ∷ ns) = ⊥
-Numbered (row ∷ rows) [] = ⊥
-Numbered (row ∷ rows) (n ∷ ns) = ((r : Refusal) → row ≡ some r → refusalNumber r ≡ n) × Numbered rows ns
-
+-- A row with a test has the number of its refusal.
 pub numbered : (b : Bool) (s r : Refusal) → rowIf b s ≡ some r → refusalNumber r ≡ refusalNumber s
 numbered b s r e = ap refusalNumber (sym (row-given b s r e .1))
 
 -- A step's answer and words.
-pub parts : {A : Type 0} {s : Step A} {a : A} {ws : List ℕ} → s ≡ record { answer = a; words = ws } → (a ≡ s .answer) × (ws ≡ s .words)
+pub parts : {A : Type 0} {s : Effect A} {a : A} {ws : List ℕ} → s ≡ record { answer = a; words = ws } → (a ≡ s .answer) × (ws ≡ s .words)
 parts e = (sym (ap (λ s. s .answer) e), sym (ap (λ s. s .words) e))
 
 -- A refusal to remove is told from an acceptance.

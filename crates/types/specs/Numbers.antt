@@ -1,6 +1,8 @@
 -- The number that the rules give to each case of the enums, and the values that a verdict holds.
 use Prim.Native.Nat.{ℕ}
 use mathlib.Core.Bool.{cond}
+use mathlib.Core.Option.{Option, none, some}
+use lib.IntN.{ℤ}
 use lib.Dec.{eqb}
 use Rattle.types.specs.declared.Role.{Role}
 use Rattle.types.specs.declared.Role.the-variants.{Customer, Peer, Provider, RouteServer, RouteServerClient, MutualTransit}
@@ -12,6 +14,10 @@ use Rattle.types.specs.declared.Cause.{Cause}
 use Rattle.types.specs.declared.Cause.the-variants.{ByGround, ByHops}
 use Rattle.types.specs.declared.Verdict.{Verdict}
 use Rattle.types.specs.declared.Verdict.the-variants.{Valid, Invalid, Unknown}
+use Rattle.types.specs.declared.Answer.{Answer}
+use Rattle.types.specs.declared.Answer.the-variants.{Plain, WithGap}
+use Rattle.types.specs.declared.Place.{Place}
+use Rattle.types.specs.declared.Place.the-variants.{Nowhere, Byte}
 use Rattle.types.specs.declared.Fault.{Fault}
 use Rattle.types.specs.declared.Fault.the-variants.{CutShort, UnknownType, Confederation, NoNumbers, ZeroNumber}
 use Rattle.types.specs.declared.Refusal.{Refusal}
@@ -29,12 +35,12 @@ roleNumber MutualTransit = 6
 -- No other number is a role.
 abbrev pub roleOf : ℕ → RoleRead
 roleOf n =
-    cond (eqb n 1) (Is Customer)
-    (cond (eqb n 2) (Is Peer)
-    (cond (eqb n 3) (Is Provider)
-    (cond (eqb n 4) (Is RouteServer)
-    (cond (eqb n 5) (Is RouteServerClient)
-    (cond (eqb n 6) (Is MutualTransit)
+    cond (eqb n (roleNumber Customer)) (Is Customer)
+    (cond (eqb n (roleNumber Peer)) (Is Peer)
+    (cond (eqb n (roleNumber Provider)) (Is Provider)
+    (cond (eqb n (roleNumber RouteServer)) (Is RouteServer)
+    (cond (eqb n (roleNumber RouteServerClient)) (Is RouteServerClient)
+    (cond (eqb n (roleNumber MutualTransit)) (Is MutualTransit)
     Nothing)))))
 
 -- Grounds: 1 empty path, 2 the first number is not the neighbour (the rules say stranger), 3 a set.
@@ -78,6 +84,20 @@ placeB Valid = 0
 placeB (Invalid c) = causeB c
 placeB (Unknown a b) = b
 
+-- ---- answers
+
+-- The verdict of an answer.
+abbrev pub verdictOf : Answer → Verdict
+verdictOf (Plain v) = v
+verdictOf (WithGap v g) = v
+
+-- The gap L - K of an answer that gives one.
+abbrev pub answerGap : Answer → Option ℤ
+answerGap (Plain v) = none
+answerGap (WithGap v g) = some g
+
+-- ---- refusals
+
 -- Rows 12 to 16 of the table of refusals.
 abbrev pub faultNumber : Fault → ℕ
 faultNumber CutShort = 12
@@ -104,3 +124,22 @@ refusalNumber PathLength = 17
 refusalNumber RouteTaken = 18
 refusalNumber NoRoute = 19
 refusalNumber RoutesFull = 20
+
+-- The place of a refusal: for rows 12 to 16 the byte of the attribute where the fault begins. No other row has one.
+abbrev pub refusalPlace : Refusal → Place
+refusalPlace TableLength = Nowhere
+refusalPlace RegisterMalformed = Nowhere
+refusalPlace RoutesMalformed = Nowhere
+refusalPlace SourceNumber = Nowhere
+refusalPlace CustomerZero = Nowhere
+refusalPlace ProviderList = Nowhere
+refusalPlace NoRecord = Nowhere
+refusalPlace RegisterFull = Nowhere
+refusalPlace RoleNumber = Nowhere
+refusalPlace NeighbourZero = Nowhere
+refusalPlace AttributeLength = Nowhere
+refusalPlace (Attribute f p) = Byte p
+refusalPlace PathLength = Nowhere
+refusalPlace RouteTaken = Nowhere
+refusalPlace NoRoute = Nowhere
+refusalPlace RoutesFull = Nowhere

@@ -1,7 +1,7 @@
 // The types that every layer shares. The rules number the cases of each enum: specs/Numbers.antt has those numbers.
 ghost use mathlib.Core.Path.{_≡_};
 ghost use Rattle.types.specs.Roles.{isRouteServer, isUpstream};
-ghost use Rattle.types.specs.Numbers.{roleOf, roleNumber, groundNumber, faultNumber, refusalNumber, verdictNumber, verdictGround, placeA, placeB};
+ghost use Rattle.types.specs.Numbers.{roleOf, roleNumber, groundNumber, faultNumber, refusalNumber, refusalPlace, verdictNumber, verdictGround, placeA, placeB, verdictOf};
 
 // The number of an autonomous system.
 pub struct AsNumber(pub u32);
@@ -39,14 +39,22 @@ impl Role {
         if Role::GREATEST < n {
             return RoleRead::Nothing;
         }
-        match n {
-            1 => RoleRead::Is(Role::Customer),
-            2 => RoleRead::Is(Role::Peer),
-            3 => RoleRead::Is(Role::Provider),
-            4 => RoleRead::Is(Role::RouteServer),
-            5 => RoleRead::Is(Role::RouteServerClient),
-            _ => RoleRead::Is(Role::MutualTransit),
+        if n == Role::Customer.number() {
+            return RoleRead::Is(Role::Customer);
         }
+        if n == Role::Peer.number() {
+            return RoleRead::Is(Role::Peer);
+        }
+        if n == Role::Provider.number() {
+            return RoleRead::Is(Role::Provider);
+        }
+        if n == Role::RouteServer.number() {
+            return RoleRead::Is(Role::RouteServer);
+        }
+        if n == Role::RouteServerClient.number() {
+            return RoleRead::Is(Role::RouteServerClient);
+        }
+        RoleRead::Is(Role::MutualTransit)
     }
 
     pub fn number(self) -> u32
@@ -66,19 +74,28 @@ impl Role {
     pub fn is_route_server(self) -> bool
         ensures { λ r. ⌜ r ≡ isRouteServer (roleNumber self) ⌝ }
     {
-        let n = self.number();
-        n == 4
+        match self {
+            Role::Customer => false,
+            Role::Peer => false,
+            Role::Provider => false,
+            Role::RouteServer => true,
+            Role::RouteServerClient => false,
+            Role::MutualTransit => false,
+        }
     }
 
     // Its routes are judged upstream; the others' downstream.
     pub fn is_upstream(self) -> bool
         ensures { λ r. ⌜ r ≡ isUpstream (roleNumber self) ⌝ }
     {
-        let n = self.number();
-        if n == 3 {
-            return false;
+        match self {
+            Role::Customer => true,
+            Role::Peer => true,
+            Role::Provider => false,
+            Role::RouteServer => true,
+            Role::RouteServerClient => true,
+            Role::MutualTransit => false,
         }
-        n != 6
     }
 }
 
@@ -178,6 +195,17 @@ pub enum Answer {
     WithGap(Verdict, i32),
 }
 
+impl Answer {
+    pub fn verdict(self) -> Verdict
+        ensures { λ r. ⌜ r ≡ verdictOf self ⌝ }
+    {
+        match self {
+            Answer::Plain(v) => v,
+            Answer::WithGap(v, _) => v,
+        }
+    }
+}
+
 // What is wrong with a segment of an AS_PATH attribute.
 pub enum Fault {
     CutShort,
@@ -199,6 +227,12 @@ impl Fault {
             Fault::ZeroNumber => 16,
         }
     }
+}
+
+// Where the attribute's fault begins, if a refusal is for one.
+pub enum Place {
+    Nowhere,
+    Byte(usize),
 }
 
 // Why a call is refused. A fault of the attribute comes with its place, the byte where it begins.
@@ -242,6 +276,29 @@ impl Refusal {
             Refusal::RouteTaken => 18,
             Refusal::NoRoute => 19,
             Refusal::RoutesFull => 20,
+        }
+    }
+
+    pub fn place(self) -> Place
+        ensures { λ r. ⌜ r ≡ refusalPlace self ⌝ }
+    {
+        match self {
+            Refusal::TableLength => Place::Nowhere,
+            Refusal::RegisterMalformed => Place::Nowhere,
+            Refusal::RoutesMalformed => Place::Nowhere,
+            Refusal::SourceNumber => Place::Nowhere,
+            Refusal::CustomerZero => Place::Nowhere,
+            Refusal::ProviderList => Place::Nowhere,
+            Refusal::NoRecord => Place::Nowhere,
+            Refusal::RegisterFull => Place::Nowhere,
+            Refusal::RoleNumber => Place::Nowhere,
+            Refusal::NeighbourZero => Place::Nowhere,
+            Refusal::AttributeLength => Place::Nowhere,
+            Refusal::Attribute(_, p) => Place::Byte(p),
+            Refusal::PathLength => Place::Nowhere,
+            Refusal::RouteTaken => Place::Nowhere,
+            Refusal::NoRoute => Place::Nowhere,
+            Refusal::RoutesFull => Place::Nowhere,
         }
     }
 }

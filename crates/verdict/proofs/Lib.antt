@@ -1,7 +1,4 @@
-pub mod Searching
-pub mod Ramps
-pub mod Gaps
-pub mod Orders
-pub mod Locality
-pub mod Drafting
-pub mod Judges
+pub mod Turns
+pub mod Rising
+pub mod Passing
+pub mod Judgements

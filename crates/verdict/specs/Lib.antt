@@ -1,6 +1,1 @@
-pub mod Hops
-pub mod Records
-pub mod Verdicts
-pub mod Judging
-pub mod Draft
-pub mod Vectors
+pub mod Ramps

@@ -1,7 +1,7 @@
 -- `filter::judge_known` meets its contract. Assumes nothing.
 use lib.ListN.{replicate}
 use lib.Dec.{lit≤}
-use Rattle.verdict.specs.Verdicts.{judged}
+use Rattle.rules.specs.Verdicts.{judged}
 use Rattle.types.specs.declared.Judged.the-variants.{Answered}
 use Rattle.as_path.specs.Reading.{contentOf}
 use Rattle.filter.specs.Calls.{hopIn}

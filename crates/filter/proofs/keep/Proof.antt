@@ -2,7 +2,7 @@
 use mathlib.Core.Path.{_≡_, sym, _∙_, ap}
 use borrow.Author.Tests.{not-true, not-false}
 use Rattle.types.proofs.Refusing.{parts}
-use Rattle.filter.specs.Calls.{hopIn, keepStep}
+use Rattle.filter.specs.Calls.{hopIn, keepEffect}
 use Rattle.filter.proofs.Judgings.{known-role, judged-refused}
 use Rattle.filter.proofs.Keepings.{keep-register-length, keep-ledger-length, keep-register-malformed, keep-ledger-malformed, keep-refused, same-parts}
 use borrow.Author.Needs.{needs}
@@ -71,7 +71,7 @@ same-length-3 c = search needs
 returns-6 : tie.Need-returns-6
 returns-6 c = let a = c .before .before .before .before .before .before .before .before .before .before .before .before .before .before .before .before .before .before .args in
     let k = known-role (a .role) (a .neighbour .0) (a .attribute .now) _ (sym (c .before .before .before .before .before .before .before .know .ensures) ∙ c .before .before .before .before .before .role .given .1) in
-    same-parts (ap (λ n. keepStep (a .reg .now) (a .led .now) (a .number .0) n (a .neighbour .0) (a .attribute .now)) (sym (k .1))) (c .before .before .keep-known .ensures)
+    same-parts (ap (λ n. keepEffect (a .reg .now) (a .led .now) (a .number .0) n (a .neighbour .0) (a .attribute .now)) (sym (k .1))) (c .before .before .keep-known .ensures)
 
 pub keep-spec : {M : Type 1} → statement M
 keep-spec =

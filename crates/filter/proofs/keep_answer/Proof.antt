@@ -1,17 +1,16 @@
 -- `filter::keep_answer` meets its contract. Assumes nothing.
 use Rattle.types.specs.declared.Verdict.{Verdict}
-use Rattle.routes.specs.Routes.{Route}
-use Rattle.rejudge.specs.Rejudging.{verdictOf}
+use Rattle.ledger.specs.Routes.{Route}
 use mathlib.Core.Path.{_≡_, sym, _∙_, ap}
-use Rattle.types.specs.Numbers.{roleNumber}
-use Rattle.routes.specs.Calls.{routeFor, storeStep}
+use Rattle.types.specs.Numbers.{roleNumber, verdictOf}
+use Rattle.ledger.specs.Calls.{routeFor, storeEffect}
 use Rattle.filter.proofs.Keepings.{stored-done, stored-refused}
 use borrow.Author.Needs.{needs}
 use Rattle.filter.proofs.keep_answer.Statement.{statement}
 use Rattle.filter.proofs.keep_answer.Tie as tie
 
-verdict-of-requires : tie.Need-verdict-of-requires
-verdict-of-requires c κs = search needs
+verdict-requires : tie.Need-verdict-requires
+verdict-requires c κs = search needs
 
 store-requires : tie.Need-store-requires
 store-requires c κs = search needs
@@ -28,9 +27,9 @@ same-length c = search needs
 returns : tie.Need-returns
 returns c = let a = c .before .before .before .before .before .before .before .before .before .args in
     let r : Verdict → Route = λ v. routeFor (a .number .0) (roleNumber (a .role)) (a .neighbour .0) v (a .path .now) in
-    let e = c .before .before .before .before .before .verdict-of .ensures in
-    stored-done (a .led .now) (r (verdictOf (a .answer))) (a .answer) (c .before .before .before .before .store .ensures .1 ∙ ap (λ v. storeStep (a .led .now) (r v) .words) e)
-    (sym (c .enum-told .given .1) ∙ c .before .before .before .before .store .ensures .0 ∙ ap (λ v. storeStep (a .led .now) (r v) .answer) e)
+    let e = c .before .before .before .before .before .verdict .ensures in
+    stored-done (a .led .now) (r (verdictOf (a .answer))) (a .answer) (c .before .before .before .before .store .ensures .1 ∙ ap (λ v. storeEffect (a .led .now) (r v) .words) e)
+    (sym (c .enum-told .given .1) ∙ c .before .before .before .before .store .ensures .0 ∙ ap (λ v. storeEffect (a .led .now) (r v) .answer) e)
 
 same-length-2 : tie.Need-same-length-2
 same-length-2 c = search needs
@@ -38,15 +37,15 @@ same-length-2 c = search needs
 returns-2 : tie.Need-returns-2
 returns-2 c = let a = c .before .before .before .before .before .before .before .before .before .before .args in
     let r : Verdict → Route = λ v. routeFor (a .number .0) (roleNumber (a .role)) (a .neighbour .0) v (a .path .now) in
-    let e = c .before .before .before .before .before .before .verdict-of .ensures in
-    stored-refused (a .led .now) (r (verdictOf (a .answer))) (a .answer) (c .before .before .before .before .before .store .ensures .1 ∙ ap (λ v. storeStep (a .led .now) (r v) .words) e)
-    (sym (c .before .r .given .1) ∙ c .before .before .before .before .before .store .ensures .0 ∙ ap (λ v. storeStep (a .led .now) (r v) .answer) e)
+    let e = c .before .before .before .before .before .before .verdict .ensures in
+    stored-refused (a .led .now) (r (verdictOf (a .answer))) (a .answer) (c .before .before .before .before .before .store .ensures .1 ∙ ap (λ v. storeEffect (a .led .now) (r v) .words) e)
+    (sym (c .before .r .given .1) ∙ c .before .before .before .before .before .store .ensures .0 ∙ ap (λ v. storeEffect (a .led .now) (r v) .answer) e)
 
 pub keep-answer-spec : {M : Type 1} → statement M
 keep-answer-spec =
     tie.close
     (tie.spec
-    verdict-of-requires
+    verdict-requires
     store-requires
     enum-told
     enum-known-r

@@ -5,13 +5,12 @@ use lib.ListN.{length, take, replicate}
 use lib.Seq.{length-take-le}
 use lib.Dec.{lit≤}
 use Rattle.types.specs.declared.Answer.{Answer}
-use Rattle.types.specs.Numbers.{roleNumber}
+use Rattle.types.specs.Numbers.{roleNumber, verdictOf}
 use Rattle.types.proofs.Refusing.{parts}
 use Rattle.as_path.specs.Reading.{contentOf}
-use Rattle.verdict.specs.Verdicts.{judged}
-use Rattle.routes.specs.Calls.{routeFor}
-use Rattle.rejudge.specs.Rejudging.{verdictOf}
-use Rattle.filter.specs.Calls.{hopIn, storedStep}
+use Rattle.rules.specs.Verdicts.{judged}
+use Rattle.ledger.specs.Calls.{routeFor}
+use Rattle.filter.specs.Calls.{hopIn, storedEffect}
 use Rattle.filter.proofs.Judgings.{read-path, some-numbers, in-buffer}
 use Rattle.filter.proofs.Keepings.{keep-faulty, keep-ground, keep-path, same-parts}
 use borrow.Author.Needs.{needs}
@@ -91,7 +90,7 @@ returns-3 c = let a = c .before .before .before .before .before .before .before 
     let e = in-buffer (roleNumber (a .role)) (a .neighbour .0) (a .attribute .now) p (replicate 64 0) _ (lit≤ tt) (c .before .before .before .before .before .before .before .before .before .before .before .read .ensures .1) in
     let j = c .before .before .before .before .before .judge .ensures ∙ ap (λ l. judged (hopIn (a .reg .now)) l (roleNumber (a .role))) e in
     same-parts (keep-path (a .number .0) (c .before .before .before .before .before .before .before .before .before .before .before .before .before .before .before .before .pre) p)
-    (same-parts (λ i. storedStep (a .led .now) (routeFor (a .number .0) (roleNumber (a .role)) (a .neighbour .0) (verdictOf (sym j i)) (sym e i)) (sym j i)) (c .before .before .keep-answer2 .ensures))
+    (same-parts (λ i. storedEffect (a .led .now) (routeFor (a .number .0) (roleNumber (a .role)) (a .neighbour .0) (verdictOf (sym j i)) (sym e i)) (sym j i)) (c .before .before .keep-answer2 .ensures))
 
 pub keep-known-spec : {M : Type 1} → statement M
 keep-known-spec =

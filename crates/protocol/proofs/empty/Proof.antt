@@ -6,7 +6,7 @@ use Rattle.protocol.proofs.Holding.{lends-zeros, all-cut}
 use Rattle.protocol.proofs.Performing.{performs, empties}
 use Rattle.protocol.proofs.Parsing.{other-count, right-count, does-nothing}
 use Rattle.register.specs.Register.{registerWords}
-use Rattle.routes.specs.Routes.{ledgerWords}
+use Rattle.ledger.specs.Routes.{ledgerWords}
 use borrow.Author.Needs.{needs}
 use Rattle.protocol.proofs.empty.Statement.{statement}
 use Rattle.protocol.proofs.empty.Tie as tie

@@ -8,7 +8,7 @@ use native.Mathlib.Omega.{arith}
 use lib.Dec.{eqb}
 use lib.ListN.{length-take, length-drop}
 use Rattle.register.proofs.Descending.{no-fall, one-fall}
-use Rattle.register.proofs.Checking.{Checked, checks, lists-few, lists-inside, all-checked, row-inside, list-inside, no-record, first-inside}
+use Rattle.register.proofs.Checking.{Checked, checks, lists-few, lists-inside, all-checked, slot-inside, list-inside, no-record, first-inside}
 use Rattle.register.proofs.Checking.{no-order, checks-first, checks-next}
 use Rattle.register.proofs.are_records.Statement.{statement}
 use Rattle.register.proofs.are_records.Tie as tie
@@ -32,31 +32,31 @@ loop-holds : tie.Need-loop-holds Inv-loop μ-loop
 loop-holds c = checks (c .before .before .pre .0) (c .word .ensures .0)
 
 mul-at : tie.Need-mul-at Inv-loop μ-loop
-mul-at c = omega (arith, row-inside (c .before .loop .inv) (c .loop-test .taken))
+mul-at c = omega (arith, slot-inside (c .before .loop .inv) (c .loop-test .taken))
 
 add-at : tie.Need-add-at Inv-loop μ-loop
-add-at c = omega (arith, row-inside (c .before .loop .inv) (c .loop-test .taken))
+add-at c = omega (arith, slot-inside (c .before .loop .inv) (c .loop-test .taken))
 
 mul-c : tie.Need-mul-c Inv-loop μ-loop
-mul-c c = omega (arith, row-inside (c .before .loop .inv) (c .loop-test .taken))
+mul-c c = omega (arith, slot-inside (c .before .loop .inv) (c .loop-test .taken))
 
 shared-slice-read-c : tie.Need-shared-slice-read-c Inv-loop μ-loop
-shared-slice-read-c c = omega (arith, row-inside (c .before .before .loop .inv) (c .before .loop-test .taken))
+shared-slice-read-c c = omega (arith, slot-inside (c .before .before .loop .inv) (c .before .loop-test .taken))
 
 add-s : tie.Need-add-s Inv-loop μ-loop
-add-s c = omega (arith, row-inside (c .before .before .loop .inv) (c .before .loop-test .taken))
+add-s c = omega (arith, slot-inside (c .before .before .loop .inv) (c .before .loop-test .taken))
 
 mul-s : tie.Need-mul-s Inv-loop μ-loop
-mul-s c = omega (arith, row-inside (c .before .before .loop .inv) (c .before .loop-test .taken))
+mul-s c = omega (arith, slot-inside (c .before .before .loop .inv) (c .before .loop-test .taken))
 
 shared-slice-read-s : tie.Need-shared-slice-read-s Inv-loop μ-loop
-shared-slice-read-s c = omega (arith, row-inside (c .before .before .before .loop .inv) (c .before .before .loop-test .taken))
+shared-slice-read-s c = omega (arith, slot-inside (c .before .before .before .loop .inv) (c .before .before .loop-test .taken))
 
 add-word : tie.Need-add-word Inv-loop μ-loop
-add-word c = omega (arith, row-inside (c .before .before .before .loop .inv) (c .before .before .loop-test .taken))
+add-word c = omega (arith, slot-inside (c .before .before .before .loop .inv) (c .before .before .loop-test .taken))
 
 word-requires-2 : tie.Need-word-requires-2 Inv-loop μ-loop
-word-requires-2 c κs = omega (arith, row-inside (c .before .before .before .loop .inv) (c .before .before .loop-test .taken))
+word-requires-2 c κs = omega (arith, slot-inside (c .before .before .before .loop .inv) (c .before .before .loop-test .taken))
 
 returns : tie.Need-returns Inv-loop μ-loop
 returns c =

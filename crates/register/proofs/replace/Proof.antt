@@ -2,7 +2,7 @@
 use native.Mathlib.Omega.{arith}
 use mathlib.Core.Path.{_≡_, sym, _∙_}
 use Rattle.types.proofs.Refusing.{parts}
-use Rattle.register.proofs.Filing.{body-word, few, little, place-under, old-row, old-word, old-within, full-over, old-goes, over-fits, over-done}
+use Rattle.register.proofs.Filing.{body-word, few, little, position-under, old-slot, old-word, old-within, full-over, old-goes, over-fits, over-done}
 use borrow.Author.Needs.{needs}
 use Rattle.register.proofs.replace.Statement.{statement}
 use Rattle.register.proofs.replace.Tie as tie
@@ -11,16 +11,16 @@ word-requires : tie.Need-word-requires
 word-requires c κs = search needs
 
 mul-word : tie.Need-mul-word
-mul-word c = omega (arith, place-under (c .before .before .before .before .before .pre .0) (c .before .before .before .before .before .pre .1), few (c .before .before .before .before .before .pre .0))
+mul-word c = omega (arith, position-under (c .before .before .before .before .before .pre .0) (c .before .before .before .before .before .pre .1), few (c .before .before .before .before .before .pre .0))
 
 add-word : tie.Need-add-word
-add-word c = omega (arith, place-under (c .before .before .before .before .before .pre .0) (c .before .before .before .before .before .pre .1), few (c .before .before .before .before .before .pre .0))
+add-word c = omega (arith, position-under (c .before .before .before .before .before .pre .0) (c .before .before .before .before .before .pre .1), few (c .before .before .before .before .before .pre .0))
 
 add-word-2 : tie.Need-add-word-2
-add-word-2 c = omega (arith, place-under (c .before .before .before .before .before .pre .0) (c .before .before .before .before .before .pre .1), few (c .before .before .before .before .before .pre .0))
+add-word-2 c = omega (arith, position-under (c .before .before .before .before .before .pre .0) (c .before .before .before .before .before .pre .1), few (c .before .before .before .before .before .pre .0))
 
 word-requires-2 : tie.Need-word-requires-2
-word-requires-2 c κs = omega (arith, old-row (c .before .before .before .before .before .pre .0) (c .before .before .before .before .before .pre .1))
+word-requires-2 c κs = omega (arith, old-slot (c .before .before .before .before .before .pre .0) (c .before .before .before .before .before .pre .1))
 
 sub-others : tie.Need-sub-others
 sub-others c = let p = c .before .before .before .before .before .before .pre in

@@ -3,7 +3,7 @@ use mathlib.Core.Path.{_∙_}
 use native.Mathlib.Omega.{arith}
 use borrow.Author.Needs.{needs}
 use Rattle.keyed.specs.Keyed.{beforePair}
-use Rattle.register.proofs.Looking.{row-in, key-is, few}
+use Rattle.register.proofs.Looking.{slot-in, key-is, few}
 use Rattle.register.proofs.stands_before.Statement.{statement}
 use Rattle.register.proofs.stands_before.Tie as tie
 
@@ -17,7 +17,7 @@ mul-is-before : tie.Need-mul-is-before
 mul-is-before c = omega (arith, few _ (c .before .pre .0), c .before .pre .1)
 
 shared-slice-read-is-before : tie.Need-shared-slice-read-is-before
-shared-slice-read-is-before c = omega (arith, row-in _ (c .before .before .pre .0) _ (c .before .before .pre .1))
+shared-slice-read-is-before c = omega (arith, slot-in _ (c .before .before .pre .0) _ (c .before .before .pre .1))
 
 add-is-before : tie.Need-add-is-before
 add-is-before c = omega (arith, few _ (c .before .before .pre .0), c .before .before .pre .1)
@@ -26,7 +26,7 @@ mul-is-before-2 : tie.Need-mul-is-before-2
 mul-is-before-2 c = omega (arith, few _ (c .before .before .pre .0), c .before .before .pre .1)
 
 shared-slice-read-is-before-2 : tie.Need-shared-slice-read-is-before-2
-shared-slice-read-is-before-2 c = omega (arith, row-in _ (c .before .before .before .pre .0) _ (c .before .before .before .pre .1))
+shared-slice-read-is-before-2 c = omega (arith, slot-in _ (c .before .before .before .pre .0) _ (c .before .before .before .pre .1))
 
 is-before-requires : tie.Need-is-before-requires
 is-before-requires c κs = search needs

@@ -11,11 +11,11 @@ word-requires c κs = search needs
 word-requires-2 : tie.Need-word-requires-2
 word-requires-2 c κs = omega (arith, head-within _ (c .before .before .before .before .pre .0))
 
-slice-aggregate-rejudge-rows : tie.Need-slice-aggregate-rejudge-rows
-slice-aggregate-rejudge-rows c = search needs
+slice-aggregate-rejudge-routes : tie.Need-slice-aggregate-rejudge-routes
+slice-aggregate-rejudge-routes c = search needs
 
-rejudge-rows-requires : tie.Need-rejudge-rows-requires
-rejudge-rows-requires c κs = search needs
+rejudge-routes-requires : tie.Need-rejudge-routes-requires
+rejudge-routes-requires c κs = search needs
 
 same-length : tie.Need-same-length
 same-length c = search needs
@@ -29,11 +29,11 @@ slice-aggregate-fill c = search needs
 fill-requires : tie.Need-fill-requires
 fill-requires c κs = search needs
 
-slice-aggregate-rejudge-rows-2 : tie.Need-slice-aggregate-rejudge-rows-2
-slice-aggregate-rejudge-rows-2 c = search needs
+slice-aggregate-rejudge-routes-2 : tie.Need-slice-aggregate-rejudge-routes-2
+slice-aggregate-rejudge-routes-2 c = search needs
 
-rejudge-rows-requires-2 : tie.Need-rejudge-rows-requires-2
-rejudge-rows-requires-2 c κs = search needs
+rejudge-routes-requires-2 : tie.Need-rejudge-routes-requires-2
+rejudge-routes-requires-2 c κs = search needs
 
 same-length-2 : tie.Need-same-length-2
 same-length-2 c = search needs
@@ -47,13 +47,13 @@ rejudge-all-spec =
     (tie.spec
     word-requires
     word-requires-2
-    slice-aggregate-rejudge-rows
-    rejudge-rows-requires
+    slice-aggregate-rejudge-routes
+    rejudge-routes-requires
     same-length
     returns
     slice-aggregate-fill
     fill-requires
-    slice-aggregate-rejudge-rows-2
-    rejudge-rows-requires-2
+    slice-aggregate-rejudge-routes-2
+    rejudge-routes-requires-2
     same-length-2
     returns-2)

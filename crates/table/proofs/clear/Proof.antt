@@ -2,7 +2,7 @@
 use mathlib.Core.Path.{_≡_, sym, _∙_}
 use native.Mathlib.Omega.{arith}
 use lib.ListN.{length, length-set}
-use Rattle.table.proofs.Clearing.{Known, Sized, wid, kept, sizes, kept-sizes, some-entry, rows-may, many-kept, clear-none, clear-done}
+use Rattle.table.proofs.Clearing.{Known, Sized, wid, kept, sizes, kept-sizes, some-entry, slots-may, many-kept, clear-none, clear-done}
 use borrow.Author.Needs.{needs}
 use Rattle.table.proofs.clear.Statement.{statement}
 use Rattle.table.proofs.clear.Tie as tie
@@ -39,19 +39,19 @@ known c =
       some = c .before .before .if1 .left;
     }
 
--- The same, once the rows are packed.
-abbrev known₂ : tie.After-pack-rows → Known
+-- The same, once the slots are packed.
+abbrev known₂ : tie.After-pack-slots → Known
 known₂ c = known (c .before .before .before .before .before .before)
 
--- As many rows are kept as there are entries to keep.
-rows-kept : (c : tie.After-pack-rows) → c .pack-rows .result ≡ length (kept (known₂ c))
-rows-kept c = many-kept (known₂ c) _ (c .before .before .before .before .pack-bodies .ensures .0) _ (c .pack-rows .ensures .1)
+-- As many slots are kept as there are entries to keep.
+slots-staying : (c : tie.After-pack-slots) → c .pack-slots .result ≡ length (kept (known₂ c))
+slots-staying c = many-kept (known₂ c) _ (c .before .before .before .before .pack-bodies .ensures .0) _ (c .pack-slots .ensures .1)
 
--- The linear facts, once the rows are packed.
-abbrev sized : (c : tie.After-pack-rows)
-    → Sized (wid (known₂ c)) (known₂ c .n) (known₂ c .b) (c .pack-rows .result) (c .before .before .before .before .pack-bodies .result)
+-- The linear facts, once the slots are packed.
+abbrev sized : (c : tie.After-pack-slots)
+    → Sized (wid (known₂ c)) (known₂ c .n) (known₂ c .b) (c .pack-slots .result) (c .before .before .before .before .pack-bodies .result)
     (length (known₂ c .ws))
-sized c = kept-sizes (known₂ c) _ _ (rows-kept c) (c .before .before .before .before .pack-bodies .ensures .1)
+sized c = kept-sizes (known₂ c) _ _ (slots-staying c) (c .before .before .before .before .pack-bodies .ensures .1)
 
 add-end : tie.Need-add-end
 add-end c = omega (arith, sizes (known c))
@@ -68,8 +68,8 @@ add-end-3 c = omega (arith, sizes (known c))
 pack-bodies-requires : tie.Need-pack-bodies-requires
 pack-bodies-requires c κs = (c .before .before .before .before .before .before .before .pre, some-entry (known (c .before)))
 
-pack-rows-requires : tie.Need-pack-rows-requires
-pack-rows-requires c κs = rows-may (known (c .before .before .before .before .before)) _ (c .before .before .before .pack-bodies .ensures .0)
+pack-slots-requires : tie.Need-pack-slots-requires
+pack-slots-requires c κs = slots-may (known (c .before .before .before .before .before)) _ (c .before .before .before .pack-bodies .ensures .0)
 
 add-kept : tie.Need-add-kept
 add-kept c = omega (arith, sizes (known (c .before .before .before .before .before .before .before .before)))
@@ -117,8 +117,8 @@ returns-2 : tie.Need-returns-2
 returns-2 c =
     let r = c .before .before .before .before .before .before .before .before .before .before in
     let p = r .before .before .before .before in
-    clear-done (known₂ r) _ (p .pack-bodies .ensures .0) _ _ (rows-kept r) (p .pack-bodies .ensures .1) _ _ _
-    (r .pack-rows .ensures .0) (c .before .before .before .before .before .before .copy-down .ensures) (c .before .before .zero .ensures)
+    clear-done (known₂ r) _ (p .pack-bodies .ensures .0) _ _ (slots-staying r) (p .pack-bodies .ensures .1) _ _ _
+    (r .pack-slots .ensures .0) (c .before .before .before .before .before .before .copy-down .ensures) (c .before .before .zero .ensures)
 
 pub clear-spec : {M : Type 1} → statement M
 clear-spec =
@@ -133,7 +133,7 @@ clear-spec =
     mul-end
     add-end-3
     pack-bodies-requires
-    pack-rows-requires
+    pack-slots-requires
     add-kept
     add-kept-2
     mul-kept

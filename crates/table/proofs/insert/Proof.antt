@@ -40,11 +40,11 @@ known c =
 is₁ : (c : tie.After-splice) → c .splice .last .0 ≡ T₁ (known (c .before .before))
 is₁ c = step-1 (known (c .before .before)) _ (c .splice .ensures)
 
-abbrev known₂ : tie.After-put-row → Known
+abbrev known₂ : tie.After-put-slot → Known
 known₂ c = known (c .before .before .before .before .before .before)
 
-is₂ : (c : tie.After-put-row) → c .put-row .last .0 ≡ T₂ (known₂ c) (known₂ c .start)
-is₂ c = step-2 (known₂ c) _ _ (is₁ (c .before .before .before .before)) (c .put-row .ensures)
+is₂ : (c : tie.After-put-slot) → c .put-slot .last .0 ≡ T₂ (known₂ c) (known₂ c .start)
+is₂ c = step-2 (known₂ c) _ _ (is₁ (c .before .before .before .before)) (c .put-slot .ensures)
 
 abbrev known₃ : tie.After-restart → Known
 known₃ c = known (c .before .before .before .before .before .before .before .before .before .before)
@@ -85,20 +85,20 @@ add-splice-2 c = omega (arith, nums (known (c .before)))
 splice-requires : tie.Need-splice-requires
 splice-requires c κs = omega (arith, nums (known (c .before)))
 
-add-put-row : tie.Need-add-put-row
-add-put-row c = omega (arith, nums (known (c .before .before .before .before .before)))
+add-put-slot : tie.Need-add-put-slot
+add-put-slot c = omega (arith, nums (known (c .before .before .before .before .before)))
 
-add-put-row-2 : tie.Need-add-put-row-2
-add-put-row-2 c = omega (arith, nums (known (c .before .before .before .before .before)))
+add-put-slot-2 : tie.Need-add-put-slot-2
+add-put-slot-2 c = omega (arith, nums (known (c .before .before .before .before .before)))
 
-cast-put-row : tie.Need-cast-put-row
-cast-put-row c = omega (arith, nums (known (c .before .before .before .before .before)))
+cast-put-slot : tie.Need-cast-put-slot
+cast-put-slot c = omega (arith, nums (known (c .before .before .before .before .before)))
 
-cast-put-row-2 : tie.Need-cast-put-row-2
-cast-put-row-2 c = search needs
+cast-put-slot-2 : tie.Need-cast-put-slot-2
+cast-put-slot-2 c = search needs
 
-put-row-requires : tie.Need-put-row-requires
-put-row-requires c κs = omega (arith, nums (known (c .before .before .before .before .before)))
+put-slot-requires : tie.Need-put-slot-requires
+put-slot-requires c κs = omega (arith, nums (known (c .before .before .before .before .before)))
 
 add-restart : tie.Need-add-restart
 add-restart c = search needs
@@ -165,11 +165,11 @@ insert-spec =
     add-splice
     add-splice-2
     splice-requires
-    add-put-row
-    add-put-row-2
-    cast-put-row
-    cast-put-row-2
-    put-row-requires
+    add-put-slot
+    add-put-slot-2
+    cast-put-slot
+    cast-put-slot-2
+    put-slot-requires
     add-restart
     add-restart-2
     add-restart-3

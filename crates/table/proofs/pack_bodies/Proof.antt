@@ -2,7 +2,7 @@
 use Prim.Native.Nat.{_+_, _-_, _*_, _≤_, _<_, _^_}
 use Rattle.table.specs.Table.{width}
 use native.Mathlib.Omega.{arith}
-use Rattle.table.proofs.Keeping.{Packed, packed, pack-room, pack-row, pack-fits, pack-in, pack-out, pack-done}
+use Rattle.table.proofs.Staying.{Packed, packed, pack-room, pack-slot, pack-fits, pack-in, pack-out, pack-done}
 use Rattle.table.proofs.pack_bodies.Statement.{statement}
 use Rattle.table.proofs.pack_bodies.Tie as tie
 
@@ -39,41 +39,41 @@ add-end-3 c = omega (arith, begun c)
 loop-holds : tie.Need-loop-holds Inv-loop μ-loop
 loop-holds c = packed _ _ _ _ (c .before .before .before .args .value) _ (c .before .before .before .pre) (c .word .ensures .0)
 
-add-row : tie.Need-add-row Inv-loop μ-loop
-add-row c = omega (arith, pack-row (c .before .loop .inv) (c .loop-test .taken), pack-room (c .before .loop .inv))
+add-slot : tie.Need-add-slot Inv-loop μ-loop
+add-slot c = omega (arith, pack-slot (c .before .loop .inv) (c .loop-test .taken), pack-room (c .before .loop .inv))
 
-add-row-2 : tie.Need-add-row-2 Inv-loop μ-loop
-add-row-2 c = omega (arith, pack-row (c .before .loop .inv) (c .loop-test .taken), pack-room (c .before .loop .inv))
+add-slot-2 : tie.Need-add-slot-2 Inv-loop μ-loop
+add-slot-2 c = omega (arith, pack-slot (c .before .loop .inv) (c .loop-test .taken), pack-room (c .before .loop .inv))
 
-mul-row : tie.Need-mul-row Inv-loop μ-loop
-mul-row c = omega (arith, pack-row (c .before .loop .inv) (c .loop-test .taken), pack-room (c .before .loop .inv))
+mul-slot : tie.Need-mul-slot Inv-loop μ-loop
+mul-slot c = omega (arith, pack-slot (c .before .loop .inv) (c .loop-test .taken), pack-room (c .before .loop .inv))
 
-add-row-3 : tie.Need-add-row-3 Inv-loop μ-loop
-add-row-3 c = omega (arith, pack-row (c .before .loop .inv) (c .loop-test .taken), pack-room (c .before .loop .inv))
+add-slot-3 : tie.Need-add-slot-3 Inv-loop μ-loop
+add-slot-3 c = omega (arith, pack-slot (c .before .loop .inv) (c .loop-test .taken), pack-room (c .before .loop .inv))
 
 add-word : tie.Need-add-word Inv-loop μ-loop
-add-word c = omega (arith, pack-row (c .before .before .loop .inv) (c .before .loop-test .taken), pack-room (c .before .before .loop .inv))
+add-word c = omega (arith, pack-slot (c .before .before .loop .inv) (c .before .loop-test .taken), pack-room (c .before .before .loop .inv))
 
 add-word-2 : tie.Need-add-word-2 Inv-loop μ-loop
-add-word-2 c = omega (arith, pack-row (c .before .before .loop .inv) (c .before .loop-test .taken), pack-room (c .before .before .loop .inv))
+add-word-2 c = omega (arith, pack-slot (c .before .before .loop .inv) (c .before .loop-test .taken), pack-room (c .before .before .loop .inv))
 
 word-requires-2 : tie.Need-word-requires-2 Inv-loop μ-loop
-word-requires-2 c κs = omega (arith, pack-row (c .before .before .loop .inv) (c .before .loop-test .taken), pack-room (c .before .before .loop .inv))
+word-requires-2 c κs = omega (arith, pack-slot (c .before .before .loop .inv) (c .before .loop-test .taken), pack-room (c .before .before .loop .inv))
 
 add-x : tie.Need-add-x Inv-loop μ-loop
 add-x c =
     let l = c .before .before .before .loop in
-    omega (arith, pack-row (l .inv) (c .before .before .loop-test .taken), pack-room (l .inv))
+    omega (arith, pack-slot (l .inv) (c .before .before .loop-test .taken), pack-room (l .inv))
 
 mul-x : tie.Need-mul-x Inv-loop μ-loop
 mul-x c =
     let l = c .before .before .before .loop in
-    omega (arith, pack-row (l .inv) (c .before .before .loop-test .taken), pack-room (l .inv))
+    omega (arith, pack-slot (l .inv) (c .before .before .loop-test .taken), pack-room (l .inv))
 
 slice-read-x : tie.Need-slice-read-x Inv-loop μ-loop
 slice-read-x c =
     let l = c .before .before .before .before .loop in
-    omega (arith, pack-row (l .inv) (c .before .before .before .loop-test .taken), pack-room (l .inv))
+    omega (arith, pack-slot (l .inv) (c .before .before .before .loop-test .taken), pack-room (l .inv))
 
 add-from : tie.Need-add-from Inv-loop μ-loop
 add-from c =
@@ -133,10 +133,10 @@ pack-bodies-spec =
     mul-end
     add-end-3
     loop-holds
-    add-row
-    add-row-2
-    mul-row
-    add-row-3
+    add-slot
+    add-slot-2
+    mul-slot
+    add-slot-3
     add-word
     add-word-2
     word-requires-2

@@ -30,7 +30,7 @@ found c =
       b-read = c .word2 .ensures .0;
     }
 
--- What is known once the row's start and count are.
+-- What is known once the slot's start and count are.
 abbrev known : tie.After-word4 → Known
 known c =
     record {
@@ -42,14 +42,14 @@ known c =
     }
 
 -- The slice after each step.
-is₁ : (c : tie.After-close-gap) → c .close-gap .last .0 ≡ O₁ (known (c .before .before))
-is₁ c = step-1 (known (c .before .before)) _ (c .close-gap .ensures)
+is₁ : (c : tie.After-close-room) → c .close-room .last .0 ≡ O₁ (known (c .before .before))
+is₁ c = step-1 (known (c .before .before)) _ (c .close-room .ensures)
 
-abbrev known₂ : tie.After-close-gap2 → Known
+abbrev known₂ : tie.After-close-room2 → Known
 known₂ c = known (c .before .before .before .before .before .before)
 
-is₂ : (c : tie.After-close-gap2) → c .close-gap2 .last .0 ≡ O₂ (known₂ c) (known₂ c .start + known₂ c .k)
-is₂ c = step-2 (known₂ c) _ _ (is₁ (c .before .before .before .before)) (c .close-gap2 .ensures)
+is₂ : (c : tie.After-close-room2) → c .close-room2 .last .0 ≡ O₂ (known₂ c) (known₂ c .start + known₂ c .k)
+is₂ c = step-2 (known₂ c) _ _ (is₁ (c .before .before .before .before)) (c .close-room2 .ensures)
 
 abbrev known₃ : tie.After-restart → Known
 known₃ c = known (c .before .before .before .before .before .before .before .before .before .before)
@@ -96,29 +96,29 @@ add-word-3 c = omega (arith, places (found (c .before .before .before)))
 word-requires-4 : tie.Need-word-requires-4
 word-requires-4 c κs = omega (arith, places (found (c .before .before .before)))
 
-add-close-gap : tie.Need-add-close-gap
-add-close-gap c = omega (arith, fits (known (c .before)))
+add-close-room : tie.Need-add-close-room
+add-close-room c = omega (arith, fits (known (c .before)))
 
-add-close-gap-2 : tie.Need-add-close-gap-2
-add-close-gap-2 c = omega (arith, fits (known (c .before)))
+add-close-room-2 : tie.Need-add-close-room-2
+add-close-room-2 c = omega (arith, fits (known (c .before)))
 
-close-gap-requires : tie.Need-close-gap-requires
-close-gap-requires c κs = omega (arith, fits (known (c .before)))
+close-room-requires : tie.Need-close-room-requires
+close-room-requires c κs = omega (arith, fits (known (c .before)))
 
-add-close-gap-3 : tie.Need-add-close-gap-3
-add-close-gap-3 c = omega (arith, fits (known (c .before .before .before .before .before)))
+add-close-room-3 : tie.Need-add-close-room-3
+add-close-room-3 c = omega (arith, fits (known (c .before .before .before .before .before)))
 
-add-close-gap-4 : tie.Need-add-close-gap-4
-add-close-gap-4 c = omega (arith, fits (known (c .before .before .before .before .before)))
+add-close-room-4 : tie.Need-add-close-room-4
+add-close-room-4 c = omega (arith, fits (known (c .before .before .before .before .before)))
 
-add-close-gap-5 : tie.Need-add-close-gap-5
-add-close-gap-5 c = omega (arith, fits (known (c .before .before .before .before .before)))
+add-close-room-5 : tie.Need-add-close-room-5
+add-close-room-5 c = omega (arith, fits (known (c .before .before .before .before .before)))
 
-sub-close-gap : tie.Need-sub-close-gap
-sub-close-gap c = omega (arith, fits (known (c .before .before .before .before .before)))
+sub-close-room : tie.Need-sub-close-room
+sub-close-room c = omega (arith, fits (known (c .before .before .before .before .before)))
 
-close-gap-requires-2 : tie.Need-close-gap-requires-2
-close-gap-requires-2 c κs = omega (arith, fits (known (c .before .before .before .before .before)))
+close-room-requires-2 : tie.Need-close-room-requires-2
+close-room-requires-2 c κs = omega (arith, fits (known (c .before .before .before .before .before)))
 
 sub-restart : tie.Need-sub-restart
 sub-restart c = omega (arith, fits (known (c .before .before .before .before .before .before .before .before .before)))
@@ -177,14 +177,14 @@ remove-spec =
     add-word-2
     add-word-3
     word-requires-4
-    add-close-gap
-    add-close-gap-2
-    close-gap-requires
-    add-close-gap-3
-    add-close-gap-4
-    add-close-gap-5
-    sub-close-gap
-    close-gap-requires-2
+    add-close-room
+    add-close-room-2
+    close-room-requires
+    add-close-room-3
+    add-close-room-4
+    add-close-room-5
+    sub-close-room
+    close-room-requires-2
     sub-restart
     sub-restart-2
     cast-restart

@@ -21,7 +21,7 @@ Inv-loop s₀ h t at m o p₀ left₀ next₀ s p left next =
 abbrev μ-loop : tie.MeasureT-loop
 μ-loop s₀ h t at m o p₀ left₀ next₀ s p left next = left
 
--- In a turn there is a whole row.
+-- In a turn there is a whole slot.
 room : (c : tie.After-slice-known Inv-loop μ-loop)
     → c .before .before .loop .p + width (c .before .before .before .args .h) (c .before .before .before .args .t) ≤ length (c .before .before .loop .s)
 room c =

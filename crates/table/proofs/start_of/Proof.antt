@@ -4,7 +4,7 @@ use Prim.Native.Nat.{_+_, _*_, _≤_, _<_}
 use native.Mathlib.Omega.{arith}
 use lib.ListN.{length}
 use Rattle.table.specs.Table.{width, decode}
-use Rattle.table.proofs.Sounds.{count-is, in-row, start-is, start-last}
+use Rattle.table.proofs.Sounds.{count-is, in-slot, start-is, start-last}
 use borrow.Author.Needs.{needs}
 use Rattle.table.proofs.start_of.Statement.{statement}
 use Rattle.table.proofs.start_of.Tie as tie
@@ -20,28 +20,28 @@ start c = c .before .before .before
 less : (c : tie.Then1) → start c .args .i < length (decode (start c .args .h) (start c .args .t) (start c .args .s .now))
 less c = omega (arith, count-is (start c .args .h) (start c .args .t) (start c .args .s .now) (start c .pre .0))
 
--- So is its row.
-row : (c : tie.Then1)
+-- So is its slot.
+slot : (c : tie.Then1)
     → 2 + start c .args .i * width (start c .args .h) (start c .args .t) + width (start c .args .h) (start c .args .t) ≤ length (start c .args .s .now)
-row c = in-row (start c .args .h) (start c .args .t) (start c .args .s .now) (start c .pre .0) (start c .args .i) (less c)
+slot c = in-slot (start c .args .h) (start c .args .t) (start c .args .s .now) (start c .pre .0) (start c .args .i) (less c)
 
 add-word : tie.Need-add-word
-add-word c = omega (arith, row c)
+add-word c = omega (arith, slot c)
 
 add-word-2 : tie.Need-add-word-2
-add-word-2 c = omega (arith, row c)
+add-word-2 c = omega (arith, slot c)
 
 mul-word : tie.Need-mul-word
-mul-word c = omega (arith, row c)
+mul-word c = omega (arith, slot c)
 
 add-word-3 : tie.Need-add-word-3
-add-word-3 c = omega (arith, row c)
+add-word-3 c = omega (arith, slot c)
 
 add-word-4 : tie.Need-add-word-4
-add-word-4 c = omega (arith, row c)
+add-word-4 c = omega (arith, slot c)
 
 word-requires-2 : tie.Need-word-requires-2
-word-requires-2 c κs = omega (arith, row c)
+word-requires-2 c κs = omega (arith, slot c)
 
 word-requires-3 : tie.Need-word-requires-3
 word-requires-3 c κs = search needs

@@ -3,12 +3,12 @@ use mathlib.Core.Path.{sym, _∙_}
 use Prim.Native.Nat.{_*_, _<_, _^_}
 use native.Mathlib.Omega.{arith}
 use Rattle.table.specs.Table.{width}
-use Rattle.table.proofs.Checking.{product-fits, wf-short, wf-long, wf-rows, wf-zeros}
+use Rattle.table.proofs.Checking.{product-fits, wf-short, wf-long, wf-slots, wf-zeros}
 use borrow.Author.Needs.{needs}
 use Rattle.table.proofs.well_formed.Statement.{statement}
 use Rattle.table.proofs.well_formed.Tie as tie
 
--- The rows come nowhere near the largest number.
+-- The slots come nowhere near the largest number.
 small : (c : tie.After-shared-slice-known2)
     → c .before .word .result * width (c .before .before .before .before .args .h) (c .before .before .before .before .args .t) < 2 ^ 50
 small c =
@@ -49,8 +49,8 @@ returns-2 c =
     let b = c .before .word2 in
     wf-long (a .h) (a .t) (a .s .now) (n .result) (b .result) (n .ensures .0) (b .ensures .0) (omega arith) (c .if2 .taken)
 
-rows-ok-requires : tie.Need-rows-ok-requires
-rows-ok-requires c κs = search needs
+slots-ok-requires : tie.Need-slots-ok-requires
+slots-ok-requires c κs = search needs
 
 zeros-from-requires : tie.Need-zeros-from-requires
 zeros-from-requires c κs = search needs
@@ -62,15 +62,15 @@ returns-3 c =
     let b = c .before .before .before .before .word2 in
     c .zeros-from .ensures
     ∙ wf-zeros (a .h) (a .t) (a .s .now) (n .result) (b .result) (n .ensures .0) (b .ensures .0) (omega arith) (c .before .before .before .if2 .left)
-    (sym (c .before .if3 .taken) ∙ c .before .before .rows-ok .ensures)
+    (sym (c .before .if3 .taken) ∙ c .before .before .slots-ok .ensures)
 
 returns-4 : tie.Need-returns-4
 returns-4 c =
     let a = c .before .before .before .before .before .before .before .before .args in
     let n = c .before .before .before .before .before .word in
     let b = c .before .before .before .word2 in
-    wf-rows (a .h) (a .t) (a .s .now) (n .result) (b .result) (n .ensures .0) (b .ensures .0) (omega arith) (c .before .before .if2 .left)
-    (sym (c .if3 .left) ∙ c .before .rows-ok .ensures)
+    wf-slots (a .h) (a .t) (a .s .now) (n .result) (b .result) (n .ensures .0) (b .ensures .0) (omega arith) (c .before .before .if2 .left)
+    (sym (c .if3 .left) ∙ c .before .slots-ok .ensures)
 
 pub well-formed-spec : {M : Type 1} → statement M
 well-formed-spec =
@@ -86,7 +86,7 @@ well-formed-spec =
     word-requires-2
     add-end-4
     returns-2
-    rows-ok-requires
+    slots-ok-requires
     zeros-from-requires
     returns-3
     returns-4)

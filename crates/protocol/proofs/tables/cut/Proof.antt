@@ -6,7 +6,7 @@ use Rattle.protocol.proofs.tables.cut.Statement.{statement}
 use Rattle.protocol.proofs.tables.cut.Tie as tie
 use Rattle.protocol.proofs.tables.cut.Reads as reads
 use Rattle.protocol.proofs.tables.cut.Lts as lts
-use Rattle.words.proofs.zero.Reads as zero-reads
+use Rattle.runs.proofs.zero.Reads as zero-reads
 
 zero-requires : tie.Need-zero-requires
 zero-requires c κs = search needs

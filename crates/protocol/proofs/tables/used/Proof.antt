@@ -12,7 +12,7 @@ use Rattle.protocol.proofs.tables.word.Reads as word-reads
 word-requires : tie.Need-word-requires
 word-requires c κs = search needs
 
-mul-rows : tie.Need-mul-rows
+mul-rows : tie.Need-mul-slots
 mul-rows c = let w = row-words _ _ (c .before .before .pre) (c .word .ensures .1) in omega (arith, w)
 
 add-least : tie.Need-add-least

@@ -2,7 +2,7 @@
 use native.Mathlib.Omega.{arith}
 use Rattle.register.proofs.Holding.{sound}
 use Rattle.register.proofs.Entries.{customer-is}
-use Rattle.register.proofs.Looking.{few, row-in}
+use Rattle.register.proofs.Looking.{few, slot-in}
 use Rattle.register.proofs.hints.customer_at.Statement.{statement}
 use Rattle.register.proofs.hints.customer_at.Tie as tie
 
@@ -16,7 +16,7 @@ mul-result-2 : tie.Need-mul-result-2
 mul-result-2 c = omega (arith, few _ (c .pre .0), c .pre .1)
 
 shared-slice-read-result : tie.Need-shared-slice-read-result
-shared-slice-read-result c = omega (arith, row-in _ (c .before .pre .0) _ (c .before .pre .1))
+shared-slice-read-result c = omega (arith, slot-in _ (c .before .pre .0) _ (c .before .pre .1))
 
 returns : tie.Need-returns
 returns c = let s = c .before in customer-is (s .args .reg .now) (sound (s .args .reg .now) (s .pre .0)) (s .args .i) (s .pre .1)

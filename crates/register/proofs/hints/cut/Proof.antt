@@ -11,11 +11,11 @@ use Rattle.register.proofs.hints.cut.Statement.{statement}
 use Rattle.register.proofs.hints.cut.Tie as tie
 
 abbrev Inv-loop : tie.InvT-loop
-Inv-loop reg n place₀ widest₀ i₀ place widest i =
-    (registerOk reg ≡ true) × (n ≡ length (recordsOf reg)) × (n ≤ mostRecords) × (1 ≤ i) × (place < n)
+Inv-loop reg n position₀ widest₀ i₀ position widest i =
+    (registerOk reg ≡ true) × (n ≡ length (recordsOf reg)) × (n ≤ mostRecords) × (1 ≤ i) × (position < n)
 
 abbrev μ-loop : tie.MeasureT-loop
-μ-loop reg n place₀ widest₀ i₀ place widest i = n - i
+μ-loop reg n position₀ widest₀ i₀ position widest i = n - i
 
 word-requires : tie.Need-word-requires Inv-loop μ-loop
 word-requires c κs = omega (arith, head-within _ (c .before .pre .0))

@@ -1,0 +1,64 @@
+-- What a well-formed ledger shows. Assumes nothing.
+use Prim.Native.Nat.{ℕ, _≤_}
+use mathlib.Core.Path.{_≡_}
+use mathlib.Core.Bool.{true}
+use mathlib.Core.List.{List}
+use lib.Dec.{leb, eqb, ltb}
+use borrow.Author.Tests.{leb-true}
+use lib.ListN.{length}
+use Rattle.table.specs.Table.{Sound, wellFormed}
+use Rattle.table.proofs.Exact.{passes-sound}
+use Rattle.keyed.specs.Keyed.{ascends, every}
+use Rattle.keyed.proofs.Orders.{both-left, both-right, both-intro}
+use Rattle.ledger.specs.Routes.{mostRoutes, mostPathWords, Route, routesOf, ledgerOf, keyOf, pathWords, routeOk, roomFor, routesOk, ledgerOk}
+use Rattle.ledger.proofs.Entries.{routes-of-words, words-formed}
+
+module _ (rs : List Route) where
+  -- Room for them: at most 512 routes.
+  pub room-routes : roomFor rs ≡ true → length rs ≤ mostRoutes
+  unfolding roomFor
+  room-routes e = leb-true _ _ (both-left _ _ e)
+
+  -- And at most 8192 numbers in their paths.
+  pub room-paths : roomFor rs ≡ true → pathWords rs ≤ mostPathWords
+  unfolding roomFor
+  room-paths e = leb-true _ _ (both-right (leb (length rs) mostRoutes) _ e)
+
+  module _ (e : routesOk rs ≡ true) where
+    -- Routes that keep the rules fit the limits.
+    pub has-room : roomFor rs ≡ true
+    unfolding routesOk
+    has-room = both-left _ _ e
+
+    -- Each keeps its own rules.
+    pub each-ok : every routeOk rs ≡ true
+    unfolding routesOk
+    each-ok = both-left _ _ (both-right (roomFor rs) _ e)
+
+    -- They ascend by number.
+    pub in-order : ascends keyOf eqb ltb rs ≡ true
+    unfolding routesOk
+    in-order = both-right (every routeOk rs) _ (both-right (roomFor rs) _ e)
+
+-- Routes that keep the rules are written as a well-formed ledger.
+pub words-ok : (rs : List Route) → routesOk rs ≡ true → ledgerOk (ledgerOf rs) ≡ true
+unfolding ledgerOk
+words-ok rs e =
+    let few = room-routes rs (has-room rs e) in
+    let short = room-paths rs (has-room rs e) in
+    both-intro (wellFormed 7 0 (ledgerOf rs)) _ (words-formed rs few short) (rw (routes-of-words rs few short) e)
+
+module _ (ws : List ℕ) (e : ledgerOk ws ≡ true) where
+  -- A well-formed ledger is a sound table.
+  pub sound : Sound 7 0 ws
+  unfolding ledgerOk
+  sound = passes-sound 7 0 ws (both-left _ _ e)
+
+  -- Its routes keep the rules.
+  pub routes-ok : routesOk (routesOf ws) ≡ true
+  unfolding ledgerOk
+  routes-ok = both-right (wellFormed 7 0 ws) _ e
+
+  -- They ascend by number.
+  pub ordered : ascends keyOf eqb ltb (routesOf ws) ≡ true
+  ordered = in-order (routesOf ws) routes-ok

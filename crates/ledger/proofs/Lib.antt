@@ -1,0 +1,9 @@
+pub mod Entries
+pub mod Holding
+pub mod Paths
+pub mod Checking
+pub mod Looking
+pub mod Placing
+pub mod Storing
+pub mod Changes
+pub mod Refusals

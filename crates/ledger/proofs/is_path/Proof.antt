@@ -1,0 +1,36 @@
+-- `routes::is_path` meets its contract. Assumes nothing.
+use mathlib.Core.Path.{sym, _∙_}
+use borrow.Author.Tests.{not-true, not-false}
+use Rattle.ledger.proofs.Paths.{path-empty, path-long, path-zero, path-first}
+use borrow.Author.Needs.{needs}
+use Rattle.ledger.proofs.is_path.Statement.{statement}
+use Rattle.ledger.proofs.is_path.Tie as tie
+
+returns : tie.Need-returns
+returns c = let a = c .before .before .args in path-empty (a .role) (a .neighbour) _ (c .if1 .taken)
+
+returns-2 : tie.Need-returns-2
+returns-2 c = let a = c .before .before .before .args in path-long (a .role) (a .neighbour) _ (c .before .if1 .left) (c .if2 .taken)
+
+has-no-zero-requires : tie.Need-has-no-zero-requires
+has-no-zero-requires c κs = search needs
+
+returns-3 : tie.Need-returns-3
+returns-3 c =
+    let a = c .before .before .before .before .before .args in
+    path-zero (a .role) (a .neighbour) _ (c .before .before .before .if1 .left) (c .before .before .if2 .left)
+    (sym (c .before .has-no-zero .ensures) ∙ not-true _ (c .if3 .taken))
+
+shared-slice-read-result : tie.Need-shared-slice-read-result
+shared-slice-read-result c = search needs
+
+returns-4 : tie.Need-returns-4
+returns-4 c =
+    let a = c .before .before .before .before .before .before .args in
+    path-first (a .role) (a .neighbour) _ (c .before .before .before .before .if1 .left) (c .before .before .before .if2 .left)
+    (sym (c .before .before .has-no-zero .ensures) ∙ not-false _ (c .before .if3 .left))
+
+pub is-path-spec : {M : Type 1} → statement M
+is-path-spec =
+    tie.close
+    (tie.spec returns returns-2 has-no-zero-requires returns-3 shared-slice-read-result returns-4)

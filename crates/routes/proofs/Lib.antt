@@ -1,9 +1,0 @@
-pub mod Entries
-pub mod Holding
-pub mod Paths
-pub mod Checking
-pub mod Looking
-pub mod Placing
-pub mod Storing
-pub mod Keeping
-pub mod Refusals

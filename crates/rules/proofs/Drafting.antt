@@ -1,0 +1,124 @@
+-- The numbered steps of the draft give the word of the verdict. Assumes nothing.
+use Prim.Native.Nat.{ℕ, zero, suc, _+_, _-_, _≤_, _<_}
+use mathlib.Core.Path.{_≡_, refl, sym, ap}
+use mathlib.Core.List.{List}
+use mathlib.Core.Bool.{Bool, true, false, cond, _&&_}
+use native.Mathlib.Omega.{arith}
+use borrow.Author.Tests.{ltb-true, ltb-false, leb-true, le-leb, lt-leb, eqb-true}
+use lib.Dec.{ltb, leb, eqb}
+use lib.ListN.{length}
+use Rattle.types.specs.declared.Verdict.{Verdict}
+use Rattle.types.specs.declared.Verdict.the-variants.{Valid}
+use Rattle.rules.specs.Hops.{HopFunction, isPlus, isNotPlus, isUnattested, up, lowest}
+use Rattle.rules.specs.Verdicts.{rampUp, rampDown, upstream, downstream}
+use Rattle.rules.specs.Draft.{outcomeOf, some, each, largestK, smallestL, draftUpstream, draftDownstream}
+use Rattle.rules.proofs.Searching.{lowest-is, highest-is, lowest-only, highest-only}
+use Rattle.rules.proofs.Ramps.{RampUp, RampDown, ramp-up-is, ramp-down-is}
+use Rattle.rules.proofs.Gaps.{near}
+use Rattle.rules.proofs.Orders.{either-order}
+
+-- Some index of i..m passes where the lowest that passes is at most m.
+pub some-is : (test : ℕ → Bool) (i n m : ℕ) → i + n ≡ suc m → some test i n ≡ leb (lowest test i n) m
+unfolding some lowest
+some-is test i zero m z = sym (lt-leb i m (omega arith))
+some-is test i (suc n) m z = go (some-is test (i + 1) n m (omega arith)) (test i) refl
+  where
+    go : some test (i + 1) n ≡ leb (lowest test (i + 1) n) m → (b : Bool) → test i ≡ b → some test i (suc n) ≡ leb (lowest test i (suc n)) m
+    go ih true e = rw e (sym (le-leb i m (omega arith)))
+    go ih false e = rw e ih
+
+-- Each index of a range passes where every one of them does.
+pub each-yes : (test : ℕ → Bool) (i n : ℕ) → ((j : ℕ) → i ≤ j → j < i + n → test j ≡ true) → each test i n ≡ true
+unfolding each
+each-yes test i zero f = refl
+each-yes test i (suc n) f =
+    rw (f i (omega arith) (omega arith), each-yes test (i + 1) n (λ j a b. f j (omega arith) (omega arith)))
+
+-- And not where one of them fails.
+pub each-no : (test : ℕ → Bool) (i n j : ℕ) → i ≤ j → j < i + n → test j ≡ false → each test i n ≡ false
+unfolding each
+each-no test i zero j a b f = absurd (omega arith)
+each-no test i (suc n) j a b f = go (each-no test (i + 1) n j) (ltb i j) refl
+  where
+    and-false : (t : Bool) → t && false ≡ false
+    and-false true = refl
+    and-false false = refl
+
+    go : (i + 1 ≤ j → j < i + 1 + n → test j ≡ false → each test (i + 1) n ≡ false)
+        → (c : Bool) → ltb i j ≡ c → each test i (suc n) ≡ false
+    go ih true l = rw (ih (omega (arith, ltb-true i j l)) (omega arith) f) (and-false (test i))
+    go ih false l =
+        let z : i ≡ j = omega (arith, ltb-false i j l) in
+        rw (z, f)
+
+-- The word of a verdict goes through a test.
+pub word : (t : Bool) (x y : Verdict) → outcomeOf (cond t x y) ≡ cond t (outcomeOf x) (outcomeOf y)
+word true x y = refl
+word false x y = refl
+
+module _ (hop : HopFunction) (path : List ℕ) (one : 1 ≤ length path) where
+  -- The draft's K of step 5 is the end of the climb.
+  pub largest-is : largestK hop path ≡ rampUp hop path
+  largest-is =
+      let k : RampUp hop path (rampUp hop path) = ramp-up-is hop path one in
+      highest-only (omega arith) (highest-is _ 2 (length path - 1) (omega arith))
+      (record {
+        low = omega arith;
+        high = omega arith;
+        passes = λ h. each-yes _ 2 (rampUp hop path - 1) (λ j a b. at j a (omega arith));
+        last = λ j a b. each-no _ 2 (j - 1) (rampUp hop path + 1) (omega arith) (omega arith) (k .ends (omega arith));
+      })
+    where
+      at : (i : ℕ) → 2 ≤ i → i ≤ rampUp hop path → isPlus (up hop path i) ≡ true
+      at i a b =
+          let z : i - 1 + 1 ≡ i = omega arith in
+          rw z at (ramp-up-is hop path one .plus (i - 1) (omega arith) (omega arith))
+
+  -- The draft's L of step 6 is the end of the descent.
+  pub smallest-is : smallestL hop path ≡ rampDown hop path
+  smallest-is =
+      let l : RampDown hop path (rampDown hop path) = ramp-down-is hop path one in
+      lowest-only (lowest-is _ 1 (length path - 1))
+      (record {
+        low = l .low;
+        high = omega arith;
+        passes = λ h. each-yes _ (rampDown hop path) (length path - rampDown hop path) (λ j a b. l .plus j a (omega arith));
+        first = λ j a b. each-no _ j (length path - j) (rampDown hop path - 1) (omega arith) (omega arith) (l .ends (omega arith));
+      })
+
+  -- Section 6.1, steps 3 to 6, gives the word of the upstream verdict.
+  pub draft-upstream : draftUpstream hop path ≡ outcomeOf (upstream hop path)
+  unfolding draftUpstream upstream
+  draft-upstream = go (eqb (length path) 1) refl
+    where
+      beyond : (test : ℕ → Bool) → length path ≡ 1 → leb (lowest test 2 (length path - 1)) (length path) ≡ false
+      beyond test z = lt-leb (lowest test 2 (length path - 1)) (length path) (omega (arith, lowest-is test 2 (length path - 1) .low))
+
+      go : (b : Bool) → eqb (length path) 1 ≡ b → draftUpstream hop path ≡ outcomeOf (upstream hop path)
+      go true e =
+          let z : length path ≡ 1 = eqb-true _ _ e in
+          rw (e, beyond (λ u. isNotPlus (up hop path u)) z, beyond (λ u. isUnattested (up hop path u)) z)
+      go false e =
+          rw (
+            e,
+            some-is (λ u. isNotPlus (up hop path u)) 2 (length path - 1) (length path) (omega arith),
+            some-is (λ u. isUnattested (up hop path u)) 2 (length path - 1) (length path) (omega arith),
+            word,
+            word,
+          )
+
+  -- A path of at most two is Valid downstream: K is at least 1 and L at most 2.
+  pub short-valid : length path ≤ 2 → downstream hop path ≡ Valid
+  short-valid h =
+      let k : RampUp hop path (rampUp hop path) = ramp-up-is hop path one in
+      let l : RampDown hop path (rampDown hop path) = ramp-down-is hop path one in
+      rw (either-order hop path one, near (rampDown hop path) (rampUp hop path) (omega arith))
+
+  -- Section 6.2, steps 3 to 8, gives the word of the downstream verdict.
+  pub draft-downstream : draftDownstream hop path ≡ outcomeOf (downstream hop path)
+  unfolding draftDownstream downstream
+  draft-downstream = go (leb (length path) 2) refl
+    where
+      go : (b : Bool) → leb (length path) 2 ≡ b → draftDownstream hop path ≡ outcomeOf (downstream hop path)
+      go true e = rw e (sym (ap outcomeOf (short-valid (leb-true _ _ e))))
+      go false e = rw (e, largest-is, smallest-is, word, word)

@@ -1,0 +1,6 @@
+pub mod Hops
+pub mod Records
+pub mod Verdicts
+pub mod Judging
+pub mod Draft
+pub mod Vectors

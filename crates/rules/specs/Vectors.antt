@@ -1,0 +1,120 @@
+-- The test vectors A to L of the rules, as one table, and the edges that the rules name. All by computation from the definitions.
+use Prim.Native.Nat.{ℕ, zero, suc, _+_, _/_, _%_}
+use mathlib.Core.Path.{_≡_, refl}
+use mathlib.Core.List.{List, [], _∷_, _++_, map}
+use lib.IntN.{ℤ, pos, negsuc}
+use lib.ListN.{length, replicate}
+use Rattle.types.specs.declared.Ground.the-variants.{Empty, NotNeighbour}
+use Rattle.types.specs.declared.Cause.the-variants.{ByGround, ByHops}
+use Rattle.types.specs.declared.Verdict.{Verdict}
+use Rattle.types.specs.declared.Verdict.the-variants.{Valid, Invalid, Unknown}
+use Rattle.types.specs.declared.Answer.the-variants.{Plain, WithGap}
+use Rattle.types.specs.declared.Fault.the-variants.{CutShort}
+use Rattle.types.specs.declared.Refusal.the-variants.{AttributeLength, Attribute, PathLength}
+use Rattle.types.specs.declared.Judged.{Judged}
+use Rattle.types.specs.declared.Judged.the-variants.{Answered, Refused}
+use Rattle.types.specs.Rows.{firstGiven}
+use Rattle.as_path.specs.Segments.{numberAt, numbersAt, startsFrom, starts, segments}
+use Rattle.as_path.specs.Faults.{numbersFault, segmentFault, faultAmong, firstFault}
+use Rattle.as_path.specs.Grounds.{hasSet, groundOf}
+use Rattle.as_path.specs.Merging.{runsAfter, mergeRuns, mergedPath}
+use Rattle.as_path.specs.Reading.{contentOf}
+use Rattle.rules.specs.Hops.{lowest, highest, climb, descend}
+use Rattle.rules.specs.Records.{Record, isIn, attested, united, hopOf}
+use Rattle.rules.specs.Verdicts.{upstream, downstream, judged}
+use Rattle.rules.specs.Judging.{judgedRoute}
+
+-- Four bytes a number, high byte first.
+unfoldable pub bytes : List ℕ → List ℕ
+bytes [] = []
+bytes (x ∷ l) = x / 16777216 ∷ x / 65536 % 256 ∷ x / 256 % 256 ∷ x % 256 ∷ bytes l
+
+-- An attribute of one sequence.
+abbrev pub sequence : List ℕ → List ℕ
+sequence l = 2 ∷ length l ∷ bytes l
+
+abbrev filed : ℕ → List ℕ → Record
+filed customer providers = record { customer = customer; source = 0; providers = providers }
+
+-- Register D, filed by one source.
+abbrev pub registerD : List Record
+registerD =
+    filed 10 (20 ∷ 30 ∷ [])
+    ∷ filed 20 (40 ∷ [])
+    ∷ filed 40 (0 ∷ [])
+    ∷ filed 50 (40 ∷ [])
+    ∷ filed 70 (80 ∷ [])
+    ∷ filed 80 (70 ∷ [])
+    ∷ []
+
+pub record Vector : Type 0 where
+  pub role : ℕ
+  pub neighbour : ℕ
+  pub path : List ℕ
+  pub answer : Judged
+
+abbrev vector : ℕ → ℕ → List ℕ → Judged → Vector
+vector r n p a = record { role = r; neighbour = n; path = p; answer = a }
+
+abbrev plain : Verdict → Judged
+plain v = Answered (Plain v)
+
+abbrev gapped : Verdict → ℤ → Judged
+gapped v g = Answered (WithGap v g)
+
+-- A to L: role, neighbour, path with its left end first, answer.
+abbrev pub vectors : List Vector
+vectors =
+    vector 1 20 (20 ∷ 10 ∷ []) (plain Valid)
+    ∷ vector 1 40 (40 ∷ 20 ∷ 10 ∷ []) (plain Valid)
+    ∷ vector 1 50 (50 ∷ 20 ∷ 10 ∷ []) (plain (Invalid (ByHops 3 0)))
+    ∷ vector 2 30 (30 ∷ 60 ∷ 10 ∷ []) (plain (Invalid (ByHops 2 0)))
+    ∷ vector 1 30 (30 ∷ 60 ∷ []) (plain (Unknown 2 0))
+    ∷ vector 3 50 (50 ∷ 40 ∷ 20 ∷ 10 ∷ []) (gapped Valid (pos 0))
+    ∷ vector 3 20 (20 ∷ 10 ∷ 30 ∷ []) (gapped (Unknown 1 3) (pos 2))
+    ∷ vector 3 20 (20 ∷ 10 ∷ 40 ∷ []) (gapped (Invalid (ByHops 2 2)) (pos 2))
+    ∷ vector 3 50 (50 ∷ 20 ∷ []) (gapped Valid (pos 1))
+    ∷ vector 6 80 (80 ∷ 70 ∷ []) (gapped Valid (negsuc 0))
+    ∷ vector 1 30 (20 ∷ 10 ∷ []) (plain (Invalid (ByGround NotNeighbour)))
+    ∷ vector 4 30 (20 ∷ 10 ∷ []) (plain Valid)
+    ∷ []
+
+abbrev pub wanted : Vector → Judged
+wanted v = v .answer
+
+abbrev pub given : Vector → Judged
+given v = judgedRoute (hopOf registerD) (v .role) (v .neighbour) (sequence (v .path))
+
+-- Every vector's answer is the definitions' own.
+pub starred : map given vectors ≡ map wanted vectors
+unfolding judgedRoute firstGiven contentOf numberAt numbersAt startsFrom starts segments numbersFault segmentFault faultAmong firstFault hasSet groundOf runsAfter mergeRuns mergedPath lowest highest climb descend isIn attested united hopOf upstream downstream judged bytes
+starred = refl
+
+-- Vector A's attribute, byte by byte.
+pub attribute-a : sequence (20 ∷ 10 ∷ []) ≡ 2 ∷ 2 ∷ 0 ∷ 0 ∷ 0 ∷ 20 ∷ 0 ∷ 0 ∷ 0 ∷ 10 ∷ []
+unfolding bytes
+attribute-a = refl
+
+-- The edges, over an empty register: a path of n numbers from x on.
+unfoldable pub count : ℕ → ℕ → List ℕ
+count zero x = []
+count (suc n) x = x ∷ count n (x + 1)
+
+-- 255 numbers in two segments: 1,024 bytes. Merged, each segment is one number.
+abbrev longest : List ℕ
+longest = sequence (replicate 200 20) ++ sequence (replicate 55 20)
+
+abbrev judgedEmpty : List ℕ → Judged
+judgedEmpty attribute = judgedRoute (hopOf []) 1 20 attribute
+
+pub edges :
+    map judgedEmpty ([] ∷ (2 ∷ []) ∷ sequence (count 64 20) ∷ sequence (count 65 20) ∷ longest ∷ (longest ++ (2 ∷ [])) ∷ [])
+    ≡ plain (Invalid (ByGround Empty))
+    ∷ Refused (Attribute CutShort 0)
+    ∷ plain (Unknown 2 0)
+    ∷ Refused PathLength
+    ∷ plain (Unknown 2 0)
+    ∷ Refused AttributeLength
+    ∷ []
+unfolding count judgedRoute firstGiven contentOf numberAt numbersAt startsFrom starts segments numbersFault segmentFault faultAmong firstFault hasSet groundOf runsAfter mergeRuns mergedPath lowest highest climb descend isIn attested united hopOf upstream downstream judged bytes
+edges = refl

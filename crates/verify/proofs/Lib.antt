@@ -1,4 +1,0 @@
-pub mod Turns
-pub mod Rising
-pub mod Passing
-pub mod Judgements
