@@ -32,6 +32,16 @@ use Rattle.rejudge.specs.Rejudging.{rejudgedRoute}
 abbrev pub hopIn : List ℕ → HopFunction
 hopIn reg = hopOf (recordsOf reg)
 
+-- What a keeping is handed.
+pub record Keeping : Type 0 where
+  pub number : ℕ
+  pub role : ℕ
+  pub neighbour : ℕ
+  pub attribute : List ℕ
+
+abbrev pub keeping : ℕ → ℕ → ℕ → List ℕ → Keeping
+keeping number role neighbour attribute = record { number = number; role = role; neighbour = neighbour; attribute = attribute }
+
 -- ---- Judge: rows 1 and 2, then 9 to 17
 
 unfoldable pub judgeAnswer : List ℕ → ℕ → ℕ → List ℕ → Judged
