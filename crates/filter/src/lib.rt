@@ -93,14 +93,7 @@ fn keep_answer(
     requires { ⌜ (length (now led) ≡ ledgerWords) × (ledgerOk (now led) ≡ true) ⌝ }
     ensures { λ r. ⌜ (r ≡ storedEffect (now (led .entry)) (routeFor (number .0) (roleNumber role) (neighbour .0) (verdictOf answer) (now (path .entry))) answer .answer) × (now (led .exit) ≡ storedEffect (now (led .entry)) (routeFor (number .0) (roleNumber role) (neighbour .0) (verdictOf answer) (now (path .entry))) answer .words) ⌝ }
 {
-    match ledger::store(
-        led,
-        number,
-        role,
-        neighbour,
-        answer.verdict(),
-        path,
-    ) {
+    match ledger::store(led, number, role, neighbour, answer.verdict(), path) {
         Kept::Done => Judged::Answered(answer),
         Kept::Refused(r) => Judged::Refused(r),
     }
