@@ -11,12 +11,11 @@ use lib.IntN.{pos}
 use lib.Signed.{leZ}
 use Rattle.types.specs.declared.Hop.{Hop}
 use Rattle.types.specs.declared.Hop.the-variants.{NoAttestation, ProviderPlus, NotProviderPlus}
-use Rattle.types.specs.declared.Cause.the-variants.{ByHops}
 use Rattle.types.specs.declared.Verdict.{Verdict}
 use Rattle.types.specs.declared.Verdict.the-variants.{Valid, Invalid, Unknown}
 use Rattle.types.specs.Numbers.{placeA, placeB}
 use Rattle.rules.specs.Hops.{HopFunction, isPlus, isNotPlus, up, down}
-use Rattle.rules.specs.Verdicts.{lowestNotPlus, lowestUnattested, highestNotPlus, rampUp, rampDown, gapOf, upstream, downstream}
+use Rattle.rules.specs.Verdicts.{lowestNotPlus, lowestUnattested, highestNotPlus, rampUp, rampDown, gapOf, downCause, upstream, downstream}
 use Rattle.rules.proofs.Searching.{Lowest, Highest, lowest-is, highest-is}
 use Rattle.rules.proofs.Ramps.{ramp-up-is, ramp-down-is}
 use Rattle.rules.proofs.Gaps.{far}
@@ -79,7 +78,7 @@ module _ (hop : HopFunction) (path : List ℕ) (one : 1 ≤ length path) where
   pub either-order :
       downstream hop path
       ≡ cond (leZ (gapOf hop path) (pos 1)) Valid
-      (cond (leb (lowestNotPlus hop path) (highestNotPlus hop path)) (Invalid (ByHops (lowestNotPlus hop path) (highestNotPlus hop path)))
+      (cond (leb (lowestNotPlus hop path) (highestNotPlus hop path)) (Invalid (downCause hop path (lowestNotPlus hop path) (highestNotPlus hop path)))
       (Unknown (rampUp hop path) (rampDown hop path)))
   unfolding downstream
   either-order = swapped _ _ _ _ _ (λ e. not-both (leb-true _ _ e))
