@@ -83,3 +83,17 @@ content-ground role neighbour xs (Faulty f p) g e e' = ((λ h c. clash (let z = 
 content-ground role neighbour xs Clean (By g) e e' =
     ((λ h c. let z : grounded g ≡ grounded h = rw (e, e') at c in let y : g ≡ h = cc in e' ∙ ap By y), (λ l c. clash (let z = rw (e, e') at c in cc)))
 content-ground role neighbour xs Clean Not e e' = ((λ h c. clash (let z = rw (e, e') at c in cc)), (λ l c. e'))
+
+-- What is read as a fault has it.
+pub content-fault : (role neighbour : ℕ) (xs : List ℕ) (f : Fault) (p : ℕ) → contentOf role neighbour xs ≡ faulty f p → firstFault 4 xs ≡ Faulty f p
+unfolding contentOf
+content-fault role neighbour xs f p = scan (firstFault 4 xs) refl (groundOf role neighbour (segments 4 xs))
+  where
+    scan : (s : Scan) → firstFault 4 xs ≡ s → (g : Grounded) → afterScan s (afterGround g (mergedPath (segments 4 xs))) ≡ faulty f p
+        → firstFault 4 xs ≡ Faulty f p
+    scan Clean e (By g) h = clash (cc)
+    scan Clean e Not h = clash (cc)
+    scan (Faulty f' p') e g h =
+        let y : f' ≡ f = cc in
+        let z : p' ≡ p = cc in
+        rw (← y, ← z) e

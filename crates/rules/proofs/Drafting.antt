@@ -22,8 +22,9 @@ use Rattle.rules.specs.Hops.{HopFunction, isPlus, isNotPlus, isUnatteste
 use Rattle.rules.specs.Verdicts.{rampUp, rampDown, gapOf, upstream, downstream, judged}
 use Rattle.rules.specs.Judging.{judgedRoute}
 use Rattle.rules.specs.Draft.{some, each, largestK, smallestL, draftGap, draftUpstream, draftDownstream, draftJudged, onGround, draftRoute}
+use Rattle.rules.specs.Laws.{RampUp, RampDown}
 use Rattle.rules.proofs.Searching.{lowest-is, highest-is, lowest-only, highest-only}
-use Rattle.rules.proofs.Ramps.{RampUp, RampDown, ramp-up-is, ramp-down-is}
+use Rattle.rules.proofs.Ramps.{ramp-up-is, ramp-down-is}
 use Rattle.rules.proofs.Gaps.{near}
 use Rattle.rules.proofs.Orders.{either-order}
 use Rattle.rules.proofs.Judges.{Judgement, on-ground, on-path, answered}
