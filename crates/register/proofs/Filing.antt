@@ -15,7 +15,7 @@ use Rattle.types.specs.declared.Removal.{Removal}
 use Rattle.types.specs.declared.Removal.the-variants as removal
 use Rattle.types.specs.declared.Cleared.{Cleared}
 use Rattle.types.specs.declared.Cleared.the-variants as cleared
-use Rattle.types.specs.Rows.{firstGiven, Effect}
+use Rattle.types.specs.Rows.{firstGiven, Effect, effect}
 use Rattle.table.specs.Table.{Entry, bodies, encode, decode, Sound, Insertable, Removable, Clearable, stayingEntries, insertAt, removeAt}
 use Rattle.table.proofs.After.{removed}
 use Rattle.keyed.specs.Keyed.{samePair, beforePair, ascends, without}
@@ -127,9 +127,9 @@ module _ {ws : List ℕ} {position source customer : ℕ} {list : List ℕ} (p :
           }
 
       pub new-done : {ws' : List ℕ} → ws' ≡ encode (length ws) (insertAt position (entryOf r) (decode 2 0 ws))
-          → (filed.New ≡ fileEffect ws source customer list .answer) × (ws' ≡ fileEffect ws source customer list .words)
+          → effect filed.New ws' ≡ fileEffect ws source customer list
       unfolding roomFor registerOf
-      new-done {ws'} e = rw done (refl, e ∙ words)
+      new-done {ws'} e = ap (effect filed.New) (e ∙ words) ∙ sym done
         where
           fits : roomFor (putRecord r rs) ≡ true
           fits =
@@ -209,9 +209,9 @@ module _ {ws : List ℕ} {position source customer : ℕ} {list : List ℕ} (p :
           }
 
       pub over-done : {ws₂ : List ℕ} → ws₂ ≡ encode (length ws₁) (insertAt position (entryOf r) (decode 2 0 ws₁))
-          → (filed.Replaced ≡ fileEffect ws source customer list .answer) × (ws₂ ≡ fileEffect ws source customer list .words)
+          → effect filed.Replaced ws₂ ≡ fileEffect ws source customer list
       unfolding roomFor registerOf
-      over-done {ws₂} e = rw done (refl, e ∙ words)
+      over-done {ws₂} e = ap (effect filed.Replaced) (e ∙ words) ∙ sym done
         where
           fits : roomFor (putRecord r rs) ≡ true
           fits =
@@ -268,10 +268,10 @@ module _ (ws : List ℕ) (source customer : ℕ) where
                 record { sound = sound ws b; within = omega (arith, length-records ws (sound ws b)); small = omega (arith, a) }
 
             pub withdraw-done : {ws' : List ℕ} → ws' ≡ encode (length ws) (removeAt position (decode 2 0 ws))
-                → (removal.Done ≡ withdrawEffect ws source customer .answer) × (ws' ≡ withdrawEffect ws source customer .words)
+                → effect removal.Done ws' ≡ withdrawEffect ws source customer
             unfolding registerOf withdrawEffect firstGiven
             withdraw-done {ws'} g =
-                rw (eq-eqb (length ws) registerWords a, b, le-ltb lastSource source c, ne-eqb customer 0 d, e) (refl, g ∙ words)
+                rw (eq-eqb (length ws) registerWords a, b, le-ltb lastSource source c, ne-eqb customer 0 d, e) (ap (effect removal.Done) (g ∙ words))
               where
                 words : encode (length ws) (removeAt position (decode 2 0 ws)) ≡ encode registerWords (map entryOf (eraseRecord customer source (recordsOf ws)))
                 words =
@@ -328,8 +328,8 @@ module _ (ws : List ℕ) (source : ℕ) where
         gone-few = omega (arith, length-records ws (sound ws b), room-records (recordsOf ws) (has-room (recordsOf ws) (records-ok ws b)))
 
         pub clear-done : {ws' : List ℕ} → source ≤ lastSource → ws' ≡ encode (length ws) (stayingEntries 1 source (decode 2 0 ws))
-            → (cleared.Gone gone ≡ clearEffect ws source .answer) × (ws' ≡ clearEffect ws source .words)
+            → effect (cleared.Gone gone) ws' ≡ clearEffect ws source
         unfolding clearEffect firstGiven registerOf
         clear-done c e =
             rw (eq-eqb (length ws) registerWords a, b, le-ltb lastSource source c)
-            (ap cleared.Gone gone-is, e ∙ (λ i. encode (a i) (kept i)))
+            (λ i. effect (cleared.Gone (gone-is i)) ((e ∙ (λ j. encode (a j) (kept j))) i))

@@ -10,6 +10,7 @@ ghost use mathlib.Core.Bool.{true, false, cond, _&&_};
 ghost use Prim.Native.Nat.{_^_, _≤_, _<_};
 ghost use lib.ListN.{length, getD};
 ghost use Rattle.table.specs.Table.{Sound};
+ghost use Rattle.types.specs.Rows.{effect};
 ghost use Rattle.keyed.specs.Keyed.{samePair, beforePair, ascends, every};
 ghost use Rattle.types.specs.declared.Hop.the-variants.{NoAttestation, ProviderPlus, NotProviderPlus};
 ghost use Rattle.rules.specs.Records.{isIn, hopOf};
@@ -295,7 +296,7 @@ pub fn hop_from(reg: &[u32], position: usize, x: u32, y: u32) -> Hop
 // A new record goes in at its position, if there is room for it.
 fn add(reg: &mut [u32], position: usize, source: u32, customer: u32, list: &[u32]) -> Filed
     requires { ⌜ Passed (now reg) position source customer (now list) × (holdsRecord customer source (recordsOf (now reg)) ≡ false) ⌝ }
-    ensures { λ r. ⌜ (r ≡ fileEffect (now (reg .entry)) source customer (now (list .entry)) .answer) × (now (reg .exit) ≡ fileEffect (now (reg .entry)) source customer (now (list .entry)) .words) ⌝ }
+    ensures { λ r. ⌜ effect r (now (reg .exit)) ≡ fileEffect (now (reg .entry)) source customer (now (list .entry)) ⌝ }
 {
     if MOST_RECORDS <= table::word(reg, 0) {
         return Filed::Refused(Refusal::RegisterFull);
@@ -311,7 +312,7 @@ fn add(reg: &mut [u32], position: usize, source: u32, customer: u32, list: &[u32
 // A list takes the place of the one that stands under its pair, if there is room for it.
 fn replace(reg: &mut [u32], position: usize, source: u32, customer: u32, list: &[u32]) -> Filed
     requires { ⌜ Passed (now reg) position source customer (now list) × (holdsRecord customer source (recordsOf (now reg)) ≡ true) ⌝ }
-    ensures { λ r. ⌜ (r ≡ fileEffect (now (reg .entry)) source customer (now (list .entry)) .answer) × (now (reg .exit) ≡ fileEffect (now (reg .entry)) source customer (now (list .entry)) .words) ⌝ }
+    ensures { λ r. ⌜ effect r (now (reg .exit)) ≡ fileEffect (now (reg .entry)) source customer (now (list .entry)) ⌝ }
 {
     let others = table::word(reg, 1) - table::word(reg, 2 + position * 4 + 3);
     if MOST_BODY_WORDS - others < list.len() {
@@ -323,8 +324,10 @@ fn replace(reg: &mut [u32], position: usize, source: u32, customer: u32, list: &
     Filed::Replaced
 }
 
+// File: a list goes in under the pair of its source and customer, in the place of the one that is there; no other list changes.
+// Answers whether it is new or replaced another. Rows 1, 2, 4, 5, 6, 8.
 pub fn file(reg: &mut [u32], source: u32, customer: AsNumber, list: &[u32]) -> Filed
-    ensures { λ r. ⌜ (r ≡ fileEffect (now (reg .entry)) source (customer .0) (now (list .entry)) .answer) × (now (reg .exit) ≡ fileEffect (now (reg .entry)) source (customer .0) (now (list .entry)) .words) ⌝ }
+    ensures { λ r. ⌜ effect r (now (reg .exit)) ≡ fileEffect (now (reg .entry)) source (customer .0) (now (list .entry)) ⌝ }
 {
     if reg.len() != WORDS {
         return Filed::Refused(Refusal::TableLength);
@@ -349,8 +352,9 @@ pub fn file(reg: &mut [u32], source: u32, customer: AsNumber, list: &[u32]) -> F
     add(reg, position, source, c, list)
 }
 
+// Withdraw: the list of one source and customer goes out; no other changes. Rows 1, 2, 4, 5, 7.
 pub fn withdraw(reg: &mut [u32], source: u32, customer: AsNumber) -> Removal
-    ensures { λ r. ⌜ (r ≡ withdrawEffect (now (reg .entry)) source (customer .0) .answer) × (now (reg .exit) ≡ withdrawEffect (now (reg .entry)) source (customer .0) .words) ⌝ }
+    ensures { λ r. ⌜ effect r (now (reg .exit)) ≡ withdrawEffect (now (reg .entry)) source (customer .0) ⌝ }
 {
     if reg.len() != WORDS {
         return Removal::Refused(Refusal::TableLength);
@@ -373,8 +377,9 @@ pub fn withdraw(reg: &mut [u32], source: u32, customer: AsNumber) -> Removal
     Removal::Done
 }
 
+// Clear: every list of one source goes out; no other changes. Answers how many records went, zero included. Rows 1, 2, 4.
 pub fn clear(reg: &mut [u32], source: u32) -> Cleared
-    ensures { λ r. ⌜ (r ≡ clearEffect (now (reg .entry)) source .answer) × (now (reg .exit) ≡ clearEffect (now (reg .entry)) source .words) ⌝ }
+    ensures { λ r. ⌜ effect r (now (reg .exit)) ≡ clearEffect (now (reg .entry)) source ⌝ }
 {
     if reg.len() != WORDS {
         return Cleared::Refused(Refusal::TableLength);
