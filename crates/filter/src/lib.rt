@@ -18,6 +18,7 @@ ghost use mathlib.Core.Path.{_≡_};
 ghost use mathlib.Core.Bool.{true};
 ghost use lib.ListN.{length};
 ghost use Rattle.types.specs.Numbers.{roleNumber, verdictOf};
+ghost use Rattle.types.specs.Rows.{effect};
 ghost use Rattle.as_path.specs.Reading.{contentOf};
 ghost use Rattle.rules.specs.Judging.{answerTo};
 ghost use Rattle.register.specs.Register.{registerOk};
@@ -179,19 +180,19 @@ pub fn rejudge(reg: &[u32], led: &mut [u32]) -> Rejudged
 }
 
 pub fn file(reg: &mut [u32], source: u32, customer: AsNumber, providers: &[u32]) -> Filed
-    ensures { λ r. ⌜ (r ≡ fileEffect (now (reg .entry)) source (customer .0) (now (providers .entry)) .answer) × (now (reg .exit) ≡ fileEffect (now (reg .entry)) source (customer .0) (now (providers .entry)) .words) ⌝ }
+    ensures { λ r. ⌜ effect r (now (reg .exit)) ≡ fileEffect (now (reg .entry)) source (customer .0) (now (providers .entry)) ⌝ }
 {
     register::file(reg, source, customer, providers)
 }
 
 pub fn withdraw(reg: &mut [u32], source: u32, customer: AsNumber) -> Removal
-    ensures { λ r. ⌜ (r ≡ withdrawEffect (now (reg .entry)) source (customer .0) .answer) × (now (reg .exit) ≡ withdrawEffect (now (reg .entry)) source (customer .0) .words) ⌝ }
+    ensures { λ r. ⌜ effect r (now (reg .exit)) ≡ withdrawEffect (now (reg .entry)) source (customer .0) ⌝ }
 {
     register::withdraw(reg, source, customer)
 }
 
 pub fn clear(reg: &mut [u32], source: u32) -> Cleared
-    ensures { λ r. ⌜ (r ≡ clearEffect (now (reg .entry)) source .answer) × (now (reg .exit) ≡ clearEffect (now (reg .entry)) source .words) ⌝ }
+    ensures { λ r. ⌜ effect r (now (reg .exit)) ≡ clearEffect (now (reg .entry)) source ⌝ }
 {
     register::clear(reg, source)
 }
