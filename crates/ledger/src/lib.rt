@@ -13,6 +13,7 @@ ghost use lib.ListN.{length};
 ghost use Rattle.table.specs.Table.{Sound};
 ghost use Rattle.keyed.specs.Keyed.{ascends, every, holds};
 ghost use Rattle.types.specs.Numbers.{roleNumber};
+ghost use Rattle.types.specs.Rows.{effect};
 ghost use Rattle.ledger.specs.Calls.{routeFor, storeEffect, dropEffect};
 ghost use Rattle.ledger.specs.Routes.{ledgerWords, routesOf, routeAt, keyOf, noZero, pathOk, routeOk, isBehind, PathFrom, ledgerOk, positionOf};
 
@@ -185,7 +186,8 @@ pub fn store(
     path: &[u32],
 ) -> Kept
     requires { ⌜ (length (now led) ≡ ledgerWords) × (ledgerOk (now led) ≡ true) ⌝ }
-    ensures { λ r. ⌜ (r ≡ storeEffect (now (led .entry)) (routeFor (number .0) (roleNumber role) (neighbour .0) verdict (now (path .entry))) .answer) × (now (led .exit) ≡ storeEffect (now (led .entry)) (routeFor (number .0) (roleNumber role) (neighbour .0) verdict (now (path .entry))) .words) ⌝ }
+    ensures { λ r. ⌜ effect r (now (led .exit))
+        ≡ storeEffect (now (led .entry)) (routeFor (number .0) (roleNumber role) (neighbour .0) verdict (now (path .entry))) ⌝ }
 {
     let n = number.0;
     let position = find(led, n);
@@ -213,7 +215,7 @@ pub fn store(
 }
 
 pub fn drop(led: &mut [u32], number: RouteNumber) -> Removal
-    ensures { λ r. ⌜ (r ≡ dropEffect (now (led .entry)) (number .0) .answer) × (now (led .exit) ≡ dropEffect (now (led .entry)) (number .0) .words) ⌝ }
+    ensures { λ r. ⌜ effect r (now (led .exit)) ≡ dropEffect (now (led .entry)) (number .0) ⌝ }
 {
     if led.len() != WORDS {
         return Removal::Refused(Refusal::TableLength);
