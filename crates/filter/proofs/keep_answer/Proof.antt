@@ -28,8 +28,8 @@ returns : tie.Need-returns
 returns c = let a = c .before .before .before .before .before .before .before .before .before .args in
     let r : Verdict → Route = λ v. routeFor (a .number .0) (roleNumber (a .role)) (a .neighbour .0) v (a .path .now) in
     let e = c .before .before .before .before .before .verdict .ensures in
-    stored-done (a .led .now) (r (verdictOf (a .answer))) (a .answer) (c .before .before .before .before .store .ensures .1 ∙ ap (λ v. storeEffect (a .led .now) (r v) .words) e)
-    (sym (c .enum-told .given .1) ∙ c .before .before .before .before .store .ensures .0 ∙ ap (λ v. storeEffect (a .led .now) (r v) .answer) e)
+    stored-done (a .led .now) (r (verdictOf (a .answer))) (a .answer) (ap (λ s. s .words) (c .before .before .before .before .store .ensures) ∙ ap (λ v. storeEffect (a .led .now) (r v) .words) e)
+    (sym (c .enum-told .given .1) ∙ ap (λ s. s .answer) (c .before .before .before .before .store .ensures) ∙ ap (λ v. storeEffect (a .led .now) (r v) .answer) e)
 
 same-length-2 : tie.Need-same-length-2
 same-length-2 c = search needs
@@ -38,8 +38,8 @@ returns-2 : tie.Need-returns-2
 returns-2 c = let a = c .before .before .before .before .before .before .before .before .before .before .args in
     let r : Verdict → Route = λ v. routeFor (a .number .0) (roleNumber (a .role)) (a .neighbour .0) v (a .path .now) in
     let e = c .before .before .before .before .before .before .verdict .ensures in
-    stored-refused (a .led .now) (r (verdictOf (a .answer))) (a .answer) (c .before .before .before .before .before .store .ensures .1 ∙ ap (λ v. storeEffect (a .led .now) (r v) .words) e)
-    (sym (c .before .r .given .1) ∙ c .before .before .before .before .before .store .ensures .0 ∙ ap (λ v. storeEffect (a .led .now) (r v) .answer) e)
+    stored-refused (a .led .now) (r (verdictOf (a .answer))) (a .answer) (ap (λ s. s .words) (c .before .before .before .before .before .store .ensures) ∙ ap (λ v. storeEffect (a .led .now) (r v) .words) e)
+    (sym (c .before .r .given .1) ∙ ap (λ s. s .answer) (c .before .before .before .before .before .store .ensures) ∙ ap (λ v. storeEffect (a .led .now) (r v) .answer) e)
 
 pub keep-answer-spec : {M : Type 1} → statement M
 keep-answer-spec =
