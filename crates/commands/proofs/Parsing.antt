@@ -18,9 +18,9 @@ use Rattle.lines.specs.Words.{allNumbers, numbersIn, listRead, listCount}
 use Rattle.lines.proofs.Readings.{read-list, read-all, read-bytes-in}
 use Rattle.types.specs.declared.Filed.{Filed}
 use Rattle.types.specs.declared.Judged as judged
-use Rattle.types.specs.Rows.{Effect}
+use Rattle.types.specs.Rows.{Effect, effect}
 use Rattle.register.specs.Calls.{fileEffect}
-use Rattle.filter.specs.Calls.{judgeAnswer, keepEffect}
+use Rattle.filter.specs.Calls.{judgeAnswer, keeping, keepEffect}
 use Rattle.commands.specs.declared.Reply.the-variants as reply
 use Rattle.commands.specs.Commands.{Command, bad, ofWords, withNumber, withBytes, withNumbers, upTo, fileCommand, judgeCommand, keepCommand}
 use Rattle.commands.specs.Performing.{Result, both, result, performed}
@@ -126,13 +126,13 @@ module _ (reg led : List ℕ) (ws : List (List ℕ)) {after : List ℕ} {k : ℕ
   pub keeps :
       {route : ℕ} {led' : List ℕ} → length ws ≡ 5 → numberOf (getD ws 1 []) ≡ number.Is route → numberOf (getD ws 2 []) ≡ number.Is role
       → numberOf (getD ws 3 []) ≡ number.Is neighbour → Attribute (getD ws 4 []) after k
-      → j ≡ keepEffect reg led route role neighbour (take k after) .answer → led' ≡ keepEffect reg led route role neighbour (take k after) .words
+      → effect j led' ≡ keepEffect reg led (keeping route role neighbour (take k after))
       → result (reply.Judged j) reg led' ≡ performed (both reg led) (keepCommand ws)
-  keeps {route = route} l m r n a e f =
-      let step : List ℕ → Effect judged.Judged = λ b. keepEffect reg led route role neighbour b in
+  keeps {route = route} l m r n a e =
+      let left = e ∙ ap (λ b. keepEffect reg led (keeping route role neighbour b)) (a .bytes-read) in
       does reg led (keepCommand ws)
       (right-count ws 5 _ l ∙ number-is ws 1 _ m ∙ number-is ws 2 _ r ∙ number-is ws 3 _ n ∙ bytes-are ws 4 _ (a .length-read))
-      (λ i. result (reply.Judged ((e ∙ ap (λ b. step b .answer) (a .bytes-read)) i)) reg ((f ∙ ap (λ b. step b .words) (a .bytes-read)) i))
+      (λ i. result (reply.Judged (left i .answer)) reg (left i .words))
 
 pub files :
     (reg led : List ℕ) (ws : List (List ℕ)) (into : List ℕ) {after : List ℕ} {k source customer : ℕ} {r : list-type.List} {filed : Filed} {reg' : List ℕ} → 3 ≤ length ws

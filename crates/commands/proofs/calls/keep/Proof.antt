@@ -148,7 +148,7 @@ returns-6 c =
     keeps (a .reg .now) (a .led .now) (wordsOf (a .line .now)) (sym (pre .1) ∙ if1 .left) (sym (number .ensures) ∙ number2 .given .1)
     (sym (number3 .ensures) ∙ role .given .1) (sym (number4 .ensures) ∙ neighbour .given .1)
     (attribute-read (wordAt (a .line .now) 4) (no-bytes′ .result) (bytes .ensures .0) (bytes .ensures .1) (bytes .ensures .2) (k .given .1))
-    (keep .ensures .0) (keep .ensures .1)
+    (keep .ensures)
 
 pub keep-spec : {M : Type 1} → statement M
 keep-spec =

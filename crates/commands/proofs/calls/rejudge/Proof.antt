@@ -30,7 +30,7 @@ returns-2 c =
     let if1 = c .before .before .before .before .before .if1 in
     let rejudge = c .before .before .rejudge in
     does (a .reg .now) (a .led .now) _ (right-count _ 1 _ (sym (pre) ∙ if1 .left))
-    (λ i. result (reply.Rejudged (rejudge .ensures .0 i)) (a .reg .now) (rejudge .ensures .1 i))
+    (λ i. result (reply.Rejudged (rejudge .ensures i .answer)) (a .reg .now) (rejudge .ensures i .words))
 
 pub rejudge-spec : {M : Type 1} → statement M
 rejudge-spec = tie.close (tie.spec returns rejudge-requires same-length same-length-2 returns-2)
