@@ -39,7 +39,7 @@ const HEAD: usize = 2;
 
 const TAIL: usize = 0;
 
-const WIDTH: usize = HEAD + 2 + TAIL;
+pub const WIDTH: usize = HEAD + 2 + TAIL;
 
 const SOURCE: usize = 1;
 
