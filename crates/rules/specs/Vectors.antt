@@ -1,9 +1,11 @@
 -- The test vectors A to L of the rules, as one table, and the edges that the rules name. All by computation from the definitions.
-use Prim.Native.Nat.{ℕ, zero, suc, _+_, _/_, _%_}
+use Prim.Native.Nat.{ℕ, zero, suc, _+_, _-_, _/_, _%_}
+use mathlib.Core.Bool.{cond}
 use mathlib.Core.Path.{_≡_, refl}
 use mathlib.Core.List.{List, [], _∷_, _++_, map}
 use lib.IntN.{ℤ, pos, negsuc}
-use lib.ListN.{length, replicate}
+use lib.Dec.{leb}
+use lib.ListN.{length, replicate, take, drop}
 use Rattle.types.specs.declared.Ground.the-variants.{Empty, NotNeighbour}
 use Rattle.types.specs.declared.Cause.the-variants.{ByGround, ByHops}
 use Rattle.types.specs.declared.Verdict.{Verdict}
@@ -18,11 +20,11 @@ use Rattle.as_path.specs.Segments.{numberAt, numbersAt, startsFrom, starts, seg
 use Rattle.as_path.specs.Faults.{numbersFault, segmentFault, faultAmong, firstFault}
 use Rattle.as_path.specs.Grounds.{hasSet, groundOf}
 use Rattle.as_path.specs.Merging.{runsAfter, mergeRuns, mergedPath}
-use Rattle.as_path.specs.Reading.{contentOf}
+use Rattle.as_path.specs.Reading.{mostNumbers, contentOf}
 use Rattle.rules.specs.Hops.{lowest, highest, climb, descend}
 use Rattle.rules.specs.Records.{Record, isIn, attested, united, hopOf}
 use Rattle.rules.specs.Verdicts.{upstream, downstream, judged}
-use Rattle.rules.specs.Judging.{judgedRoute}
+use Rattle.rules.specs.Judging.{mostBytes, judgedRoute}
 
 -- Four bytes a number, high byte first.
 unfoldable pub bytes : List ℕ → List ℕ
@@ -100,15 +102,36 @@ unfoldable pub count : ℕ → ℕ → List ℕ
 count zero x = []
 count (suc n) x = x ∷ count n (x + 1)
 
--- 255 numbers in two segments: 1,024 bytes. Merged, each segment is one number.
+-- The most numbers of a segment: its count is a byte.
+abbrev mostCount : ℕ
+mostCount = 255
+
+-- An attribute of as many sequences as the numbers take. The first argument bounds how many.
+unfoldable pub sequences : ℕ → List ℕ → List ℕ
+sequences zero l = []
+sequences (suc f) l = cond (leb (length l) mostCount) (sequence l) (sequence (take mostCount l) ++ sequences f (drop mostCount l))
+
+abbrev counted : ℕ → List ℕ
+counted n = sequences n (count n 20)
+
+-- Two segments of 256 times 4 bytes. Merged, each is one number.
+abbrev two : List ℕ
+two = sequence (20 ∷ []) ++ sequence (replicate (mostCount - 1) 20)
+
+unfoldable pub repeated : ℕ → List ℕ → List ℕ
+repeated zero l = []
+repeated (suc n) l = l ++ repeated n l
+
+-- An attribute of the most bytes.
 abbrev longest : List ℕ
-longest = sequence (replicate 200 20) ++ sequence (replicate 55 20)
+longest = repeated (mostBytes / length two) two
 
 abbrev judgedEmpty : List ℕ → Judged
 judgedEmpty attribute = judgedRoute (hopOf []) 1 20 attribute
 
+-- Nothing and one byte; a path of the most numbers and of one more; an attribute of the most bytes and of one more.
 pub edges :
-    map judgedEmpty ([] ∷ (2 ∷ []) ∷ sequence (count 64 20) ∷ sequence (count 65 20) ∷ longest ∷ (longest ++ (2 ∷ [])) ∷ [])
+    map judgedEmpty ([] ∷ (2 ∷ []) ∷ counted mostNumbers ∷ counted (mostNumbers + 1) ∷ longest ∷ (longest ++ (2 ∷ [])) ∷ [])
     ≡ plain (Invalid (ByGround Empty))
     ∷ Refused (Attribute CutShort 0)
     ∷ plain (Unknown 2 0)
@@ -116,5 +139,5 @@ pub edges :
     ∷ plain (Unknown 2 0)
     ∷ Refused AttributeLength
     ∷ []
-unfolding count judgedRoute firstGiven contentOf numberAt numbersAt startsFrom starts segments numbersFault segmentFault faultAmong firstFault hasSet groundOf runsAfter mergeRuns mergedPath lowest highest climb descend isIn attested united hopOf upstream downstream judged bytes
+unfolding count sequences repeated judgedRoute firstGiven contentOf numberAt numbersAt startsFrom starts segments numbersFault segmentFault faultAmong firstFault hasSet groundOf runsAfter mergeRuns mergedPath lowest highest climb descend isIn attested united hopOf upstream downstream judged bytes
 edges = refl
