@@ -1,11 +1,9 @@
 -- The test vectors A to L of the rules, as one table, and the edges that the rules name. All by computation from the definitions.
-use Prim.Native.Nat.{ℕ, zero, suc, _+_, _-_, _/_, _%_}
-use mathlib.Core.Bool.{cond}
+use Prim.Native.Nat.{ℕ, zero, suc, _+_, _/_, _%_}
 use mathlib.Core.Path.{_≡_, refl}
 use mathlib.Core.List.{List, [], _∷_, _++_, map}
 use lib.IntN.{ℤ, pos, negsuc}
-use lib.Dec.{leb}
-use lib.ListN.{length, replicate, take, drop}
+use lib.ListN.{length, replicate}
 use Rattle.types.specs.declared.Ground.the-variants.{Empty, NotNeighbour}
 use Rattle.types.specs.declared.Cause.the-variants.{ByGround, ByHops}
 use Rattle.types.specs.declared.Verdict.{Verdict}
@@ -58,7 +56,7 @@ pub record Vector : Type 0 where
 abbrev vector : ℕ → ℕ → List ℕ → Judged → Vector
 vector r n p a = record { role = r; neighbour = n; path = p; answer = a }
 
-abbrev plain : Verdict → Judged
+abbrev pub plain : Verdict → Judged
 plain v = Answered (Plain v)
 
 abbrev gapped : Verdict → ℤ → Judged
@@ -97,47 +95,35 @@ pub attribute-a : sequence (20 ∷ 10 ∷ []) ≡ 2 ∷ 2 ∷ 0 ∷ 0 ∷ 0 ∷ 
 unfolding bytes
 attribute-a = refl
 
--- The edges, over an empty register: a path of n numbers from x on.
-unfoldable pub count : ℕ → ℕ → List ℕ
-count zero x = []
-count (suc n) x = x ∷ count n (x + 1)
+-- ---- the edges, over an empty register
 
--- The most numbers of a segment: its count is a byte.
-abbrev mostCount : ℕ
-mostCount = 255
-
--- An attribute of as many sequences as the numbers take. The first argument bounds how many.
-unfoldable pub sequences : ℕ → List ℕ → List ℕ
-sequences zero l = []
-sequences (suc f) l = cond (leb (length l) mostCount) (sequence l) (sequence (take mostCount l) ++ sequences f (drop mostCount l))
-
-abbrev counted : ℕ → List ℕ
-counted n = sequences n (count n 20)
-
--- Two segments of 256 times 4 bytes. Merged, each is one number.
-abbrev two : List ℕ
-two = sequence (20 ∷ []) ++ sequence (replicate (mostCount - 1) 20)
-
-unfoldable pub repeated : ℕ → List ℕ → List ℕ
+unfoldable pub repeated : {A : Type 0} → ℕ → List A → List A
 repeated zero l = []
 repeated (suc n) l = l ++ repeated n l
 
+-- A path of n numbers: as many segments, each of one number. No run crosses from one to the next.
+abbrev pub numbered : ℕ → List ℕ
+numbered n = repeated n (sequence (20 ∷ []))
+
+-- Two segments, of 1 and 254 numbers, are 1,024 bytes. Merged, each is one number.
+abbrev pub two : List ℕ
+two = sequence (20 ∷ []) ++ sequence (replicate 254 20)
+
 -- An attribute of the most bytes.
-abbrev longest : List ℕ
+abbrev pub longest : List ℕ
 longest = repeated (mostBytes / length two) two
 
-abbrev judgedEmpty : List ℕ → Judged
+abbrev pub judgedEmpty : List ℕ → Judged
 judgedEmpty attribute = judgedRoute (hopOf []) 1 20 attribute
 
--- Nothing and one byte; a path of the most numbers and of one more; an attribute of the most bytes and of one more.
-pub edges :
-    map judgedEmpty ([] ∷ (2 ∷ []) ∷ counted mostNumbers ∷ counted (mostNumbers + 1) ∷ longest ∷ (longest ++ (2 ∷ [])) ∷ [])
-    ≡ plain (Invalid (ByGround Empty))
-    ∷ Refused (Attribute CutShort 0)
-    ∷ plain (Unknown 2 0)
-    ∷ Refused PathLength
-    ∷ plain (Unknown 2 0)
-    ∷ Refused AttributeLength
-    ∷ []
-unfolding count sequences repeated judgedRoute firstGiven contentOf numberAt numbersAt startsFrom starts segments numbersFault segmentFault faultAmong firstFault hasSet groundOf runsAfter mergeRuns mergedPath lowest highest climb descend isIn attested united hopOf upstream downstream judged bytes
-edges = refl
+-- Written from the limits; proofs/Edges.antt has the proof.
+pub record Edges : Type 0 where
+  -- Nothing, and one byte.
+  pub empty : judgedEmpty [] ≡ plain (Invalid (ByGround Empty))
+  pub lone-byte : judgedEmpty (2 ∷ []) ≡ Refused (Attribute CutShort 0)
+  -- A path of the most numbers, and of one more.
+  pub most-numbers : judgedEmpty (numbered mostNumbers) ≡ plain (Unknown 2 0)
+  pub one-number-more : judgedEmpty (numbered (mostNumbers + 1)) ≡ Refused PathLength
+  -- An attribute of the most bytes, and of one more.
+  pub most-bytes : judgedEmpty longest ≡ plain (Unknown 2 0)
+  pub one-byte-more : judgedEmpty (longest ++ (2 ∷ [])) ≡ Refused AttributeLength
