@@ -195,7 +195,7 @@ pub fn rejudge(reg: &[u32], led: &mut [u32]) -> Rejudged
 // Makes the list that of its pair of source and customer, in place of the pair's list if it has one.
 // Rows 1, 2, 4, 5, 6, 8.
 pub fn file(reg: &mut [u32], source: u32, customer: AsNumber, providers: &[u32]) -> Filed
-    ensures { λ r. ⌜ (r ≡ fileEffect (now (reg .entry)) source (customer .0) (now (providers .entry)) .answer) × (now (reg .exit) ≡ fileEffect (now (reg .entry)) source (customer .0) (now (providers .entry)) .words) ⌝ }
+    ensures { λ r. ⌜ effect r (now (reg .exit)) ≡ fileEffect (now (reg .entry)) source (customer .0) (now (providers .entry)) ⌝ }
 {
     register::file(reg, source, customer, providers)
 }
@@ -203,7 +203,7 @@ pub fn file(reg: &mut [u32], source: u32, customer: AsNumber, providers: &[u32])
 // Takes the list of one pair of source and customer out of the register.
 // Rows 1, 2, 4, 5, 7.
 pub fn withdraw(reg: &mut [u32], source: u32, customer: AsNumber) -> Removal
-    ensures { λ r. ⌜ (r ≡ withdrawEffect (now (reg .entry)) source (customer .0) .answer) × (now (reg .exit) ≡ withdrawEffect (now (reg .entry)) source (customer .0) .words) ⌝ }
+    ensures { λ r. ⌜ effect r (now (reg .exit)) ≡ withdrawEffect (now (reg .entry)) source (customer .0) ⌝ }
 {
     register::withdraw(reg, source, customer)
 }
@@ -211,7 +211,7 @@ pub fn withdraw(reg: &mut [u32], source: u32, customer: AsNumber) -> Removal
 // Takes all lists of a source out of the register, and answers how many went.
 // Rows 1, 2, 4.
 pub fn clear(reg: &mut [u32], source: u32) -> Cleared
-    ensures { λ r. ⌜ (r ≡ clearEffect (now (reg .entry)) source .answer) × (now (reg .exit) ≡ clearEffect (now (reg .entry)) source .words) ⌝ }
+    ensures { λ r. ⌜ effect r (now (reg .exit)) ≡ clearEffect (now (reg .entry)) source ⌝ }
 {
     register::clear(reg, source)
 }

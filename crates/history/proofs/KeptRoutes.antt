@@ -1,6 +1,6 @@
 -- The route that a keeping stores, and one that is judged anew, as the model has them. Assumes nothing.
 use Prim.Native.Nat.{ℕ, _≤_}
-use mathlib.Core.Path.{_≡_, refl}
+use mathlib.Core.Path.{_≡_, refl, sym, ap}
 use mathlib.Core.Bool.{Bool, true, false, cond}
 use mathlib.Core.List.{List}
 use mathlib.Core.Option.{none}
@@ -34,10 +34,10 @@ pub judged-word : (hop : HopFunction) (path : List ℕ) (role : ℕ) → 1 ≤ l
 unfolding judged
 judged-word hop path role one = go (isUpstream role)
   where
-    go : (b : Bool) → cond b (draftUpstream hop path) (draftDownstream hop path)
+    go : (b : Bool) → cond b (outcomeOf (draftUpstream hop path)) (outcomeOf (draftDownstream hop path))
         ≡ outcomeOf (verdictOf (cond b (Plain (upstream hop path)) (WithGap (downstream hop path) (gapOf hop path))))
-    go true = draft-upstream hop path one
-    go false = draft-downstream hop path one
+    go true = ap outcomeOf (sym (draft-upstream hop path one))
+    go false = ap outcomeOf (sym (draft-downstream hop path one))
 
 -- ---- a route that is judged anew
 

@@ -30,7 +30,7 @@ returns c = let a = c .before .before .before .before .before .before .before .b
     let e = c .before .before .before .before .before .verdict .ensures in
     let s = c .before .before .before .before .store .ensures in
     stored-done (a .led .now) (r (verdictOf (a .answer))) (a .answer)
-    (joined (sym (c .enum-told .given .1) ∙ s .0) (s .1) ∙ ap (λ v. storeEffect (a .led .now) (r v)) e)
+    (joined (sym (c .enum-told .given .1) ∙ ap (λ x. x .answer) s) (ap (λ x. x .words) s) ∙ ap (λ v. storeEffect (a .led .now) (r v)) e)
 
 same-length-2 : tie.Need-same-length-2
 same-length-2 c = search needs
@@ -41,7 +41,7 @@ returns-2 c = let a = c .before .before .before .before .before .before .before 
     let e = c .before .before .before .before .before .before .verdict .ensures in
     let s = c .before .before .before .before .before .store .ensures in
     stored-refused (a .led .now) (r (verdictOf (a .answer))) (a .answer)
-    (joined (sym (c .before .r .given .1) ∙ s .0) (s .1) ∙ ap (λ v. storeEffect (a .led .now) (r v)) e)
+    (joined (sym (c .before .r .given .1) ∙ ap (λ x. x .answer) s) (ap (λ x. x .words) s) ∙ ap (λ v. storeEffect (a .led .now) (r v)) e)
 
 pub keep-answer-spec : {M : Type 1} → statement M
 keep-answer-spec =

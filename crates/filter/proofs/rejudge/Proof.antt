@@ -1,6 +1,6 @@
 -- `filter::rejudge` meets its contract. Assumes nothing.
 use native.Mathlib.Omega.{arith}
-use mathlib.Core.Path.{_≡_, sym, _∙_}
+use mathlib.Core.Path.{_≡_, sym, _∙_, ap}
 use borrow.Author.Tests.{not-true, not-false}
 use Rattle.filter.proofs.Rejudgings.{rejudge-register-length, rejudge-ledger-length, rejudge-register-malformed, rejudge-ledger-malformed, few-changed, rejudge-done}
 use borrow.Author.Needs.{needs}
@@ -41,7 +41,7 @@ cast-t15 c = let a = c .before .before .before .before .before .before .before .
     omega (
       arith,
       few-changed (a .reg .now) (a .led .now) (c .before .before .before .before .before .before .before .before .before .before .if1 .left) (c .before .before .before .before .before .before .before .before .before .if2 .left)
-          (sym (c .before .before .before .before .before .before .before .before .is-register .ensures) ∙ not-false _ (c .before .before .before .before .before .before .before .if3 .left)) (sym (c .before .before .before .before .before .is-ledger .ensures) ∙ not-false _ (c .before .before .before .before .if4 .left)) (c .before .before .rejudge-all .ensures .1),
+          (sym (c .before .before .before .before .before .before .before .before .is-register .ensures) ∙ not-false _ (c .before .before .before .before .before .before .before .if3 .left)) (sym (c .before .before .before .before .before .is-ledger .ensures) ∙ not-false _ (c .before .before .before .before .if4 .left)) (ap (λ s. s .answer) (c .before .before .rejudge-all .ensures)),
     )
 
 same-length-2 : tie.Need-same-length-2
@@ -51,7 +51,7 @@ returns-5 : tie.Need-returns-5
 returns-5 c = let a = c .before .before .before .before .before .before .before .before .before .before .before .before .before .args in
     rejudge-done (a .reg .now) (a .led .now) (c .before .before .before .before .before .before .before .before .before .before .if1 .left) (c .before .before .before .before .before .before .before .before .before .if2 .left)
     (sym (c .before .before .before .before .before .before .before .before .is-register .ensures) ∙ not-false _ (c .before .before .before .before .before .before .before .if3 .left)) (sym (c .before .before .before .before .before .is-ledger .ensures) ∙ not-false _ (c .before .before .before .before .if4 .left))
-    (c .before .before .rejudge-all .ensures .0) (c .before .before .rejudge-all .ensures .1)
+    (ap (λ s. s .words) (c .before .before .rejudge-all .ensures)) (ap (λ s. s .answer) (c .before .before .rejudge-all .ensures))
 
 pub rejudge-spec : {M : Type 1} → statement M
 rejudge-spec =
