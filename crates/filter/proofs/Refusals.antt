@@ -194,15 +194,19 @@ rejudge-numbers reg led = (
 )
 
 module _ (reg led : List ℕ) (k : Keeping) where
+  -- The rows of the store: 18, 20.
+  pub store-ranges : Ranged (storeRows led (keptRoute reg k)) ((18, 18) ∷ (20, 20) ∷ [])
+  store-ranges = (
+    ranged (holdsRoute (k .number) (routesOf led)) RouteTaken,
+    (ranged (not (roomFor (putRoute (keptRoute reg k) (routesOf led)))) RoutesFull, tt),
+  )
+
   -- The rows of the judging and of the store: 9, 10, 11, one of 12 to 17, 18, 20.
   pub stored-numbers :
       Ranged (judgeRows (k .role) (k .neighbour) (k .attribute) ++ storeRows led (keptRoute reg k)) (routeRanges ++ ((18, 18) ∷ (20, 20) ∷ []))
   stored-numbers =
       ranged-append (judgeRows (k .role) (k .neighbour) (k .attribute)) routeRanges (storeRows led (keptRoute reg k)) ((18, 18) ∷ (20, 20) ∷ [])
-      (route-numbers (k .role) (k .neighbour) (k .attribute)) (
-        ranged (holdsRoute (k .number) (routesOf led)) RouteTaken,
-        (ranged (not (roomFor (putRoute (keptRoute reg k) (routesOf led)))) RoutesFull, tt),
-      )
+      (route-numbers (k .role) (k .neighbour) (k .attribute)) store-ranges
 
   -- Keep: rows 1, 1, 2, 3, then these.
   pub keep-numbers : Ranged (keepRows reg led k) ((1, 1) ∷ (1, 1) ∷ (2, 2) ∷ (3, 3) ∷ (routeRanges ++ ((18, 18) ∷ (20, 20) ∷ [])))

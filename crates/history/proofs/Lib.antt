@@ -9,3 +9,4 @@ pub mod Theorems
 pub mod Reordered
 pub mod Scans
 pub mod Examples
+pub mod Refused
