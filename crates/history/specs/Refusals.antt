@@ -100,22 +100,16 @@ attributeOf (judge role neighbour attribute) = attribute
 pub record Demand1 : Type 0 where
   -- A call answers a refusal exactly when one of its rows is given as that refusal and no row before it is given.
   pub refused-first : (t : Tables) (c : AnyCall) (r : Refusal) → (refusalOf t c ≡ some r) ↔ ((i : ℕ) × FirstAt (rowsOf t c) i r)
-
   -- It is accepted exactly when none is given.
   pub accepted-none : (t : Tables) (c : AnyCall) → (refusalOf t c ≡ none) ↔ ((i : ℕ) → getD (rowsOf t c) i none ≡ none)
-
   -- Its rows have the numbers that the rules list.
   pub rows-numbered : (t : Tables) (c : AnyCall) → Ranged (rowsOf t c) (numbersOf c)
-
   -- These stand in their order.
   pub numbers-ordered : (c : AnyCall) → inOrder 1 (numbersOf c) ≡ true
-
   -- A refused call leaves every word of both tables.
   pub refused-leaves : (t : Tables) (c : AnyCall) (r : Refusal) → refusalOf t c ≡ some r → leftBy t c ≡ t
-
   -- A refusal has a place exactly when its number is 12 to 16.
   pub places-numbered : (r : Refusal) → ((12 ≤ refusalNumber r) × (refusalNumber r ≤ 16)) ↔ ((p : ℕ) × (refusalPlace r ≡ Byte p))
-
   -- It is then the first fault of the call's attribute, and the place is the fault's, at a byte of the attribute.
   pub place-first : (t : Tables) (c : AnyCall) (r : Refusal) (p : ℕ) → refusalOf t c ≡ some r → refusalPlace r ≡ Byte p
       → (f : Fault) × ((r ≡ Attribute f p) × (firstFault 4 (attributeOf c) ≡ Faulty f p))
