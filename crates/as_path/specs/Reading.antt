@@ -15,7 +15,7 @@ use Rattle.as_path.specs.declared.Grounded.{Grounded}
 use Rattle.as_path.specs.declared.Grounded.the-variants.{By, Not}
 use Rattle.as_path.specs.declared.Reading as reading
 use Rattle.as_path.specs.declared.Reading.the-variants.{Path, OnGround, Refused}
-use Rattle.as_path.specs.Segments.{Segment, segments}
+use Rattle.as_path.specs.Segments.{numberBytes, Segment, segments}
 use Rattle.as_path.specs.Faults.{firstFault}
 use Rattle.as_path.specs.Grounds.{groundOf}
 use Rattle.as_path.specs.Merging.{mergedPath}
@@ -44,7 +44,7 @@ afterScan (Faulty f p) c = faulty f p
 
 unfoldable pub contentOf : ℕ → ℕ → List ℕ → Content
 contentOf role neighbour xs =
-    afterScan (firstFault 4 xs) (afterGround (groundOf role neighbour (segments 4 xs)) (mergedPath (segments 4 xs)))
+    afterScan (firstFault numberBytes xs) (afterGround (groundOf role neighbour (segments numberBytes xs)) (mergedPath (segments numberBytes xs)))
 
 -- What the reader answers: the refusal, the ground, or how many numbers the merged path has.
 abbrev pub readingOf : Content → reading.Reading
@@ -57,3 +57,7 @@ abbrev pub bufferAfter : Content → List ℕ → List ℕ
 bufferAfter (faulty f p) buffer = buffer
 bufferAfter (grounded g) buffer = buffer
 bufferAfter (merged l) buffer = sets buffer 0 l
+
+-- The reader's answer to a content, and the buffer before and after it.
+abbrev pub ReadAs : Content → reading.Reading → List ℕ → List ℕ → Type 0
+ReadAs c r before after = (r ≡ readingOf c) × (after ≡ bufferAfter c before)

@@ -8,18 +8,19 @@ use native.Mathlib.Omega.{arith}
 use lib.ListN.{length, replicate}
 use Rattle.types.specs.declared.Refusal.the-variants.{RegisterFull}
 use Rattle.types.specs.Rows.{firstGiven}
-use Rattle.table.specs.Table.{slots, bodies, pad, encode}
+use Rattle.table.specs.Table.{slots, bodies, pad, encode, decode, decodeSlots}
 use Rattle.keyed.specs.Keyed.{find, holds, put, without}
 use Rattle.rules.specs.Draft.{each}
 use Rattle.rules.proofs.Drafting.{each-no}
 use Rattle.register.specs.Register.{registerOf, listed, rises, risesFrom, listOk, roomFor, recordsOf}
-use Rattle.history.specs.Calls.{Call, file, withdraw, said, last}
+use Rattle.ledger.specs.Routes.{routesOf}
+use Rattle.history.specs.Calls.{Call, file, withdraw, Tables, Formed, blank, said, last, findRecord, providersOf}
 use Rattle.history.specs.Replies.{refused, shown, forRoom}
 use Rattle.history.specs.Model.{refusal, after, replyAt, final, written}
 use Rattle.history.specs.Reorderings.{Tied, same-pair, clear-first, clear-second, same-route}
-use Rattle.history.specs.Demands.{findRecord, providersOf, Roomy}
+use Rattle.history.specs.Demands.{Roomy}
 use Rattle.history.specs.Sanity.{two-first, one-first, numbers, filings, room-made, room-missing, Sanity}
-use Rattle.history.proofs.Simulating.{history-replies, history-written}
+use Rattle.history.proofs.Simulating.{blank-formed, blank-empty, history-replies, history-written}
 use Rattle.history.proofs.FiledLists.{filed-list}
 use Rattle.history.proofs.Theorems.{demand2}
 use Rattle.history.proofs.Reordered.{itself, chain, back, swap, rejudge-anywhere, clearing-stays, dropping-stays}
@@ -28,64 +29,64 @@ use Rattle.history.proofs.Scans.{filed-is-last, kept-is-last}
 -- ---- two sources
 
 -- Either order comes to one model.
-two-lists : final two-first ≡ final one-first
-unfolding after refusal firstGiven find holds put listed rises risesFrom listOk roomFor
+two-lists : final blank two-first ≡ final blank one-first
+unfolding blank recordsOf routesOf decode decodeSlots after refusal firstGiven find holds put listed rises risesFrom listOk roomFor
 two-lists = refl
 
 -- It holds both lists.
-both : (providersOf (findRecord (65010, 2) (final one-first .lists)) ≡ some (65001 ∷ 65002 ∷ []))
-    × (providersOf (findRecord (65010, 0) (final one-first .lists)) ≡ some (65003 ∷ []))
-unfolding after refusal firstGiven find holds put listed rises risesFrom listOk roomFor
+both : (providersOf (findRecord (65010, 2) (final blank one-first .lists)) ≡ some (65001 ∷ 65002 ∷ []))
+    × (providersOf (findRecord (65010, 0) (final blank one-first .lists)) ≡ some (65003 ∷ []))
+unfolding blank recordsOf routesOf decode decodeSlots after refusal firstGiven find holds put listed rises risesFrom listOk roomFor
 both = (refl, refl)
 
 -- It is written as these words.
-register-words : written (final one-first) .register ≡ (2 ∷ 3 ∷ 65010 ∷ 0 ∷ 0 ∷ 1 ∷ 65010 ∷ 2 ∷ 1 ∷ 2 ∷ 65003 ∷ 65001 ∷ 65002 ∷ []) ++ replicate 12277 0
-unfolding written registerOf encode pad slots bodies after refusal firstGiven find holds put listed rises risesFrom listOk roomFor
+register-words : written (final blank one-first) .register ≡ (2 ∷ 3 ∷ 65010 ∷ 0 ∷ 0 ∷ 1 ∷ 65010 ∷ 2 ∷ 1 ∷ 2 ∷ 65003 ∷ 65001 ∷ 65002 ∷ []) ++ replicate 12277 0
+unfolding written registerOf encode pad slots bodies blank recordsOf routesOf decode decodeSlots after refusal firstGiven find holds put listed rises risesFrom listOk roomFor
 register-words = refl
 
 -- ---- room
 
 -- The filing that comes before the withdrawal is refused by 8.
-missing : replyAt room-missing 32 ≡ refused RegisterFull
-unfolding numbers filings after refusal firstGiven find holds put without listed rises risesFrom listOk roomFor
+missing : replyAt blank room-missing 32 ≡ refused RegisterFull
+unfolding numbers filings blank recordsOf routesOf decode decodeSlots after refusal firstGiven find holds put without listed rises risesFrom listOk roomFor
 missing = refl
 
 -- The other list has room for all.
-all-roomy : each (λ i. not (forRoom (replyAt room-made i))) 0 34 ≡ true
-unfolding numbers filings after refusal firstGiven find holds put without listed rises risesFrom listOk roomFor each
+all-roomy : each (λ i. not (forRoom (replyAt blank room-made i))) 0 34 ≡ true
+unfolding numbers filings blank recordsOf routesOf decode decodeSlots after refusal firstGiven find holds put without listed rises risesFrom listOk roomFor each
 all-roomy = refl
 
 -- So no call of that list is refused for room.
-made : Roomy room-made
+made : Roomy blank room-made
 unfolding filings
-made i h = go (forRoom (replyAt room-made i)) refl
+made i h = go (forRoom (replyAt blank room-made i)) refl
   where
-    go : (b : Bool) → forRoom (replyAt room-made i) ≡ b → forRoom (shown (said room-made i)) ≡ false
-    go false e = ap forRoom (history-replies room-made i) ∙ e
+    go : (b : Bool) → forRoom (replyAt blank room-made i) ≡ b → forRoom (shown (said blank room-made i)) ≡ false
+    go false e = ap forRoom (history-replies blank blank-formed room-made i) ∙ e
     go true e =
-        let z = each-no (λ i. not (forRoom (replyAt room-made i))) 0 34 i (omega arith) (omega arith) (ap not e) in
+        let z = each-no (λ i. not (forRoom (replyAt blank room-made i))) 0 34 i (omega arith) (omega arith) (ap not e) in
         let y : _≡_ {A = ℕ} 0 1 = cc (z, all-roomy) in
         absurd (omega arith)
 
 -- So one register holds the last list, and the other does not.
-list-made : providersOf (findRecord (33, 0) (final room-made .lists)) ≡ some (7 ∷ [])
-unfolding numbers filings after refusal firstGiven find holds put without listed rises risesFrom listOk roomFor
+list-made : providersOf (findRecord (33, 0) (final blank room-made .lists)) ≡ some (7 ∷ [])
+unfolding numbers filings blank recordsOf routesOf decode decodeSlots after refusal firstGiven find holds put without listed rises risesFrom listOk roomFor
 list-made = refl
 
-list-missing : providersOf (findRecord (33, 0) (final room-missing .lists)) ≡ none
-unfolding numbers filings after refusal firstGiven find holds put without listed rises risesFrom listOk roomFor
+list-missing : providersOf (findRecord (33, 0) (final blank room-missing .lists)) ≡ none
+unfolding numbers filings blank recordsOf routesOf decode decodeSlots after refusal firstGiven find holds put without listed rises risesFrom listOk roomFor
 list-missing = refl
 
 -- The list of a pair in the last register is the model's.
-last-list : (l : List Call) (source customer : ℕ)
-    → providersOf (findRecord (customer, source) (recordsOf (last l .register))) ≡ providersOf (findRecord (customer, source) (final l .lists))
-last-list l source customer = demand2 .lists-held l (length l) source customer ∙ sym (filed-list source customer l (length l))
+last-list : (t : Tables) → Formed t → (l : List Call) (source customer : ℕ)
+    → providersOf (findRecord (customer, source) (recordsOf (last t l .register))) ≡ providersOf (findRecord (customer, source) (final t l .lists))
+last-list t f l source customer = demand2 t f .lists-held l (length l) source customer ∙ sym (filed-list source customer t f l (length l))
 
 -- So the registers differ.
-differs : last room-made .register ≡ last room-missing .register → ⊥
+differs : last blank room-made .register ≡ last blank room-missing .register → ⊥
 differs e =
-    let a = last-list room-made 0 33 ∙ list-made in
-    let b = last-list room-missing 0 33 ∙ list-missing in
+    let a = last-list blank blank-formed room-made 0 33 ∙ list-made in
+    let b = last-list blank blank-formed room-missing 0 33 ∙ list-missing in
     let z : _≡_ {A = Option (List ℕ)} (some (7 ∷ [])) none = sym a ∙ ap (λ ws. providersOf (findRecord (33, 0) (recordsOf ws))) e ∙ b in
     let y : _≡_ {A = ℕ} 0 1 = cc in
     omega arith
@@ -107,8 +108,10 @@ untied-withdrawal s c s′ c′ list n (same-route x p q) = p
 -- The definitions of demands 2 and 3 come to what they should.
 pub sanity : Sanity
 sanity = record {
-  filed-is-last = λ l i source customer list. filed-is-last source customer l i list;
-  kept-is-last = λ l i number r. kept-is-last number l i r;
+  blank-formed = blank-formed;
+  blank-empty = blank-empty;
+  filed-is-last = λ t l i source customer list. filed-is-last source customer t l i list;
+  kept-is-last = λ t l i number r. kept-is-last number t l i r;
   itself = itself;
   back = back;
   chain = chain;
@@ -117,15 +120,15 @@ sanity = record {
   clearing-stays = clearing-stays;
   dropping-stays = dropping-stays;
   both-there = (
-    sym (filed-list 2 65010 two-first 2) ∙ ap (λ m. providersOf (findRecord (65010, 2) (m .lists))) two-lists ∙ both .0,
-    sym (filed-list 0 65010 two-first 2) ∙ ap (λ m. providersOf (findRecord (65010, 0) (m .lists))) two-lists ∙ both .1,
+    sym (filed-list 2 65010 blank blank-formed two-first 2) ∙ ap (λ m. providersOf (findRecord (65010, 2) (m .lists))) two-lists ∙ both .0,
+    sym (filed-list 0 65010 blank blank-formed two-first 2) ∙ ap (λ m. providersOf (findRecord (65010, 0) (m .lists))) two-lists ∙ both .1,
   );
-  both-there-too = (sym (filed-list 2 65010 one-first 2) ∙ both .0, sym (filed-list 0 65010 one-first 2) ∙ both .1);
+  both-there-too = (sym (filed-list 2 65010 blank blank-formed one-first 2) ∙ both .0, sym (filed-list 0 65010 blank blank-formed one-first 2) ∙ both .1);
   either-order = swap [] _ _ [] (untied-pairs 2 65010 0 65010 _ _ (λ p. let e : 2 ≡ 0 = p .0 in omega arith));
-  same-either-way = history-written two-first ∙ ap written two-lists ∙ sym (history-written one-first);
-  whole-register = ap (λ t. t .register) (history-written two-first ∙ ap written two-lists) ∙ register-words;
+  same-either-way = history-written blank blank-formed two-first ∙ ap written two-lists ∙ sym (history-written blank blank-formed one-first);
+  whole-register = ap (λ t. t .register) (history-written blank blank-formed two-first ∙ ap written two-lists) ∙ register-words;
   room-reordered = swap (filings 32) _ _ [] (untied-withdrawal 0 1 0 33 _ (λ p. let e : 1 ≡ 33 = p .1 in omega arith));
   room-is-made = made;
-  room-is-missing = history-replies room-missing 32 ∙ missing;
+  room-is-missing = history-replies blank blank-formed room-missing 32 ∙ missing;
   room-differs = differs;
 }

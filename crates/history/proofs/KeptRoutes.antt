@@ -25,9 +25,9 @@ use Rattle.rejudge.specs.Rejudging.{rejudgedRoute}
 use Rattle.rejudge.proofs.Rejudgements.{by-ground}
 use Rattle.filter.specs.Calls.{keeping, keptRoute, hopIn}
 use Rattle.filter.proofs.KeptRoutes.{judged-ground}
-use Rattle.history.specs.Calls.{routeRead}
+use Rattle.history.specs.Calls.{routeRead, known}
 use Rattle.history.specs.Model.{withVerdict, withWords, judgedKept}
-use Rattle.history.specs.Demands.{known, draftPath}
+use Rattle.history.specs.Demands.{draftPath}
 
 -- The word of a path's verdict is the draft's.
 pub judged-word : (hop : HopFunction) (path : List ℕ) (role : ℕ) → 1 ≤ length path → draftPath hop role path ≡ outcomeOf (verdictOf (judged hop path role))

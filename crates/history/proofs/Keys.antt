@@ -13,14 +13,18 @@ use Rattle.types.specs.Rows.{rowIf, orElse, firstGiven}
 use Rattle.keyed.specs.Keyed.{Ordered, samePair, beforePair, ascends, find, without, countOf}
 use Rattle.keyed.proofs.Orders.{ordered-pairs, ordered-ℕ, same-flip}
 use Rattle.keyed.proofs.Puts.{ascends-put, ascends-without}
+use Rattle.keyed.proofs.Mapping.{ascends-map}
 use Rattle.keyed.proofs.Finds.{isSome, find-holds, find-none, find-put, find-without, same-finds}
 use Rattle.rules.specs.Records.{Record}
 use Rattle.register.specs.Register.{keyOf}
 use Rattle.register.specs.Calls.{recordFor, holdsRecord, ofSource, countRecords}
-use Rattle.history.specs.Calls.{Call, file, withdraw, clear, keep, drop, rejudge, callAt, KeptRoute, routeRead}
+use Rattle.register.proofs.Holding as register-holding
+use Rattle.ledger.specs.Routes.{routesOf}
+use Rattle.ledger.specs.Routes as routes
+use Rattle.ledger.proofs.Holding as ledger-holding
+use Rattle.history.specs.Calls.{Call, file, withdraw, clear, keep, drop, rejudge, Tables, Formed, callAt, KeptRoute, routeRead, findRecord, known}
 use Rattle.history.specs.Replies.{ModelReply, new, replaced, gone}
-use Rattle.history.specs.Model.{Model, empty, numberOf, holdsKept, argumentRows, heldRows, answer, change, replyUnless, changeUnless}
-use Rattle.history.specs.Demands.{findRecord}
+use Rattle.history.specs.Model.{Model, heldBy, numberOf, holdsKept, argumentRows, heldRows, answer, change, replyUnless, changeUnless}
 
 -- The kept route under a number.
 abbrev pub findKept : ℕ → List KeptRoute → Option KeptRoute
@@ -62,16 +66,16 @@ hits (route k) rejudge = false
 unfoldable pub freeRefusal : Model → Call → Option Refusal
 freeRefusal m c = orElse (firstGiven (argumentRows c)) (firstGiven (heldRows m c))
 
--- The reply, the model after a call, and the model after i calls.
+-- The reply, the model after a call, and the model after i calls from a start.
 abbrev pub freeReply : Model → Call → ModelReply
 freeReply m c = replyUnless (freeRefusal m c) (answer m c)
 
 abbrev pub freeNext : Model → Call → Model
 freeNext m c = changeUnless (freeRefusal m c) m (change m c)
 
-unfoldable pub freeAfter : List Call → ℕ → Model
-freeAfter l zero = empty
-freeAfter l (suc i) = freeNext (freeAfter l i) (callAt l i)
+unfoldable pub freeAfter : Model → List Call → ℕ → Model
+freeAfter start l zero = start
+freeAfter start l (suc i) = freeNext (freeAfter start l i) (callAt l i)
 
 -- ---- one call
 
@@ -219,16 +223,19 @@ pub next-in-order : (o : Option Refusal) (m : Model) (c : Call) → InOrder m �
 next-in-order (some r) m c h = h
 next-in-order none m c h = change-in-order m c h
 
--- The empty model is in order.
-pub empty-in-order : InOrder empty
-unfolding ascends
-empty-in-order = record { lists = refl; routes = refl }
+-- What well-formed tables hold is in order.
+pub held-in-order : (t : Tables) → Formed t → InOrder (heldBy t)
+held-in-order t f = record {
+  lists = register-holding.ordered (t .register) (f .register-ok);
+  routes = ascends-map routes.keyOf numberOf eqb ltb known (λ r. refl) (routesOf (t .ledger)) ∙ ledger-holding.ordered (t .ledger) (f .ledger-ok);
+}
 
--- And the model after any calls.
-pub free-in-order : (l : List Call) (i : ℕ) → InOrder (freeAfter l i)
+-- From a start in order, so is the model after any calls.
+pub free-in-order : (start : Model) → InOrder start → (l : List Call) (i : ℕ) → InOrder (freeAfter start l i)
 unfolding freeAfter
-free-in-order l zero = empty-in-order
-free-in-order l (suc i) = next-in-order (freeRefusal (freeAfter l i) (callAt l i)) (freeAfter l i) (callAt l i) (free-in-order l i)
+free-in-order start h l zero = h
+free-in-order start h l (suc i) =
+    next-in-order (freeRefusal (freeAfter start l i) (callAt l i)) (freeAfter start l i) (callAt l i) (free-in-order start h l i)
 
 -- Models in order that agree under every key are equal.
 pub same-model : (m n : Model) → InOrder m → InOrder n → ((k : Key) → look k m ≡ look k n) → m ≡ n

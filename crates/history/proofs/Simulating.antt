@@ -31,6 +31,7 @@ use Rattle.register.specs.Register.{registerWords, recordsOf, recordsOk, roomFo
 use Rattle.register.specs.Register as register
 use Rattle.register.specs.Calls.{tableRow, registerRow, recordFor, holdsRecord, putRecord, eraseRecord, clearRecords, countRecords, ofSource, filedAs, fileEffect, withdrawEffect, clearEffect}
 use Rattle.register.proofs.Entries.{records-of-words}
+use Rattle.register.proofs.Entries as register-entries
 use Rattle.register.proofs.Holding.{room-records, room-lists}
 use Rattle.register.proofs.Holding as holding
 use Rattle.register.proofs.Changes.{record-ok}
@@ -40,18 +41,19 @@ use Rattle.ledger.specs.Routes.{ledgerWords, Route, routesOf, routeOk, routesOk
 use Rattle.ledger.specs.Routes as ledger
 use Rattle.ledger.specs.Calls.{ledgerRow, holdsRoute, putRoute, storeRows, eraseRoute, dropEffect, countDiffering}
 use Rattle.ledger.proofs.Entries.{routes-of-words}
+use Rattle.ledger.proofs.Entries as ledger-entries
 use Rattle.ledger.proofs.Holding.{room-routes, room-paths, has-room, each-ok}
+use Rattle.ledger.proofs.Holding as ledger-holding
 use Rattle.ledger.proofs.Changes.{put-ok, without-ok}
 use Rattle.ledger.proofs.Refusals.{Ledger, routes-ledger}
 use Rattle.rejudge.specs.Rejudging.{rejudgedRoute}
 use Rattle.rejudge.proofs.Rejudgements.{rejudged-ok}
 use Rattle.filter.specs.Calls.{keeping, hopIn, tableRows, keptRoute, keepRows, keepEffect, rejudgeEffect}
 use Rattle.filter.proofs.KeptRoutes.{kept-ok}
-use Rattle.history.specs.Calls.{Call, file, withdraw, clear, keep, drop, rejudge, rejudged, Tables, routeRead, says, leaves, blank, callAt, tables, said, last}
+use Rattle.history.specs.Calls.{Call, file, withdraw, clear, keep, drop, rejudge, rejudged, Tables, Formed, routeRead, says, leaves, blank, callAt, tables, said, last, known, findRoute}
 use Rattle.history.specs.Replies.{ModelReply, refused, done, replaced, new, shownFiled, shownRemoval, shownCleared, shownJudged, shownRejudged, shown, accepted}
-use Rattle.history.specs.Model.{Model, empty, numberOf, holdsKept, putKept, heldRows, roomRows, roomForRoutes, refusal, answer, change, replyUnless, changeUnless, replyTo, next, after, replyAt, final, judgedKept, written}
+use Rattle.history.specs.Model.{Model, heldBy, numberOf, holdsKept, putKept, heldRows, roomRows, roomForRoutes, refusal, answer, change, replyUnless, changeUnless, replyTo, next, after, replyAt, final, judgedKept, written}
 use Rattle.history.specs.Filings.{storedBy}
-use Rattle.history.specs.Demands.{known, findRoute}
 use Rattle.history.proofs.Keys.{either-way}
 use Rattle.history.proofs.Ledgers.{room-known}
 use Rattle.history.proofs.KeptRoutes.{kept-known, rejudged-written, rejudged-known}
@@ -463,37 +465,58 @@ unfolding encode pad slots bodies
 zeros size h = let e : 2 + (size - 2) ≡ size = omega arith in sym (replicate-append-replicate 2 (size - 2) 0 ∙ ap (λ n. replicate n 0) e)
 
 -- So the empty tables are the words of no lists and no routes,
-pub blank-tables : blank ≡ tablesOf [] []
+blank-tables : blank ≡ tablesOf [] []
 unfolding blank register.registerOf ledger.ledgerOf
 blank-tables = λ i. record { register = zeros registerWords (lit≤ tt) i; ledger = zeros ledgerWords (lit≤ tt) i }
 
 -- which keep the rules,
-pub nothing-ok : (recordsOk [] ≡ true) × (routesOk [] ≡ true)
+nothing-ok : (recordsOk [] ≡ true) × (routesOk [] ≡ true)
 unfolding recordsOk roomFor register.listed every ascends routesOk ledger.roomFor ledger.pathWords bodies
 nothing-ok = (refl, refl)
 
--- and they hold the empty model.
-blank-holds : Holds blank empty
-blank-holds = record { lists = []; stored = []; lists-ok = nothing-ok .0; routes-ok = nothing-ok .1; tables-are = blank-tables; model-is = refl }
+-- so that they are a start,
+pub blank-formed : Formed blank
+blank-formed =
+    let r : Register (register.registerOf []) = is-register [] (nothing-ok .0) in
+    let s : Ledger (ledger.ledgerOf []) = is-ledger [] (nothing-ok .1) in
+    rw blank-tables (record { register-long = r .long; register-ok = r .ok; ledger-long = s .long; ledger-ok = s .ok })
+
+-- and they hold nothing.
+pub blank-empty : (recordsOf (blank .register) ≡ []) × (routesOf (blank .ledger) ≡ [])
+blank-empty = rw blank-tables (records-are [] (nothing-ok .0), routes-are [] (nothing-ok .1))
+
+-- Well-formed tables hold the lists and routes that they show.
+formed-holds : (t : Tables) → Formed t → Holds t (heldBy t)
+formed-holds t f = record {
+  lists = recordsOf (t .register);
+  stored = routesOf (t .ledger);
+  lists-ok = holding.records-ok (t .register) (f .register-ok);
+  routes-ok = ledger-holding.routes-ok (t .ledger) (f .ledger-ok);
+  tables-are = λ i. record {
+    register = register-entries.words-are (t .register) (holding.sound (t .register) (f .register-ok)) (f .register-long) i;
+    ledger = ledger-entries.words-are (t .ledger) (ledger-holding.sound (t .ledger) (f .ledger-ok)) (f .ledger-long) i;
+  };
+  model-is = refl;
+}
 
 -- After each call the tables hold the model.
-pub history-holds : (l : List Call) (i : ℕ) → Holds (tables l i) (after l i)
+pub history-holds : (t : Tables) → Formed t → (l : List Call) (i : ℕ) → Holds (tables t l i) (after t l i)
 unfolding tables after
-history-holds l zero = blank-holds
-history-holds l (suc i) = simulated (tables l i) (after l i) (callAt l i) (history-holds l i) .holds
+history-holds t f l zero = formed-holds t f
+history-holds t f l (suc i) = simulated (tables t l i) (after t l i) (callAt l i) (history-holds t f l i) .holds
 
 -- What is stored after one call more.
-pub history-stores : (l : List Call) (i number : ℕ)
-    → findRoute number (routesOf (tables l (suc i) .ledger)) ≡ storedNext (tables l i) (after l i) (callAt l i) number
+pub history-stores : (t : Tables) → Formed t → (l : List Call) (i number : ℕ)
+    → findRoute number (routesOf (tables t l (suc i) .ledger)) ≡ storedNext (tables t l i) (after t l i) (callAt l i) number
 unfolding tables
-history-stores l i number = simulated (tables l i) (after l i) (callAt l i) (history-holds l i) .stores number
+history-stores t f l i number = simulated (tables t l i) (after t l i) (callAt l i) (history-holds t f l i) .stores number
 
 -- Each call is answered as by the model.
-pub history-replies : (l : List Call) (i : ℕ) → shown (said l i) ≡ replyAt l i
-history-replies l i = simulated (tables l i) (after l i) (callAt l i) (history-holds l i) .replies
+pub history-replies : (t : Tables) → Formed t → (l : List Call) (i : ℕ) → shown (said t l i) ≡ replyAt t l i
+history-replies t f l i = simulated (tables t l i) (after t l i) (callAt l i) (history-holds t f l i) .replies
 
 -- After the whole list and one last re-judging both tables are the model written out.
-pub history-written : (l : List Call) → last l ≡ written (final l)
-history-written l =
-    let h : Holds (tables l (length l)) (final l) = history-holds l (length l) in
+pub history-written : (t : Tables) → Formed t → (l : List Call) → last t l ≡ written (final t l)
+history-written t f l =
+    let h : Holds (tables t l (length l)) (final t l) = history-holds t f l (length l) in
     rw (h .tables-are, h .model-is) (last-written (h .lists) (h .stored) (h .lists-ok) (h .routes-ok))

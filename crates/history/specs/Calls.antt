@@ -1,6 +1,10 @@
--- Lists of calls from empty tables on, each call being lent the tables as the last one left them ("The calls"; demands 2 and 3).
+-- Lists of calls from any well-formed tables on, each call being lent the tables as the last one left them ("The calls"; demands 2 and 3).
 use Prim.Native.Nat.{ℕ, zero, suc}
+use mathlib.Core.Path.{_≡_}
+use mathlib.Core.Bool.{true}
 use mathlib.Core.List.{List}
+use mathlib.Core.Option.{Option, Option·map}
+use lib.Dec.{eqb, ltb}
 use lib.ListN.{length, getD, replicate}
 use Rattle.types.specs.declared.Filed.{Filed}
 use Rattle.types.specs.declared.Removal.{Removal}
@@ -9,9 +13,13 @@ use Rattle.types.specs.declared.Judged.{Judged}
 use Rattle.types.specs.declared.Rejudged.{Rejudged}
 use Rattle.types.specs.Numbers.{groundNumber}
 use Rattle.as_path.specs.Reading.{Content, faulty, grounded, merged, contentOf}
-use Rattle.register.specs.Register.{registerWords}
+use Rattle.keyed.specs.Keyed.{samePair, beforePair, find}
+use Rattle.rules.specs.Records.{Record}
+use Rattle.register.specs.Register.{registerWords, registerOk}
+use Rattle.register.specs.Register as register
 use Rattle.register.specs.Calls.{fileEffect, withdrawEffect, clearEffect}
-use Rattle.ledger.specs.Routes.{ledgerWords}
+use Rattle.ledger.specs.Routes.{ledgerWords, Route, ledgerOk}
+use Rattle.ledger.specs.Routes as ledger
 use Rattle.ledger.specs.Calls.{dropEffect}
 use Rattle.filter.specs.Calls.{pathIn, keeping, keepEffect, rejudgeEffect}
 
@@ -56,26 +64,37 @@ leaves t (keep number role neighbour attribute) =
 leaves t (drop number) = record { register = t .register; ledger = dropEffect (t .ledger) number .words }
 leaves t rejudge = record { register = t .register; ledger = rejudgeEffect (t .register) (t .ledger) .words }
 
--- Register and ledger empty: zeros, of the right lengths.
+-- ---- where a list of calls can start
+
+-- Tables of the right lengths that keep the word rules: rows 1 to 3 are not given.
+pub record Formed (t : Tables) : Type 0 where
+  pub register-long : length (t .register) ≡ registerWords
+  pub register-ok : registerOk (t .register) ≡ true
+  pub ledger-long : length (t .ledger) ≡ ledgerWords
+  pub ledger-ok : ledgerOk (t .ledger) ≡ true
+
+-- One such start, register and ledger empty: zeros, of the right lengths.
 unfoldable pub blank : Tables
 blank = record { register = replicate registerWords 0; ledger = replicate ledgerWords 0 }
 
--- The call at place i of a list; past its end a re-judging.
+-- ---- calls from the tables t on
+
+-- The call at index i of a list; past its end a re-judging.
 abbrev pub callAt : List Call → ℕ → Call
 callAt l i = getD l i rejudge
 
 -- The tables after the first i calls.
-unfoldable pub tables : List Call → ℕ → Tables
-tables l zero = blank
-tables l (suc i) = leaves (tables l i) (callAt l i)
+unfoldable pub tables : Tables → List Call → ℕ → Tables
+tables t l zero = t
+tables t l (suc i) = leaves (tables t l i) (callAt l i)
 
--- The answer to the call at place i.
-abbrev pub said : List Call → ℕ → Reply
-said l i = says (tables l i) (callAt l i)
+-- The answer to the call at index i.
+abbrev pub said : Tables → List Call → ℕ → Reply
+said t l i = says (tables t l i) (callAt l i)
 
 -- The tables after the whole list and one last re-judging.
-abbrev pub last : List Call → Tables
-last l = leaves (tables l (length l)) rejudge
+abbrev pub last : Tables → List Call → Tables
+last t l = leaves (tables t l (length l)) rejudge
 
 -- ---- the route that a keeping's arguments are read as
 
@@ -103,3 +122,20 @@ routeRead number role neighbour attribute =
       ground = groundIn (contentOf role neighbour attribute);
       path = pathIn (contentOf role neighbour attribute);
     }
+
+-- ---- what tables hold
+
+-- The record of a customer and a source, the route under a number.
+abbrev pub findRecord : ℕ × ℕ → List Record → Option Record
+findRecord k rs = find register.keyOf samePair beforePair k rs
+
+abbrev pub findRoute : ℕ → List Route → Option Route
+findRoute number rs = find ledger.keyOf eqb ltb number rs
+
+-- Its list.
+abbrev pub providersOf : Option Record → Option (List ℕ)
+providersOf found = Option·map (λ r. r .providers) found
+
+-- A stored route without its verdict and places.
+abbrev pub known : Route → KeptRoute
+known r = record { number = r .number; role = r .role; neighbour = r .neighbour; ground = r .ground; path = r .path }

@@ -15,11 +15,12 @@ use Rattle.rules.specs.Hops.{HopFunction}
 use Rattle.rules.specs.Records.{Record, hopOf}
 use Rattle.rules.specs.Verdicts.{judged}
 use Rattle.rules.specs.Judging.{judgeRows}
+use Rattle.register.specs.Register.{recordsOf}
 use Rattle.register.specs.Register as register
 use Rattle.register.specs.Calls.{sourceRow, customerRow, recordFor, holdsRecord, putRecord, eraseRecord, clearRecords, countRecords}
-use Rattle.ledger.specs.Routes.{Route, mostRoutes, mostPathWords}
+use Rattle.ledger.specs.Routes.{Route, routesOf, mostRoutes, mostPathWords}
 use Rattle.ledger.specs.Routes as ledger
-use Rattle.history.specs.Calls.{Call, file, withdraw, clear, keep, drop, rejudge, Tables, callAt, KeptRoute, routeRead}
+use Rattle.history.specs.Calls.{Call, file, withdraw, clear, keep, drop, rejudge, Tables, callAt, KeptRoute, routeRead, known}
 use Rattle.history.specs.Replies.{ModelReply, new, replaced, done, gone, refused}
 
 -- ---- what the model holds
@@ -29,9 +30,9 @@ pub record Model : Type 0 where
   pub lists : List Record
   pub routes : List KeptRoute
 
--- It begins empty.
-abbrev pub empty : Model
-empty = record { lists = []; routes = [] }
+-- It begins with the lists and routes that the tables hold.
+abbrev pub heldBy : Tables → Model
+heldBy t = record { lists = recordsOf (t .register); routes = map known (routesOf (t .ledger)) }
 
 -- Routes looked for, put in, taken out.
 abbrev pub numberOf : KeptRoute → ℕ
@@ -125,16 +126,16 @@ replyTo m c = replyUnless (refusal m c) (answer m c)
 abbrev pub next : Model → Call → Model
 next m c = changeUnless (refusal m c) m (change m c)
 
--- The model after the first i calls, its reply to the call at place i, and the model after the whole list.
-unfoldable pub after : List Call → ℕ → Model
-after l zero = empty
-after l (suc i) = next (after l i) (callAt l i)
+-- The model after the first i calls, its reply to the call at index i, and the model after the whole list.
+unfoldable pub after : Tables → List Call → ℕ → Model
+after t l zero = heldBy t
+after t l (suc i) = next (after t l i) (callAt l i)
 
-abbrev pub replyAt : List Call → ℕ → ModelReply
-replyAt l i = replyTo (after l i) (callAt l i)
+abbrev pub replyAt : Tables → List Call → ℕ → ModelReply
+replyAt t l i = replyTo (after t l i) (callAt l i)
 
-abbrev pub final : List Call → Model
-final l = after l (length l)
+abbrev pub final : Tables → List Call → Model
+final t l = after t l (length l)
 
 -- ---- the model written out
 

@@ -65,11 +65,11 @@ IsRegisterStep (keep n role neighbour attribute) = ⊥
 IsRegisterStep (drop n) = ⊥
 IsRegisterStep rejudge = ⊥
 
--- At place i of the list stands a step.
+-- At index i of the list stands a step.
 abbrev pub StepAt : List Call → ℕ → Type 0
 StepAt l i = IsStep (callAt l i)
 
--- But for re-judgings both lists have the same calls, matched one to one: the step at place i of l is the one at place `to i` of m, and back by
+-- But for re-judgings both lists have the same calls, matched one to one: the step at index i of l is the one at index `to i` of m, and back by
 -- `from`. Steps that are tied stand in the same order in both. Re-judgings may stand anywhere, any number of them.
 pub record Reordering (l m : List Call) : Type 0 where
   pub to : ℕ → ℕ

@@ -1,13 +1,15 @@
 -- What the definitions of demands 2 and 3 come to: laws and examples that a reader may hold them to.
-use Prim.Native.Nat.{ℕ, zero, suc, _<_}
+use Prim.Native.Nat.{ℕ, zero, suc, _<_, _≤_}
 use mathlib.Core.Path.{_≡_}
 use mathlib.Core.Bool.{true}
 use mathlib.Core.List.{List, [], _∷_, _++_}
 use mathlib.Core.Logic.{_↔_}
-use mathlib.Core.Option.{some}
+use mathlib.Core.Option.{some, Option·map}
 use lib.ListN.{replicate}
 use Rattle.types.specs.declared.Refusal.the-variants.{RegisterFull}
-use Rattle.history.specs.Calls.{Call, file, withdraw, clear, keep, drop, rejudge, callAt, said, last, KeptRoute, routeRead}
+use Rattle.register.specs.Register.{recordsOf}
+use Rattle.ledger.specs.Routes.{routesOf}
+use Rattle.history.specs.Calls.{Call, file, withdraw, clear, keep, drop, rejudge, Tables, Formed, blank, callAt, said, last, KeptRoute, routeRead, findRecord, findRoute, providersOf, known}
 use Rattle.history.specs.Replies.{refused, shown, accepted}
 use Rattle.history.specs.Filings.{filedList, keptRouteAt}
 use Rattle.history.specs.Reorderings.{OnPair, Clears, OnRoute, Tied, Reordering}
@@ -15,27 +17,36 @@ use Rattle.history.specs.Demands.{Roomy}
 
 -- ---- what is filed, without a scan
 
--- At some place before i stands an accepted filing of this list for the pair, and since then no accepted filing or withdrawal of the pair and no accepted
--- clearing of the source.
-pub record LastFiled (l : List Call) (i source customer : ℕ) (list : List ℕ) : Type 0 where
-  pub place : ℕ
-  pub before : place < i
-  pub filing : callAt l place ≡ file source customer list
-  pub accepts : accepted (shown (said l place)) ≡ true
-  pub since : (j : ℕ) → place < j → j < i → accepted (shown (said l j)) ≡ true
-      → (OnPair source customer (callAt l j) → ⊥) × (Clears source (callAt l j) → ⊥)
+-- From index `from` to before i no accepted filing or withdrawal of the pair, and no accepted clearing of the source.
+abbrev pub ListStands : Tables → List Call → (from i source customer : ℕ) → Type 0
+ListStands t l from i source customer =
+    (j : ℕ) → from ≤ j → j < i → accepted (shown (said t l j)) ≡ true
+    → (OnPair source customer (callAt l j) → ⊥) × (Clears source (callAt l j) → ⊥)
 
--- At some place before i stands an accepted keeping under the number, read as this route, and since then no accepted keeping or dropping of it.
-pub record LastKept (l : List Call) (i number : ℕ) (r : KeptRoute) : Type 0 where
-  pub place : ℕ
-  pub before : place < i
+-- The list for the pair after i calls: an accepted filing at some index gave it, or t holds it, and nothing since.
+pub data LastFiled (t : Tables) (l : List Call) (i source customer : ℕ) (list : List ℕ) : Type 0 where
+  by-filing : (index : ℕ) → index < i → callAt l index ≡ file source customer list → accepted (shown (said t l index)) ≡ true
+      → ListStands t l (suc index) i source customer → LastFiled t l i source customer list
+  list-held-first : providersOf (findRecord (customer, source) (recordsOf (t .register))) ≡ some list
+      → ListStands t l 0 i source customer → LastFiled t l i source customer list
+
+-- From index `from` to before i no accepted keeping or dropping of the number.
+abbrev pub RouteStands : Tables → List Call → (from i number : ℕ) → Type 0
+RouteStands t l from i number = (j : ℕ) → from ≤ j → j < i → accepted (shown (said t l j)) ≡ true → OnRoute number (callAt l j) → ⊥
+
+-- A keeping under the number that is read as this route.
+pub record KeepsAs (number : ℕ) (c : Call) (r : KeptRoute) : Type 0 where
   pub role : ℕ
   pub neighbour : ℕ
   pub attribute : List ℕ
-  pub keeping : callAt l place ≡ keep number role neighbour attribute
+  pub keeping : c ≡ keep number role neighbour attribute
   pub reads : r ≡ routeRead number role neighbour attribute
-  pub accepts : accepted (shown (said l place)) ≡ true
-  pub since : (j : ℕ) → place < j → j < i → accepted (shown (said l j)) ≡ true → OnRoute number (callAt l j) → ⊥
+
+-- The route under the number after i calls: an accepted keeping at some index gave it, or t holds it, and nothing since.
+pub data LastKept (t : Tables) (l : List Call) (i number : ℕ) (r : KeptRoute) : Type 0 where
+  by-keeping : (index : ℕ) → index < i → KeepsAs number (callAt l index) r → accepted (shown (said t l index)) ≡ true
+      → RouteStands t l (suc index) i number → LastKept t l i number r
+  route-held-first : Option·map known (findRoute number (routesOf (t .ledger))) ≡ some r → RouteStands t l 0 i number → LastKept t l i number r
 
 -- ---- examples
 
@@ -64,10 +75,13 @@ abbrev pub room-missing : List Call
 room-missing = filings 32 ++ (file 0 33 (7 ∷ []) ∷ withdraw 0 1 ∷ [])
 
 pub record Sanity : Type 0 where
+  -- Empty tables are a start, and hold nothing.
+  pub blank-formed : Formed blank
+  pub blank-empty : (recordsOf (blank .register) ≡ []) × (routesOf (blank .ledger) ≡ [])
   -- The scan finds exactly the last accepted list.
-  pub filed-is-last : (l : List Call) (i source customer : ℕ) (list : List ℕ)
-      → (filedList l i source customer ≡ some list) ↔ LastFiled l i source customer list
-  pub kept-is-last : (l : List Call) (i number : ℕ) (r : KeptRoute) → (keptRouteAt l i number ≡ some r) ↔ LastKept l i number r
+  pub filed-is-last : (t : Tables) (l : List Call) (i source customer : ℕ) (list : List ℕ)
+      → (filedList t l i source customer ≡ some list) ↔ LastFiled t l i source customer list
+  pub kept-is-last : (t : Tables) (l : List Call) (i number : ℕ) (r : KeptRoute) → (keptRouteAt t l i number ≡ some r) ↔ LastKept t l i number r
   -- To be a reordering is an equivalence.
   pub itself : (l : List Call) → Reordering l l
   pub back : (l m : List Call) → Reordering l m → Reordering m l
@@ -81,13 +95,13 @@ pub record Sanity : Type 0 where
   pub dropping-stays : (number role neighbour : ℕ) (attribute : List ℕ)
       → Reordering (keep number role neighbour attribute ∷ drop number ∷ []) (drop number ∷ keep number role neighbour attribute ∷ []) → ⊥
   -- Two sources file for one customer, and both lists are there, in either order.
-  pub both-there : (filedList two-first 2 2 65010 ≡ some (65001 ∷ 65002 ∷ [])) × (filedList two-first 2 0 65010 ≡ some (65003 ∷ []))
-  pub both-there-too : (filedList one-first 2 2 65010 ≡ some (65001 ∷ 65002 ∷ [])) × (filedList one-first 2 0 65010 ≡ some (65003 ∷ []))
+  pub both-there : (filedList blank two-first 2 2 65010 ≡ some (65001 ∷ 65002 ∷ [])) × (filedList blank two-first 2 0 65010 ≡ some (65003 ∷ []))
+  pub both-there-too : (filedList blank one-first 2 2 65010 ≡ some (65001 ∷ 65002 ∷ [])) × (filedList blank one-first 2 0 65010 ≡ some (65003 ∷ []))
   pub either-order : Reordering two-first one-first
-  pub same-either-way : last two-first ≡ last one-first
-  pub whole-register : last two-first .register ≡ (2 ∷ 3 ∷ 65010 ∷ 0 ∷ 0 ∷ 1 ∷ 65010 ∷ 2 ∷ 1 ∷ 2 ∷ 65003 ∷ 65001 ∷ 65002 ∷ []) ++ replicate 12277 0
+  pub same-either-way : last blank two-first ≡ last blank one-first
+  pub whole-register : last blank two-first .register ≡ (2 ∷ 3 ∷ 65010 ∷ 0 ∷ 0 ∷ 1 ∷ 65010 ∷ 2 ∷ 1 ∷ 2 ∷ 65003 ∷ 65001 ∷ 65002 ∷ []) ++ replicate 12277 0
   -- Why room is a premise: of two lists, one a reordering of the other, one is refused for room, and the registers differ.
   pub room-reordered : Reordering room-made room-missing
-  pub room-is-made : Roomy room-made
-  pub room-is-missing : shown (said room-missing 32) ≡ refused RegisterFull
-  pub room-differs : last room-made .register ≡ last room-missing .register → ⊥
+  pub room-is-made : Roomy blank room-made
+  pub room-is-missing : shown (said blank room-missing 32) ≡ refused RegisterFull
+  pub room-differs : last blank room-made .register ≡ last blank room-missing .register → ⊥

@@ -24,7 +24,8 @@ use Rattle.keyed.proofs.Ranks.{rank-within}
 use Rattle.keyed.proofs.Puts.{length-put-new, length-put-over}
 use Rattle.rules.specs.Records.{Record}
 use Rattle.register.specs.Register.{headWords, tailWords, slotWords, sourceWord, countWord, registerWords, mostRecords, mostListed, lastSource, entryOf, recordsOf, registerOf, recordAt, keyOf, listed, listOk, roomFor, registerOk, positionOf}
-use Rattle.register.specs.Calls.{holdsRecord, putRecord, eraseRecord, clearRecords, countRecords, recordFor, Passed, fileEffect, withdrawEffect, clearEffect}
+use Rattle.register.specs.Helpers.{Passed}
+use Rattle.register.specs.Calls.{holdsRecord, putRecord, eraseRecord, clearRecords, countRecords, recordFor, fileEffect, withdrawEffect, clearEffect}
 use Rattle.register.proofs.Entries.{decoded, length-records, record-count, list-count, length-is, slot-within, listed-next, listed-take, bodies-listed, length-entries}
 use Rattle.register.proofs.Holding.{sound, records-ok, ordered, has-room, room-records, room-lists}
 use Rattle.register.proofs.Changes.{cleared-count}

@@ -1,7 +1,6 @@
 -- File, Withdraw and Clear ("The calls"): the answer, and the register's words after it, for every argument and all words before.
-use Prim.Native.Nat.{ℕ, _≤_}
-use mathlib.Core.Path.{_≡_}
-use mathlib.Core.Bool.{Bool, true, not, cond}
+use Prim.Native.Nat.{ℕ}
+use mathlib.Core.Bool.{Bool, not, cond}
 use mathlib.Core.List.{List, [], _∷_}
 use mathlib.Core.Option.{Option}
 use lib.Dec.{ltb, eqb}
@@ -17,7 +16,7 @@ use Rattle.types.specs.declared.Cleared.the-variants as cleared
 use Rattle.types.specs.Rows.{rowIf, lengthRow, firstGiven, Effect, unlessRefused}
 use Rattle.keyed.specs.Keyed.{samePair, beforePair, holds, put, without, countOf}
 use Rattle.rules.specs.Records.{Record}
-use Rattle.register.specs.Register.{registerWords, lastSource, recordsOf, registerOf, keyOf, positionOf, listOk, roomFor, registerOk}
+use Rattle.register.specs.Register.{registerWords, lastSource, recordsOf, registerOf, keyOf, listOk, roomFor, registerOk}
 
 -- ---- records: looked for, put in, taken out
 
@@ -91,15 +90,6 @@ fileEffect ws source customer list =
       answer = filedAs (recordFor source customer list) (recordsOf ws);
       words = registerOf (putRecord (recordFor source customer list) (recordsOf ws));
     })
-
--- A filing that passed rows 1 to 6, and the position of its pair.
-pub record Passed (ws : List ℕ) (position source customer : ℕ) (list : List ℕ) : Type 0 where
-  pub long : length ws ≡ registerWords
-  pub ok : registerOk ws ≡ true
-  pub known : source ≤ lastSource
-  pub some : customer ≡ 0 → ⊥
-  pub rising : listOk list ≡ true
-  pub here : position ≡ positionOf customer source (recordsOf ws)
 
 unfoldable pub withdrawEffect : List ℕ → ℕ → ℕ → Effect Removal
 withdrawEffect ws source customer =

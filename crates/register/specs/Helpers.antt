@@ -5,7 +5,7 @@ use mathlib.Core.Bool.{true, cond}
 use mathlib.Core.List.{List, [], _∷_}
 use lib.Dec.{ltb}
 use lib.ListN.{length}
-use Rattle.register.specs.Register.{mostRecords, recordsOf, registerOk, positionOf}
+use Rattle.register.specs.Register.{mostRecords, registerWords, lastSource, recordsOf, listOk, registerOk, positionOf}
 
 -- How often a number of a list does not stand above the one before it.
 unfoldable pub descentsFrom : ℕ → List ℕ → ℕ
@@ -22,6 +22,15 @@ pub record Within (ws : List ℕ) (customer source low high : ℕ) : Type 0 wher
   pub over : low ≤ positionOf customer source (recordsOf ws)
   pub under : positionOf customer source (recordsOf ws) ≤ high
   pub inside : high ≤ length (recordsOf ws)
+
+-- A filing that passed rows 1 to 6, and the position of its pair.
+pub record Passed (ws : List ℕ) (position source customer : ℕ) (list : List ℕ) : Type 0 where
+  pub long : length ws ≡ registerWords
+  pub ok : registerOk ws ≡ true
+  pub known : source ≤ lastSource
+  pub some : customer ≡ 0 → ⊥
+  pub rising : listOk list ≡ true
+  pub here : position ≡ positionOf customer source (recordsOf ws)
 
 -- ---- the words of hints
 

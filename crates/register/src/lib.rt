@@ -15,8 +15,8 @@ ghost use Rattle.keyed.specs.Keyed.{samePair, beforePair, ascends, every};
 ghost use Rattle.types.specs.declared.Hop.the-variants.{NoAttestation, ProviderPlus, NotProviderPlus};
 ghost use Rattle.rules.specs.Records.{isIn, hopOf};
 ghost use Rattle.register.specs.Register.{headWords, tailWords, mostListed, recordsOf, recordAt, keyOf, rises, listOk, recordOk, recordsOk, registerOk, positionOf};
-ghost use Rattle.register.specs.Helpers.{descentsIn, Within};
-ghost use Rattle.register.specs.Calls.{holdsRecord, Passed, fileEffect, withdrawEffect, clearEffect};
+ghost use Rattle.register.specs.Helpers.{descentsIn, Within, Passed};
+ghost use Rattle.register.specs.Calls.{holdsRecord, fileEffect, withdrawEffect, clearEffect};
 
 pub mod hints;
 
@@ -39,7 +39,7 @@ const HEAD: usize = 2;
 
 const TAIL: usize = 0;
 
-const WIDTH: usize = HEAD + 2 + TAIL;
+pub const WIDTH: usize = HEAD + 2 + TAIL;
 
 const SOURCE: usize = 1;
 
@@ -89,13 +89,15 @@ fn is_list(list: &[u32]) -> bool
 }
 
 // The pair (c1, s1) stands before the pair (c2, s2).
-fn is_before(c1: u32, s1: u32, c2: u32, s2: u32) -> bool
-    ensures { λ r. ⌜ r ≡ beforePair (c1, s1) (c2, s2) ⌝ }
+fn is_before(c1: AsNumber, s1: u32, c2: AsNumber, s2: u32) -> bool
+    ensures { λ r. ⌜ r ≡ beforePair (c1 .0, s1) (c2 .0, s2) ⌝ }
 {
-    if c1 < c2 {
+    let a = c1.0;
+    let b = c2.0;
+    if a < b {
         return true;
     }
-    if c1 == c2 {
+    if a == b {
         return s1 < s2;
     }
     false
@@ -139,7 +141,7 @@ fn are_records(reg: &[u32]) -> bool
         if (c == 0) | ((LAST_SOURCE < s) | ((count < 1) | (MOST_PROVIDERS < count))) {
             return false;
         }
-        if !is_before(customer, source, c, s) {
+        if !is_before(AsNumber(customer), source, AsNumber(c), s) {
             return false;
         }
         if bodies < from {
@@ -174,18 +176,19 @@ pub fn is_register(reg: &[u32]) -> bool
 // ---- look-up
 
 // Record i stands before the pair of a customer and a source.
-fn stands_before(reg: &[u32], i: usize, customer: u32, source: u32) -> bool
+fn stands_before(reg: &[u32], i: usize, customer: AsNumber, source: u32) -> bool
     requires { ⌜ (registerOk (now reg) ≡ true) × (i < length (recordsOf (now reg))) ⌝ }
-    ensures { λ r. ⌜ r ≡ beforePair (keyOf (recordAt (recordsOf (now (reg .entry))) i)) (customer, source) ⌝ }
+    ensures { λ r. ⌜ r ≡ beforePair (keyOf (recordAt (recordsOf (now (reg .entry))) i)) (customer .0, source) ⌝ }
 {
     let at = 2 + i * WIDTH;
-    is_before(reg[at], reg[at + SOURCE], customer, source)
+    let c = reg[at];
+    is_before(AsNumber(c), reg[at + SOURCE], customer, source)
 }
 
 // The position of a pair, which is one of from..=to, by halves.
-fn search(reg: &[u32], from: usize, to: usize, customer: u32, source: u32) -> usize
-    requires { ⌜ Within (now reg) customer source from to ⌝ }
-    ensures { λ r. ⌜ r ≡ positionOf customer source (recordsOf (now (reg .entry))) ⌝ }
+fn search(reg: &[u32], from: usize, to: usize, customer: AsNumber, source: u32) -> usize
+    requires { ⌜ Within (now reg) (customer .0) source from to ⌝ }
+    ensures { λ r. ⌜ r ≡ positionOf (customer .0) source (recordsOf (now (reg .entry))) ⌝ }
 {
     let mut low = from;
     let mut high = to;
@@ -201,9 +204,9 @@ fn search(reg: &[u32], from: usize, to: usize, customer: u32, source: u32) -> us
 }
 
 // Where the record of a customer and a source stands, or would stand: how many records come before it.
-pub fn find(reg: &[u32], customer: u32, source: u32) -> usize
+fn find(reg: &[u32], customer: AsNumber, source: u32) -> usize
     requires { ⌜ registerOk (now reg) ≡ true ⌝ }
-    ensures { λ r. ⌜ (r ≡ positionOf customer source (recordsOf (now (reg .entry)))) × (r ≤ length (recordsOf (now (reg .entry)))) ⌝ }
+    ensures { λ r. ⌜ (r ≡ positionOf (customer .0) source (recordsOf (now (reg .entry)))) × (r ≤ length (recordsOf (now (reg .entry)))) ⌝ }
 {
     search(reg, 0, table::word(reg, 0), customer, source)
 }
@@ -211,13 +214,14 @@ pub fn find(reg: &[u32], customer: u32, source: u32) -> usize
 // ---- the record at a position
 
 // Whether the record at a position that `find` answered is the one looked for.
-fn is_at(reg: &[u32], position: usize, customer: u32, source: u32) -> bool
-    requires { ⌜ (registerOk (now reg) ≡ true) × (position ≡ positionOf customer source (recordsOf (now reg))) ⌝ }
-    ensures { λ r. ⌜ r ≡ holdsRecord customer source (recordsOf (now (reg .entry))) ⌝ }
+fn is_at(reg: &[u32], position: usize, customer: AsNumber, source: u32) -> bool
+    requires { ⌜ (registerOk (now reg) ≡ true) × (position ≡ positionOf (customer .0) source (recordsOf (now reg))) ⌝ }
+    ensures { λ r. ⌜ r ≡ holdsRecord (customer .0) source (recordsOf (now (reg .entry))) ⌝ }
 {
     if position < table::word(reg, 0) {
         let at = 2 + position * WIDTH;
-        if reg[at] == customer {
+        let c = customer.0;
+        if reg[at] == c {
             return reg[at + SOURCE] == source;
         }
     }
@@ -231,18 +235,20 @@ struct Listed {
 }
 
 // The loop has no early exit, so that the compiler takes several words at a time.
-fn scan(list: &[u32], y: u32, z: u32) -> Listed
-    ensures { λ r. ⌜ (r .y ≡ isIn y (now (list .entry))) × (r .z ≡ isIn z (now (list .entry))) ⌝ }
+fn scan(list: &[u32], y: AsNumber, z: AsNumber) -> Listed
+    ensures { λ r. ⌜ (r .y ≡ isIn (y .0) (now (list .entry))) × (r .z ≡ isIn (z .0) (now (list .entry))) ⌝ }
 {
+    let a = y.0;
+    let b = z.0;
     let mut has_y = false;
     let mut has_z = false;
     let mut i: usize = 0;
     while i < list.len() {
         let p = list[i];
-        if p == y {
+        if p == a {
             has_y = true;
         }
-        if p == z {
+        if p == b {
             has_z = true;
         }
         i += 1;
@@ -270,9 +276,9 @@ fn hop_by(attested: bool, listed: bool) -> Hop
 }
 
 // The hops from x to y and to z, where x's records begin at a position that `find` answered. Each list is read once for both.
-pub fn hops_from(reg: &[u32], position: usize, x: u32, y: u32, z: u32) -> Hops
-    requires { ⌜ (registerOk (now reg) ≡ true) × (position ≡ positionOf x 0 (recordsOf (now reg))) ⌝ }
-    ensures { λ r. ⌜ (r .y ≡ hopOf (recordsOf (now (reg .entry))) x y) × (r .z ≡ hopOf (recordsOf (now (reg .entry))) x z) ⌝ }
+pub fn hops_from(reg: &[u32], position: usize, x: AsNumber, y: AsNumber, z: AsNumber) -> Hops
+    requires { ⌜ (registerOk (now reg) ≡ true) × (position ≡ positionOf (x .0) 0 (recordsOf (now reg))) ⌝ }
+    ensures { λ r. ⌜ (r .y ≡ hopOf (recordsOf (now (reg .entry))) (x .0) (y .0)) × (r .z ≡ hopOf (recordsOf (now (reg .entry))) (x .0) (z .0)) ⌝ }
 {
     let n = table::word(reg, 0);
     let bodies = 2 + n * WIDTH;
@@ -284,7 +290,8 @@ pub fn hops_from(reg: &[u32], position: usize, x: u32, y: u32, z: u32) -> Hops
             break;
         }
         let at = 2 + i * WIDTH;
-        if reg[at] != x {
+        let c = x.0;
+        if reg[at] != c {
             break;
         }
         let from = bodies + table::word(reg, at + START);
@@ -302,9 +309,9 @@ pub fn hops_from(reg: &[u32], position: usize, x: u32, y: u32, z: u32) -> Hops
 }
 
 // The hop from x to y alone.
-pub fn hop_from(reg: &[u32], position: usize, x: u32, y: u32) -> Hop
-    requires { ⌜ (registerOk (now reg) ≡ true) × (position ≡ positionOf x 0 (recordsOf (now reg))) ⌝ }
-    ensures { λ r. ⌜ r ≡ hopOf (recordsOf (now (reg .entry))) x y ⌝ }
+pub fn hop_from(reg: &[u32], position: usize, x: AsNumber, y: AsNumber) -> Hop
+    requires { ⌜ (registerOk (now reg) ≡ true) × (position ≡ positionOf (x .0) 0 (recordsOf (now reg))) ⌝ }
+    ensures { λ r. ⌜ r ≡ hopOf (recordsOf (now (reg .entry))) (x .0) (y .0) ⌝ }
 {
     let hops = hops_from(reg, position, x, y, y);
     hops.y
@@ -313,9 +320,9 @@ pub fn hop_from(reg: &[u32], position: usize, x: u32, y: u32) -> Hop
 // ---- the calls
 
 // A new record goes in at its position, if there is room for it.
-fn add(reg: &mut [u32], position: usize, source: u32, customer: u32, list: &[u32]) -> Filed
-    requires { ⌜ Passed (now reg) position source customer (now list) × (holdsRecord customer source (recordsOf (now reg)) ≡ false) ⌝ }
-    ensures { λ r. ⌜ effect r (now (reg .exit)) ≡ fileEffect (now (reg .entry)) source customer (now (list .entry)) ⌝ }
+fn add(reg: &mut [u32], position: usize, source: u32, customer: AsNumber, list: &[u32]) -> Filed
+    requires { ⌜ Passed (now reg) position source (customer .0) (now list) × (holdsRecord (customer .0) source (recordsOf (now reg)) ≡ false) ⌝ }
+    ensures { λ r. ⌜ effect r (now (reg .exit)) ≡ fileEffect (now (reg .entry)) source (customer .0) (now (list .entry)) ⌝ }
 {
     if MOST_RECORDS <= table::word(reg, 0) {
         return Filed::Refused(Refusal::RegisterFull);
@@ -323,21 +330,23 @@ fn add(reg: &mut [u32], position: usize, source: u32, customer: u32, list: &[u32
     if MOST_LISTED - table::word(reg, 1) < list.len() {
         return Filed::Refused(Refusal::RegisterFull);
     }
-    let head = [customer, source];
+    let c = customer.0;
+    let head = [c, source];
     table::insert(reg, HEAD, TAIL, position, &head, list, &NO_TAIL);
     Filed::New
 }
 
 // A list takes the place of the one that stands under its pair, if there is room for it.
-fn replace(reg: &mut [u32], position: usize, source: u32, customer: u32, list: &[u32]) -> Filed
-    requires { ⌜ Passed (now reg) position source customer (now list) × (holdsRecord customer source (recordsOf (now reg)) ≡ true) ⌝ }
-    ensures { λ r. ⌜ effect r (now (reg .exit)) ≡ fileEffect (now (reg .entry)) source customer (now (list .entry)) ⌝ }
+fn replace(reg: &mut [u32], position: usize, source: u32, customer: AsNumber, list: &[u32]) -> Filed
+    requires { ⌜ Passed (now reg) position source (customer .0) (now list) × (holdsRecord (customer .0) source (recordsOf (now reg)) ≡ true) ⌝ }
+    ensures { λ r. ⌜ effect r (now (reg .exit)) ≡ fileEffect (now (reg .entry)) source (customer .0) (now (list .entry)) ⌝ }
 {
     let others = table::word(reg, 1) - table::word(reg, 2 + position * WIDTH + COUNT);
     if MOST_LISTED - others < list.len() {
         return Filed::Refused(Refusal::RegisterFull);
     }
-    let head = [customer, source];
+    let c = customer.0;
+    let head = [c, source];
     table::remove(reg, HEAD, TAIL, position);
     table::insert(reg, HEAD, TAIL, position, &head, list, &NO_TAIL);
     Filed::Replaced
@@ -364,11 +373,11 @@ pub fn file(reg: &mut [u32], source: u32, customer: AsNumber, list: &[u32]) -> F
     if !is_list(list) {
         return Filed::Refused(Refusal::ProviderList);
     }
-    let position = find(reg, c, source);
-    if is_at(reg, position, c, source) {
-        return replace(reg, position, source, c, list);
+    let position = find(reg, customer, source);
+    if is_at(reg, position, customer, source) {
+        return replace(reg, position, source, customer, list);
     }
-    add(reg, position, source, c, list)
+    add(reg, position, source, customer, list)
 }
 
 // Withdraw: the list of one source and customer goes out; no other changes. Rows 1, 2, 4, 5, 7.
@@ -388,8 +397,8 @@ pub fn withdraw(reg: &mut [u32], source: u32, customer: AsNumber) -> Removal
     if c == 0 {
         return Removal::Refused(Refusal::CustomerZero);
     }
-    let position = find(reg, c, source);
-    if !is_at(reg, position, c, source) {
+    let position = find(reg, customer, source);
+    if !is_at(reg, position, customer, source) {
         return Removal::Refused(Refusal::NoRecord);
     }
     table::remove(reg, HEAD, TAIL, position);

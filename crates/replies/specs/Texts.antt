@@ -6,6 +6,8 @@ use lib.ListN.{length, getD, take}
 use Rattle.table.specs.Table.{allZero}
 use Rattle.text.specs.Ascii.{ascii}
 use Rattle.answers.specs.Texts.{judgedText, filedText, removalText, clearedText, rejudgedText, spacedText}
+use Rattle.register.specs.Register as register
+use Rattle.ledger.specs.Routes as ledger
 use Rattle.history.specs.Calls.{Tables}
 use Rattle.commands.specs.declared.Named.{Named}
 use Rattle.commands.specs.declared.Named.the-variants.{Register, Ledger, Neither}
@@ -26,8 +28,8 @@ abbrev pub sizedText : List ℕ → List ℕ
 sizedText table = spacedText (length table ∷ withoutZeros table)
 
 abbrev pub shownText : Tables → Named → List ℕ
-shownText t Register = spacedText (usedWords registerWidth (t .register))
-shownText t Ledger = spacedText (usedWords ledgerWidth (t .ledger))
+shownText t Register = spacedText (usedWords register.slotWords (t .register))
+shownText t Ledger = spacedText (usedWords ledger.routeWidth (t .ledger))
 shownText t Neither = ascii "error"
 
 abbrev pub sizedIn : Tables → Named → List ℕ

@@ -13,7 +13,7 @@ use Rattle.types.specs.declared.Answer.{Answer}
 use Rattle.types.specs.declared.Judged.the-variants.{Answered}
 use Rattle.as_path.specs.declared.Grounded.{Grounded}
 use Rattle.as_path.specs.declared.Grounded.the-variants.{By, Not}
-use Rattle.as_path.specs.Segments.{Segment, segments}
+use Rattle.as_path.specs.Segments.{numberBytes, Segment, segments}
 use Rattle.as_path.specs.Grounds.{isNotNeighbour, hasSet, groundOf}
 use Rattle.as_path.specs.Merging.{mergedPath}
 use Rattle.as_path.proofs.Contents.{merged-means, content-ground}
@@ -157,11 +157,11 @@ by-ground hop role neighbour (s ∷ ss) = go (isNotNeighbour role neighbour s) (
 
 -- What a judging answers is the draft's answer to the segments of the attribute.
 pub draft-route : (hop : HopFunction) (role neighbour : ℕ) (attribute : List ℕ) (a : Answer)
-    → judgedRoute hop role neighbour attribute ≡ Answered a → draftRoute hop role neighbour (segments 4 attribute) ≡ a
-draft-route hop role neighbour attribute a e = by-ground hop role neighbour (segments 4 attribute) ∙ go (answered hop role neighbour attribute a e)
+    → judgedRoute hop role neighbour attribute ≡ Answered a → draftRoute hop role neighbour (segments numberBytes attribute) ≡ a
+draft-route hop role neighbour attribute a e = by-ground hop role neighbour (segments numberBytes attribute) ∙ go (answered hop role neighbour attribute a e)
   where
     ss : List Segment
-    ss = segments 4 attribute
+    ss = segments numberBytes attribute
 
     go : Judgement hop role neighbour attribute → unlessGround (groundOf role neighbour ss) (draftJudged hop (mergedPath ss) role) ≡ a
     go (on-ground g c j) =
@@ -172,5 +172,5 @@ draft-route hop role neighbour attribute a e = by-ground hop role neighbour (seg
         let f : Answered (judged hop path role) ≡ Answered a = sym j ∙ e in
         let z : judged hop path role ≡ a = cc in
         let m = merged-means role neighbour attribute path c in
-        let n = merged-first 4 attribute (m .clean) (m .some) in
+        let n = merged-first numberBytes attribute (m .clean) (m .some) in
         rw (content-ground role neighbour attribute _ _ refl refl .1 path c) (sym (draft-judged hop (mergedPath ss) role (n .0)) ∙ rw (m .same) at z)

@@ -10,6 +10,7 @@ use lib.Dec.{ltb, eqb}
 use lib.IntN.{ℤ, pos, _-ℤ_}
 use lib.Signed.{_≤ℤ_}
 use lib.ListN.{length}
+use Rattle.as_path.specs.Segments.{numberBytes}
 use Rattle.types.specs.declared.Fault.{Fault}
 use Rattle.types.specs.declared.Cause.the-variants.{ByGround}
 use Rattle.types.specs.declared.Verdict.the-variants.{Invalid}
@@ -82,7 +83,7 @@ answered-gap hop role neighbour attribute a g e f = go (answered hop role neighb
         let y : Answered (judged hop path role) ≡ Answered a = sym j ∙ e in
         let z : judged hop path role ≡ a = cc in
         let m = merged-means role neighbour attribute path c in
-        let one : 1 ≤ length path = rw (m .same) (merged-first 4 attribute (m .clean) (m .some) .0) in
+        let one : 1 ≤ length path = rw (m .same) (merged-first numberBytes attribute (m .clean) (m .some) .0) in
         rw (← answer-gap hop path role g (ap answerGap z ∙ f)) (gap-low hop path one mostNumbers short, gap-high hop path one mostNumbers short)
 
 pub gap-laws : GapLaws
@@ -112,7 +113,7 @@ module _ (attribute : List ℕ) (r : Refusal) (p : ℕ) (at : refusalPlace r ≡
         let z : Attribute f q ≡ r = cc in
         let y : Byte q ≡ Byte p = ap refusalPlace z ∙ at in
         let x : q ≡ p = cc in
-        let h : q < length attribute = fault-laws .fault-within 4 attribute f q (omega arith) (content-fault role neighbour attribute f q c) in
+        let h : q < length attribute = fault-laws .fault-within numberBytes attribute f q (omega arith) (content-fault role neighbour attribute f q c) in
         (omega arith, omega arith)
     by-content short (grounded g) c e = clash (cc)
     by-content short (merged path) c e = go (ltb mostNumbers (length path)) e

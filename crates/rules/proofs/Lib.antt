@@ -6,3 +6,4 @@ pub mod Locality
 pub mod Drafting
 pub mod Judges
 pub mod Laws
+pub mod Edges

@@ -16,7 +16,7 @@ use Rattle.types.specs.declared.Judged.{Judged}
 use Rattle.types.specs.declared.Judged.the-variants.{Answered, Refused}
 use Rattle.types.specs.Numbers.{placeA, placeB, answerGap, refusalPlace}
 use Rattle.types.specs.Rows.{firstGiven}
-use Rattle.as_path.specs.Segments.{segments}
+use Rattle.as_path.specs.Segments.{numberBytes, segments}
 use Rattle.as_path.specs.Reading.{mostNumbers}
 use Rattle.rules.specs.Hops.{HopFunction, isPlus, isNotPlus, isUnattested, asAt, up, down}
 use Rattle.rules.specs.Verdicts.{lowestNotPlus, lowestUnattested, highestNotPlus, rampUp, rampDown, gapOf, upstream, downstream, judged}
@@ -117,7 +117,7 @@ pub record DraftLaws : Type 0 where
   pub judged-draft : (hop : HopFunction) (path : List ℕ) (role : ℕ) → 1 ≤ length path → judged hop path role ≡ draftJudged hop path role
   -- What is answered for an attribute is the draft's answer to its segments.
   pub route-draft : (hop : HopFunction) (role neighbour : ℕ) (attribute : List ℕ) (a : Answer)
-      → judgedRoute hop role neighbour attribute ≡ Answered a → draftRoute hop role neighbour (segments 4 attribute) ≡ a
+      → judgedRoute hop role neighbour attribute ≡ Answered a → draftRoute hop role neighbour (segments numberBytes attribute) ≡ a
   -- The draft's indices are those of the rules.
   pub u-draft : (hop : HopFunction) (path : List ℕ) → uMin hop path ≡ lowestNotPlus hop path
   pub v-draft : (hop : HopFunction) (path : List ℕ) → vMax hop path ≡ highestNotPlus hop path

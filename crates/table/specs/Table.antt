@@ -12,6 +12,13 @@ pub record Entry : Type 0 where
   pub body : List ℕ
   pub tail : List ℕ
 
+abbrev pub entry : List ℕ → List ℕ → List ℕ → Entry
+entry head body tail = record { head = head; body = body; tail = tail }
+
+-- The entry at i; past the end, an empty one.
+abbrev pub entryAt : List Entry → ℕ → Entry
+entryAt es i = getD es i (entry [] [] [])
+
 -- The words before the slots: the two numbers.
 abbrev pub counters : ℕ
 counters = 2
@@ -93,6 +100,14 @@ insertAt i e es = take i es ++ (e ∷ drop i es)
 unfoldable pub removeAt : ℕ → List Entry → List Entry
 removeAt i es = take i es ++ drop (suc i) es
 
+-- The table with an entry in at i.
+abbrev pub inserted : ℕ → ℕ → List ℕ → ℕ → Entry → List ℕ
+inserted h t ws i e = encode (length ws) (insertAt i e (decode h t ws))
+
+-- The table without the entry at i.
+abbrev pub removed : ℕ → ℕ → List ℕ → ℕ → List ℕ
+removed h t ws i = encode (length ws) (removeAt i (decode h t ws))
+
 -- An entry may go in at i.
 pub record Insertable (h t : ℕ) (ws : List ℕ) (i : ℕ) (e : Entry) : Type 0 where
   pub sound : Sound h t ws
@@ -124,20 +139,38 @@ counts h t (suc m) xs = getD xs (h + 1) 0 + counts h t m (drop (width h t) xs)
 unfoldable pub startOf : ℕ → List Entry → ℕ
 startOf i es = length (bodies (take i es))
 
--- ---- the entries whose head word at a column is not a value
+-- ---- the entries whose head word at a column is a value go out
 
+-- Those that stay.
 unfoldable pub stayingEntries : ℕ → ℕ → List Entry → List Entry
 stayingEntries column value [] = []
 stayingEntries column value (e ∷ es) =
     cond (eqb (getD (e .head) column 0) value) (stayingEntries column value es) (e ∷ stayingEntries column value es)
 
--- The same on words: of the m slots that begin xs, those kept, with their starts counted anew from o.
+-- How many go.
+unfoldable pub goneEntries : ℕ → ℕ → List Entry → ℕ
+goneEntries column value [] = 0
+goneEntries column value (e ∷ es) =
+    cond (eqb (getD (e .head) column 0) value) (suc (goneEntries column value es)) (goneEntries column value es)
+
+-- The table of those that stay.
+abbrev pub cleared : ℕ → ℕ → List ℕ → ℕ → ℕ → List ℕ
+cleared h t ws column value = encode (length ws) (stayingEntries column value (decode h t ws))
+
+-- Those that stay on words: of the m slots that begin xs, the slots kept, with their starts counted anew from o.
 unfoldable pub stayingSlots : ℕ → ℕ → ℕ → ℕ → ℕ → ℕ → List ℕ → List ℕ
 stayingSlots h t column value zero o xs = []
 stayingSlots h t column value (suc m) o xs =
     let c = getD xs (h + 1) 0 in
     cond (eqb (getD xs column 0) value) (stayingSlots h t column value m o (drop (width h t) xs))
     (take h xs ++ (o ∷ (c ∷ (take t (drop (h + span) xs) ++ stayingSlots h t column value m (o + c) (drop (width h t) xs)))))
+
+-- The bodies and the slots that stay, of a table's words.
+abbrev pub bodiesLeft : ℕ → ℕ → List ℕ → ℕ → ℕ → List ℕ
+bodiesLeft h t ws column value = bodies (stayingEntries column value (decode h t ws))
+
+abbrev pub slotsLeft : ℕ → ℕ → List ℕ → ℕ → ℕ → List ℕ
+slotsLeft h t ws column value = stayingSlots h t column value (getD ws 0 0) 0 (drop counters ws)
 
 -- The entries with a value in a column may go out.
 pub record Clearable (h t : ℕ) (ws : List ℕ) (column : ℕ) : Type 0 where

@@ -4,7 +4,8 @@ ghost use mathlib.Core.List.{[], _∷_, _++_};
 ghost use Prim.Native.Nat.{_+_, _*_, _^_, _≤_, _<_};
 ghost use lib.ListN.{length, take, drop, getD};
 ghost use Rattle.runs.specs.Words.{spliced, pasted};
-ghost use Rattle.table.specs.Table.{counters, width, restarted, counts, encode, decode, Sound, Insertable, Removable, insertAt, removeAt, startOf, slotsOk, allZero, wellFormed, bodies, stayingEntries, stayingSlots, Clearable};
+ghost use Rattle.table.specs.Table.{counters, width, entry, restarted, counts, decode, startOf, slotsOk, allZero, wellFormed, Sound};
+ghost use Rattle.table.specs.Table.{Insertable, Removable, Clearable, inserted, removed, cleared, goneEntries, bodiesLeft, slotsLeft};
 
 // The words before the first slot: how many entries there are, and how many body words.
 pub const COUNTERS: usize = 2;
@@ -132,8 +133,9 @@ fn put_slot(
 
 // An entry goes in at i.
 pub fn insert(s: &mut [u32], h: usize, t: usize, i: usize, head: &[u32], body: &[u32], tail: &[u32])
-    requires { ⌜ Insertable h t (now s) i (record { head = now head; body = now body; tail = now tail }) ⌝ }
-    ensures { λ _. ⌜ now (s .exit) ≡ encode (length (now (s .entry))) (insertAt i (record { head = now (head .entry); body = now (body .entry); tail = now (tail .entry) }) (decode h t (now (s .entry)))) ⌝ }
+    requires { ⌜ Insertable h t (now s) i (entry (now head) (now body) (now tail)) ⌝ }
+    ensures { λ _. ⌜ now (s .exit)
+        ≡ inserted h t (now (s .entry)) i (entry (now (head .entry)) (now (body .entry)) (now (tail .entry))) ⌝ }
 {
     let n = word(s, 0);
     let b = word(s, 1);
@@ -151,7 +153,7 @@ pub fn insert(s: &mut [u32], h: usize, t: usize, i: usize, head: &[u32], body: &
 // The entry at i goes out.
 pub fn remove(s: &mut [u32], h: usize, t: usize, i: usize)
     requires { ⌜ Removable h t (now s) i ⌝ }
-    ensures { λ _. ⌜ now (s .exit) ≡ encode (length (now (s .entry))) (removeAt i (decode h t (now (s .entry)))) ⌝ }
+    ensures { λ _. ⌜ now (s .exit) ≡ removed h t (now (s .entry)) i ⌝ }
 {
     let n = word(s, 0);
     let b = word(s, 1);
@@ -169,7 +171,9 @@ pub fn remove(s: &mut [u32], h: usize, t: usize, i: usize)
 // The bodies of the entries to keep move together, over the others; answers how many words they take.
 fn pack_bodies(s: &mut [u32], h: usize, t: usize, column: usize, value: u32) -> usize
     requires { ⌜ Clearable h t (now s) column × (0 < length (decode h t (now s))) ⌝ }
-    ensures { λ r. ⌜ (now (s .exit) ≡ pasted (now (s .entry)) (counters + length (decode h t (now (s .entry))) * width h t) (bodies (stayingEntries column value (decode h t (now (s .entry)))))) × (r ≡ length (bodies (stayingEntries column value (decode h t (now (s .entry)))))) ⌝ }
+    ensures { λ r. ⌜ (now (s .exit)
+        ≡ pasted (now (s .entry)) (counters + length (decode h t (now (s .entry))) * width h t) (bodiesLeft h t (now (s .entry)) column value))
+        × (r ≡ length (bodiesLeft h t (now (s .entry)) column value)) ⌝ }
 {
     let n = word(s, 0);
     let end = COUNTERS + n * (h + SPAN + t);
@@ -193,8 +197,10 @@ fn pack_bodies(s: &mut [u32], h: usize, t: usize, column: usize, value: u32) -> 
 
 // The slots to keep move together, over the others, and get their starts anew; answers how many there are.
 fn pack_slots(s: &mut [u32], h: usize, t: usize, column: usize, value: u32) -> usize
-    requires { ⌜ (counters + getD (now s) 0 0 * width h t ≤ length (now s)) × (column < h) × (counts h t (getD (now s) 0 0) (drop counters (now s)) < 2 ^ 32) ⌝ }
-    ensures { λ r. ⌜ (now (s .exit) ≡ pasted (now (s .entry)) counters (stayingSlots h t column value (getD (now (s .entry)) 0 0) 0 (drop counters (now (s .entry))))) × (r * width h t ≡ length (stayingSlots h t column value (getD (now (s .entry)) 0 0) 0 (drop counters (now (s .entry))))) ⌝ }
+    requires { ⌜ (counters + getD (now s) 0 0 * width h t ≤ length (now s)) × (column < h)
+        × (counts h t (getD (now s) 0 0) (drop counters (now s)) < 2 ^ 32) ⌝ }
+    ensures { λ r. ⌜ (now (s .exit) ≡ pasted (now (s .entry)) counters (slotsLeft h t (now (s .entry)) column value))
+        × (r * width h t ≡ length (slotsLeft h t (now (s .entry)) column value)) ⌝ }
 {
     let n = word(s, 0);
     let mut m: usize = 0;
@@ -219,7 +225,8 @@ fn pack_slots(s: &mut [u32], h: usize, t: usize, column: usize, value: u32) -> u
 // The entries whose head word at a column is a value go out, in one pass over slots and bodies; answers how many went.
 pub fn clear(s: &mut [u32], h: usize, t: usize, column: usize, value: u32) -> usize
     requires { ⌜ Clearable h t (now s) column ⌝ }
-    ensures { λ r. ⌜ (now (s .exit) ≡ encode (length (now (s .entry))) (stayingEntries column value (decode h t (now (s .entry))))) × (r + length (stayingEntries column value (decode h t (now (s .entry)))) ≡ length (decode h t (now (s .entry)))) ⌝ }
+    ensures { λ r. ⌜ (now (s .exit) ≡ cleared h t (now (s .entry)) column value)
+        × (r ≡ goneEntries column value (decode h t (now (s .entry)))) ⌝ }
 {
     let n = word(s, 0);
     if n == 0 {

@@ -1,5 +1,6 @@
 // The verdict of a path over a register's records.
 use types::Answer;
+use types::AsNumber;
 use types::Cause;
 use types::Hop;
 use types::Role;
@@ -20,11 +21,11 @@ ghost use Rattle.verdict.specs.Ramps.{rampsOf, afterUp, afterDown};
 pub const NO_HINTS: [u32; 0] = [0u32; 0];
 
 // u, v, K and L of a path.
-pub struct Ramps {
-    pub u: usize,
-    pub v: usize,
-    pub k: usize,
-    pub l: usize,
+struct Ramps {
+    u: usize,
+    v: usize,
+    k: usize,
+    l: usize,
 }
 
 // Upstream, one look-up for each number but the last.
@@ -39,10 +40,11 @@ fn upstream(reg: &[u32], hints: &[u32], path: &[u32]) -> Verdict
         let u = i + 1;
         let x = path[n - i];
         let y = path[n - u];
-        let position = register::hints::find(reg, hints, x);
-        let hop = register::hop_from(reg, position, x, y);
+        let position = register::hints::find(reg, hints, AsNumber(x));
+        let hop = register::hop_from(reg, position, AsNumber(x), AsNumber(y));
         if rules::is_not_plus(hop) {
-            return Verdict::Invalid(Cause::ByHops(u as u32, 0));
+            let a = u as u32;
+            return Verdict::Invalid(Cause::ByHops(a, 0));
         }
         if rules::is_unattested(hop) & (n < unattested) {
             unattested = u;
@@ -50,7 +52,8 @@ fn upstream(reg: &[u32], hints: &[u32], path: &[u32]) -> Verdict
         i = u;
     }
     if unattested <= n {
-        return Verdict::Unknown(unattested as u32, 0);
+        let a = unattested as u32;
+        return Verdict::Unknown(a, 0);
     }
     Verdict::Valid
 }
@@ -98,15 +101,16 @@ fn after_down(r: Ramps, i: usize, hop: Hop) -> Ramps
 }
 
 // AS(i), or 0 where the path ends before it.
-fn number_or_zero(path: &[u32], i: usize) -> u32
+fn number_or_zero(path: &[u32], i: usize) -> AsNumber
     requires { ⌜ (1 ≤ i) × (i ≤ longestPath + 1) ⌝ }
-    ensures { λ r. ⌜ (i ≤ length (now (path .entry)) → r ≡ asAt (now (path .entry)) i) ⌝ }
+    ensures { λ r. ⌜ (i ≤ length (now (path .entry)) → r .0 ≡ asAt (now (path .entry)) i) ⌝ }
 {
     let n = path.len();
     if i <= n {
-        return path[n - i];
+        let x = path[n - i];
+        return AsNumber(x);
     }
-    0
+    AsNumber(0)
 }
 
 // All four indices in one pass, with one look-up for each number on the path and one reading of its lists.
@@ -123,13 +127,19 @@ fn find_ramps(reg: &[u32], hints: &[u32], path: &[u32]) -> Ramps
     };
     let mut i: usize = 1;
     let origin = path[n - 1];
-    let position = register::hints::find(reg, hints, origin);
-    let mut up = register::hop_from(reg, position, origin, number_or_zero(path, 2));
+    let position = register::hints::find(reg, hints, AsNumber(origin));
+    let mut up = register::hop_from(reg, position, AsNumber(origin), number_or_zero(path, 2));
     while i < n {
         let x = path[n - i];
         let y = path[n - (i + 1)];
-        let position = register::hints::find(reg, hints, y);
-        let hops = register::hops_from(reg, position, y, x, number_or_zero(path, i + 2));
+        let position = register::hints::find(reg, hints, AsNumber(y));
+        let hops = register::hops_from(
+            reg,
+            position,
+            AsNumber(y),
+            AsNumber(x),
+            number_or_zero(path, i + 2),
+        );
         let down = hops.y;
         r = after_up(r, n, i, up);
         r = after_down(r, i, down);
