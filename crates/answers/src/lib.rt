@@ -4,6 +4,7 @@ use types::Cause;
 use types::Cleared;
 use types::Filed;
 use types::Judged;
+use types::Place;
 use types::Refusal;
 use types::Rejudged;
 use types::Removal;
@@ -80,10 +81,10 @@ fn put_refusal(out: &mut [u8], at: usize, refusal: Refusal) -> usize
         × (r ≤ at + 128) ⌝ }
 {
     let next = put_with(out, at, b"refused ", refusal.number() as u64);
-    let Refusal::Attribute(_, place) = refusal else {
-        return next;
-    };
-    put_with(out, next, b" at ", place as u64)
+    match refusal.place() {
+        Place::Nowhere => next,
+        Place::Byte(place) => put_with(out, next, b" at ", place as u64),
+    }
 }
 
 pub fn put_judged(out: &mut [u8], at: usize, judged: Judged) -> usize

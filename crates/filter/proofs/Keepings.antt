@@ -107,10 +107,6 @@ module _ (reg led : List ℕ) (k : Keeping) where
 
 -- ---- rows 18 and 20, and the store
 
--- An effect from its answer and words.
-pub joined : {A : Type 0} {s : Effect A} {a : A} {ws : List ℕ} → a ≡ s .answer → ws ≡ s .words → effect a ws ≡ s
-joined p q = λ i. effect (p i) (q i)
-
 module _ (led : List ℕ) (r : Route) (answer : Answer) where
   abbrev done : Effect Kept
   done = effect kept.Done (ledgerOf (putRoute r (routesOf led)))
@@ -119,26 +115,27 @@ module _ (led : List ℕ) (r : Route) (answer : Answer) where
   answered = effect (Answered answer) (ledgerOf (putRoute r (routesOf led)))
 
   -- What the store answers is what the keeping answers.
-  pub stored-done : {led′ : List ℕ} → effect kept.Done led′ ≡ storeEffect led r → effect (Answered answer) led′ ≡ storedEffect led r answer
+  pub stored-done : {x : Kept} {led′ : List ℕ} → effect x led′ ≡ storeEffect led r → x ≡ kept.Done → effect (Answered answer) led′ ≡ storedEffect led r answer
   unfolding storeEffect
-  stored-done {led′} = go (firstGiven (storeRows led r))
+  stored-done {x} {led′} e m = go (firstGiven (storeRows led r)) e
     where
-      go : (o : Option Refusal) → effect kept.Done led′ ≡ unlessRefused o kept.Refused led done
+      go : (o : Option Refusal) → effect x led′ ≡ unlessRefused o kept.Refused led done
           → effect (Answered answer) led′ ≡ unlessRefused o Refused led answered
-      go (some s) e = let z : kept.Done ≡ kept.Refused s = ap (λ x. x .answer) e in clash (cc)
+      go (some s) e = let z : kept.Done ≡ kept.Refused s = sym m ∙ ap (λ y. y .answer) e in clash (cc)
       go none e = λ i. effect (Answered answer) (e i .words)
 
-  pub stored-refused : {s : Refusal} {led′ : List ℕ} → effect (kept.Refused s) led′ ≡ storeEffect led r → effect (Refused s) led′ ≡ storedEffect led r answer
+  pub stored-refused : {x : Kept} {s : Refusal} {led′ : List ℕ} → effect x led′ ≡ storeEffect led r → x ≡ kept.Refused s
+      → effect (Refused s) led′ ≡ storedEffect led r answer
   unfolding storeEffect
-  stored-refused {s} {led′} = go (firstGiven (storeRows led r))
+  stored-refused {x} {s} {led′} e m = go (firstGiven (storeRows led r)) e
     where
-      go : (o : Option Refusal) → effect (kept.Refused s) led′ ≡ unlessRefused o kept.Refused led done
+      go : (o : Option Refusal) → effect x led′ ≡ unlessRefused o kept.Refused led done
           → effect (Refused s) led′ ≡ unlessRefused o Refused led answered
       go (some t) e =
-          let y : kept.Refused s ≡ kept.Refused t = ap (λ x. x .answer) e in
+          let y : kept.Refused s ≡ kept.Refused t = sym m ∙ ap (λ y. y .answer) e in
           let z : s ≡ t = cc in
           λ i. effect (Refused (z i)) (e i .words)
-      go none e = let z : kept.Refused s ≡ kept.Done = ap (λ x. x .answer) e in clash (cc)
+      go none e = let z : kept.Refused s ≡ kept.Done = sym m ∙ ap (λ y. y .answer) e in clash (cc)
 
 -- ---- a role that is known
 

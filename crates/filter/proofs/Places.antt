@@ -19,16 +19,11 @@ use Rattle.types.specs.Numbers.{faultNumber, refusalNumber, refusalPlace}
 use Rattle.types.specs.Rows.{orElse, firstGiven, Ranged}
 use Rattle.types.proofs.Clashes.{clash, some-not-none}
 use Rattle.types.proofs.Refusing.{row-given, row-passed, accepted-none}
-use Rattle.as_path.specs.declared.Scan.{Scan}
-use Rattle.as_path.specs.declared.Scan.the-variants.{Clean, Faulty}
-use Rattle.as_path.specs.declared.Grounded.{Grounded}
-use Rattle.as_path.specs.declared.Grounded.the-variants.{By, Not}
-use Rattle.as_path.specs.Segments.{segments}
+use Rattle.as_path.specs.declared.Scan.the-variants.{Faulty}
 use Rattle.as_path.specs.Faults.{firstFault}
-use Rattle.as_path.specs.Grounds.{groundOf}
-use Rattle.as_path.specs.Merging.{mergedPath}
-use Rattle.as_path.specs.Reading.{mostNumbers, afterGround, afterScan, contentOf}
-use Rattle.as_path.proofs.Meanings.{fault-means}
+use Rattle.as_path.specs.Reading.{mostNumbers, Content, faulty, grounded, merged, contentOf}
+use Rattle.as_path.proofs.Contents.{content-fault}
+use Rattle.as_path.proofs.Laws.{fault-laws}
 use Rattle.keyed.proofs.Orders.{both-left, both-right}
 use Rattle.rules.specs.Judging.{mostBytes, argumentRows, contentRow, judgeRows}
 use Rattle.rules.proofs.Judges.{first-append}
@@ -117,19 +112,21 @@ module _ (role neighbour : ℕ) (attribute : List ℕ) where
 
   -- The row of the attribute's content.
   content-placed : length attribute ≤ mostBytes → (r : Refusal) → contentRow (contentOf role neighbour attribute) ≡ some r → Told r
-  unfolding contentOf
-  content-placed short r = by-scan (firstFault 4 attribute) refl (groundOf role neighbour (segments 4 attribute))
+  content-placed short r = by-content (contentOf role neighbour attribute) refl
     where
-      by-scan : (s : Scan) → firstFault 4 attribute ≡ s → (k : Grounded)
-          → contentRow (afterScan s (afterGround k (mergedPath (segments 4 attribute)))) ≡ some r → Told r
-      by-scan (Faulty f q) w k e p h =
+      by-content : (c : Content) → contentOf role neighbour attribute ≡ c → contentRow c ≡ some r → Told r
+      by-content (faulty f q) w e p h =
           let z : Attribute f q ≡ r = cc in
           let y : Byte q ≡ Byte p = ap refusalPlace z ∙ h in
           let x : q ≡ p = cc in
-          record { fault = f; is = sym z ∙ ap (Attribute f) x; first = w ∙ ap (Faulty f) x; short = short }
-      by-scan Clean w (By g) e p h = some-not-none (sym e)
-      by-scan Clean w Not e p h =
-          nowhere p (ap refusalPlace (row-given (ltb mostNumbers (length (mergedPath (segments 4 attribute)))) PathLength r e .1) ∙ h)
+          record {
+            fault = f;
+            is = sym z ∙ ap (Attribute f) x;
+            first = content-fault role neighbour attribute f q w ∙ ap (Faulty f) x;
+            short = short;
+          }
+      by-content (grounded g) w e p h = some-not-none (sym e)
+      by-content (merged path) w e p h = nowhere p (ap refusalPlace (row-given (ltb mostNumbers (length path)) PathLength r e .1) ∙ h)
 
   -- Rows 9 to 17.
   pub route-placed : (r : Refusal) → firstGiven (judgeRows role neighbour attribute) ≡ some r → Told r
@@ -167,14 +164,8 @@ keep-placed reg led k r e =
     Told′ : Refusal → Type 0
     Told′ s = (p : ℕ) → refusalPlace s ≡ Byte p → Placed (k .attribute) s p
 
--- A fault lies at a byte of the attribute.
-pub fault-within : (attribute : List ℕ) (f : Fault) (p : ℕ) → firstFault 4 attribute ≡ Faulty f p → p < length attribute
-fault-within attribute CutShort p e = fault-means 4 attribute CutShort p e .0
-fault-within attribute UnknownType p e = omega (arith, fault-means 4 attribute UnknownType p e .0)
-fault-within attribute Confederation p e = omega (arith, fault-means 4 attribute Confederation p e .0)
-fault-within attribute NoNumbers p e = omega (arith, fault-means 4 attribute NoNumbers p e .0)
-fault-within attribute ZeroNumber p e = omega (arith, fault-means 4 attribute ZeroNumber p e .0)
-
--- So a place is below the attribute's limit.
-pub place-below : (attribute : List ℕ) (r : Refusal) (p : ℕ) → Placed attribute r p → p < mostBytes
-place-below attribute r p q = omega (arith, fault-within attribute (q .fault) p (q .first), q .short)
+-- A place is a byte of the attribute, and so below the most bytes.
+pub place-within : (attribute : List ℕ) (r : Refusal) (p : ℕ) → Placed attribute r p → (p < length attribute) × (p < mostBytes)
+place-within attribute r p q =
+    let h : p < length attribute = fault-laws .fault-within 4 attribute (q .fault) p (omega arith) (q .first) in
+    (h, omega (arith, h, q .short))

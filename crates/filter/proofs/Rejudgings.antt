@@ -11,10 +11,10 @@ use Rattle.types.specs.declared.Refusal.the-variants.{TableLength, RegisterMalf
 use Rattle.types.specs.declared.Rejudged.the-variants.{Changed, Refused}
 use Rattle.types.specs.Rows.{firstGiven, effect}
 use Rattle.register.specs.Register.{registerWords, registerOk}
-use Rattle.ledger.specs.Routes.{ledgerWords, mostRoutes, Route, routesOf, ledgerOf, ledgerOk}
+use Rattle.ledger.specs.Routes.{ledgerWords, mostRoutes, Route, routesOf, ledgerOk}
 use Rattle.ledger.specs.Calls.{differs, countDiffering}
 use Rattle.ledger.proofs.Holding.{routes-ok, has-room, room-routes}
-use Rattle.rejudge.specs.Rejudging.{rejudgedRoute}
+use Rattle.rejudge.specs.Rejudging.{rejudgedRoute, rejudgedEffect}
 use Rattle.filter.specs.Calls.{hopIn, tableRows, rejudgeEffect}
 use Rattle.filter.proofs.Keepings.{register-length, ledger-length, register-malformed, ledger-malformed, tables-none}
 
@@ -58,7 +58,6 @@ module _ (reg led : List ℕ) where
           pub few-changed : {n : ℕ} → n ≡ countDiffering (routesOf led) anew → n ≤ mostRoutes
           few-changed e = omega (arith, count-within (routesOf led) anew, room-routes (routesOf led) (has-room (routesOf led) (routes-ok led d)))
 
-          pub rejudge-done : {n : ℕ} {led′ : List ℕ} → led′ ≡ ledgerOf anew → n ≡ countDiffering (routesOf led) anew
-              → effect (Changed n) led′ ≡ rejudgeEffect reg led
+          pub rejudge-done : {n : ℕ} {led′ : List ℕ} → effect n led′ ≡ rejudgedEffect (hopIn reg) led → effect (Changed n) led′ ≡ rejudgeEffect reg led
           unfolding rejudgeEffect
-          rejudge-done e f = rw (tables-none reg led a b c d) (λ i. effect (Changed (f i)) (e i))
+          rejudge-done e = rw (tables-none reg led a b c d) (λ i. effect (Changed (e i .answer)) (e i .words))

@@ -1,6 +1,6 @@
 -- Judge, Keep and Re-judge over the lent tables ("The calls"). File, Withdraw and Clear are the register's, Drop is the ledger's.
 use Prim.Native.Nat.{ℕ}
-use mathlib.Core.List.{List, [], _∷_, _++_, map}
+use mathlib.Core.List.{List, [], _∷_, _++_}
 use mathlib.Core.Option.{Option, none, some}
 use Rattle.types.specs.Numbers.{verdictOf}
 use Rattle.types.specs.declared.Verdict.{Verdict}
@@ -18,8 +18,8 @@ use Rattle.rules.specs.Judging.{judgeRows, unlessGiven, judgedRoute}
 use Rattle.register.specs.Register.{registerWords, recordsOf}
 use Rattle.register.specs.Calls.{registerRow}
 use Rattle.ledger.specs.Routes.{ledgerWords, Route, routesOf, ledgerOf}
-use Rattle.ledger.specs.Calls.{ledgerRow, putRoute, routeFor, storeRows, countDiffering}
-use Rattle.rejudge.specs.Rejudging.{rejudgedRoute}
+use Rattle.ledger.specs.Calls.{ledgerRow, putRoute, routeFor, storeRows}
+use Rattle.rejudge.specs.Rejudging.{rejudgedEffect}
 
 -- The hops that a register's records make.
 abbrev pub hopIn : List ℕ → HopFunction
@@ -103,7 +103,4 @@ keepEffect reg led k =
 unfoldable pub rejudgeEffect : List ℕ → List ℕ → Effect Rejudged
 rejudgeEffect reg led =
     unlessRefused (firstGiven (rejudgeRows reg led)) rejudged.Refused led
-    (record {
-      answer = rejudged.Changed (countDiffering (routesOf led) (map (rejudgedRoute (hopIn reg)) (routesOf led)));
-      words = ledgerOf (map (rejudgedRoute (hopIn reg)) (routesOf led));
-    })
+    (effect (rejudged.Changed (rejudgedEffect (hopIn reg) led .answer)) (rejudgedEffect (hopIn reg) led .words))

@@ -166,7 +166,7 @@ pub fn keep(
 // Takes one route out of the ledger.
 // Rows 1, 3, 19.
 pub fn drop(led: &mut [u32], number: RouteNumber) -> Removal
-    ensures { λ r. ⌜ (r ≡ dropEffect (now (led .entry)) (number .0) .answer) × (now (led .exit) ≡ dropEffect (now (led .entry)) (number .0) .words) ⌝ }
+    ensures { λ r. ⌜ effect r (now (led .exit)) ≡ dropEffect (now (led .entry)) (number .0) ⌝ }
 {
     ledger::drop(led, number)
 }

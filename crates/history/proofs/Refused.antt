@@ -12,14 +12,10 @@ use Rattle.types.specs.declared.Judged.{Judged}
 use Rattle.types.specs.declared.Judged.the-variants as judging
 use Rattle.types.specs.declared.Rejudged.the-variants as rejudging
 use Rattle.types.specs.declared.Place.the-variants.{Byte}
-use Rattle.types.specs.declared.Fault.{Fault}
 use Rattle.types.specs.declared.Refusal.{Refusal}
-use Rattle.types.specs.declared.Refusal.the-variants.{Attribute}
 use Rattle.types.specs.Numbers.{refusalNumber, refusalPlace}
 use Rattle.types.specs.Rows.{firstGiven, Effect, unlessRefused, Numbered, Ranged}
 use Rattle.types.proofs.Refusing.{refused-first, first-refuses, accepted-none, none-accepted}
-use Rattle.as_path.specs.declared.Scan.the-variants.{Faulty}
-use Rattle.as_path.specs.Faults.{firstFault}
 use Rattle.register.specs.Register.{recordsOf}
 use Rattle.register.specs.Calls.{fileRows, withdrawRows, clearRows, fileEffect, withdrawEffect, clearEffect, holdsRecord}
 use Rattle.register.proofs.Refusals.{file-numbers, withdraw-numbers, clear-numbers}
@@ -27,7 +23,7 @@ use Rattle.ledger.specs.Calls.{dropRows, dropEffect}
 use Rattle.ledger.proofs.Refusals.{drop-numbers}
 use Rattle.filter.specs.Calls.{keeping, refusalIn, keepEffect, rejudgeEffect}
 use Rattle.filter.proofs.Refusals.{judge-reads, keep-reads, judge-numbers, keep-numbers, rejudge-numbers}
-use Rattle.filter.proofs.Places.{placed, allOutside, no-place, Placed, judge-placed, keep-placed, fault-within}
+use Rattle.filter.proofs.Places.{placed, allOutside, no-place, Placed, judge-placed, keep-placed, place-within}
 use Rattle.history.specs.Calls.{Call, file, withdraw, clear, keep, drop, rejudge, Tables, says, leaves}
 use Rattle.history.specs.Replies.{ModelReply, shownFiled, shownRemoval, shownCleared, shownJudged, shownRejudged, shown}
 use Rattle.history.specs.Refusals.{AnyCall, change, judge, rowsOf, callRows, callNumbers, numbersOf, inOrder, refusedBy, refusalOf, leftBy, callAttribute, attributeOf, Demand1}
@@ -120,34 +116,26 @@ in-order (judge role neighbour attribute) = refl
 
 -- ---- places
 
--- What a refusal's place says.
-abbrev Told : List ℕ → Refusal → ℕ → Type 0
-Told attribute r p = (f : Fault) × ((r ≡ Attribute f p) × (firstFault 4 attribute ≡ Faulty f p))
-
 -- A call that is handed no attribute is refused without a place.
 unplaced : {A : Type 0} (t : Tables) (c : Call) → allOutside (callNumbers c) ≡ true → (r : Refusal) (p : ℕ) → firstGiven (callRows t c) ≡ some r
     → refusalPlace r ≡ Byte p → A
 unplaced t c o r p e h = absurd (no-place (callRows t c) (callNumbers c) o (call-numbers t c) r e p h)
 
-told : (attribute : List ℕ) (r : Refusal) (p : ℕ) → Placed attribute r p → Told attribute r p
-told attribute r p q = (q .fault, (q .is, q .first))
-
-call-told : (t : Tables) (c : Call) (r : Refusal) (p : ℕ) → refusedBy (shown (says t c)) ≡ some r → refusalPlace r ≡ Byte p → Told (callAttribute c) r p
-call-told t (file source customer list) r p e h =
+call-placed : (t : Tables) (c : Call) (r : Refusal) (p : ℕ) → refusedBy (shown (says t c)) ≡ some r → refusalPlace r ≡ Byte p → Placed (callAttribute c) r p
+call-placed t (file source customer list) r p e h =
     unplaced t (file source customer list) refl r p (sym (call-first t (file source customer list)) ∙ e) h
-call-told t (withdraw source customer) r p e h = unplaced t (withdraw source customer) refl r p (sym (call-first t (withdraw source customer)) ∙ e) h
-call-told t (clear source) r p e h = unplaced t (clear source) refl r p (sym (call-first t (clear source)) ∙ e) h
-call-told t (keep number role neighbour attribute) r p e h =
+call-placed t (withdraw source customer) r p e h = unplaced t (withdraw source customer) refl r p (sym (call-first t (withdraw source customer)) ∙ e) h
+call-placed t (clear source) r p e h = unplaced t (clear source) refl r p (sym (call-first t (clear source)) ∙ e) h
+call-placed t (keep number role neighbour attribute) r p e h =
     let k = keeping number role neighbour attribute in
-    told attribute r p
-    (keep-placed (t .register) (t .ledger) k r (sym (judged-shown (keepEffect (t .register) (t .ledger) k .answer)) ∙ e) p h)
-call-told t (drop number) r p e h = unplaced t (drop number) refl r p (sym (call-first t (drop number)) ∙ e) h
-call-told t rejudge r p e h = unplaced t rejudge refl r p (sym (call-first t rejudge) ∙ e) h
+    keep-placed (t .register) (t .ledger) k r (sym (judged-shown (keepEffect (t .register) (t .ledger) k .answer)) ∙ e) p h
+call-placed t (drop number) r p e h = unplaced t (drop number) refl r p (sym (call-first t (drop number)) ∙ e) h
+call-placed t rejudge r p e h = unplaced t rejudge refl r p (sym (call-first t rejudge) ∙ e) h
 
-place-told : (t : Tables) (c : AnyCall) (r : Refusal) (p : ℕ) → refusalOf t c ≡ some r → refusalPlace r ≡ Byte p → Told (attributeOf c) r p
-place-told t (change c) r p e h = call-told t c r p e h
-place-told t (judge role neighbour attribute) r p e h =
-    told attribute r p (judge-placed role neighbour attribute (t .register) r e p h)
+any-placed : (t : Tables) (c : AnyCall) (r : Refusal) (p : ℕ) → refusalOf t c ≡ some r → refusalPlace r ≡ Byte p → Placed (attributeOf c) r p
+any-placed t (change c) r p e h = call-placed t c r p e h
+any-placed t (judge role neighbour attribute) r p e h =
+    judge-placed role neighbour attribute (t .register) r e p h
 
 -- ---- the demand
 
@@ -165,8 +153,6 @@ demand1 = record {
   numbers-ordered = in-order;
   refused-leaves = refused-stays;
   places-numbered = placed;
-  place-first = place-told;
-  place-within = λ t c r p e h.
-      let f = place-told t c r p e h in
-      fault-within (attributeOf c) (f .0) p (f .1 .1);
+  place-first = λ t c r p e h. let q = any-placed t c r p e h in (q .fault, (q .is, q .first));
+  place-within = λ t c r p e h. place-within (attributeOf c) r p (any-placed t c r p e h) .0;
 }

@@ -1,10 +1,10 @@
 -- `filter::keep_answer` meets its contract. Assumes nothing.
 use Rattle.types.specs.declared.Verdict.{Verdict}
 use Rattle.ledger.specs.Routes.{Route}
-use mathlib.Core.Path.{_≡_, sym, _∙_, ap}
+use mathlib.Core.Path.{_≡_, _∙_, ap}
 use Rattle.types.specs.Numbers.{roleNumber, verdictOf}
 use Rattle.ledger.specs.Calls.{routeFor, storeEffect}
-use Rattle.filter.proofs.Keepings.{joined, stored-done, stored-refused}
+use Rattle.filter.proofs.Keepings.{stored-done, stored-refused}
 use borrow.Author.Needs.{needs}
 use Rattle.filter.proofs.keep_answer.Statement.{statement}
 use Rattle.filter.proofs.keep_answer.Tie as tie
@@ -30,7 +30,7 @@ returns c = let a = c .before .before .before .before .before .before .before .b
     let e = c .before .before .before .before .before .verdict .ensures in
     let s = c .before .before .before .before .store .ensures in
     stored-done (a .led .now) (r (verdictOf (a .answer))) (a .answer)
-    (joined (sym (c .enum-told .given .1) ∙ ap (λ x. x .answer) s) (ap (λ x. x .words) s) ∙ ap (λ v. storeEffect (a .led .now) (r v)) e)
+    (s ∙ ap (λ v. storeEffect (a .led .now) (r v)) e) (c .enum-told .given .1)
 
 same-length-2 : tie.Need-same-length-2
 same-length-2 c = search needs
@@ -41,7 +41,7 @@ returns-2 c = let a = c .before .before .before .before .before .before .before 
     let e = c .before .before .before .before .before .before .verdict .ensures in
     let s = c .before .before .before .before .before .store .ensures in
     stored-refused (a .led .now) (r (verdictOf (a .answer))) (a .answer)
-    (joined (sym (c .before .r .given .1) ∙ ap (λ x. x .answer) s) (ap (λ x. x .words) s) ∙ ap (λ v. storeEffect (a .led .now) (r v)) e)
+    (s ∙ ap (λ v. storeEffect (a .led .now) (r v)) e) (c .before .r .given .1)
 
 pub keep-answer-spec : {M : Type 1} → statement M
 keep-answer-spec =

@@ -51,7 +51,7 @@ returns-5 : tie.Need-returns-5
 returns-5 c = let a = c .before .before .before .before .before .before .before .before .before .before .before .before .before .args in
     rejudge-done (a .reg .now) (a .led .now) (c .before .before .before .before .before .before .before .before .before .before .if1 .left) (c .before .before .before .before .before .before .before .before .before .if2 .left)
     (sym (c .before .before .before .before .before .before .before .before .is-register .ensures) ∙ not-false _ (c .before .before .before .before .before .before .before .if3 .left)) (sym (c .before .before .before .before .before .is-ledger .ensures) ∙ not-false _ (c .before .before .before .before .if4 .left))
-    (ap (λ s. s .words) (c .before .before .rejudge-all .ensures)) (ap (λ s. s .answer) (c .before .before .rejudge-all .ensures))
+    (c .before .before .rejudge-all .ensures)
 
 pub rejudge-spec : {M : Type 1} → statement M
 rejudge-spec =
