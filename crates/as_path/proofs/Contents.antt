@@ -1,6 +1,6 @@
 -- What an attribute is read as, case by case. Assumes nothing.
 use Prim.Native.Nat.{ℕ, _≤_, _<_}
-use mathlib.Core.Path.{_≡_, refl, sym, _∙_}
+use mathlib.Core.Path.{_≡_, refl, sym, _∙_, ap}
 use mathlib.Core.Bool.{Bool, true, false}
 use mathlib.Core.List.{List}
 use native.Mathlib.Omega.{arith}
@@ -73,3 +73,27 @@ merged-means role neighbour xs l = scan (firstFault 4 xs) refl
     scan : (s : Scan) → firstFault 4 xs ≡ s → afterScan s (afterGround (groundOf role neighbour (segments 4 xs)) (mergedPath (segments 4 xs))) ≡ merged l → Merged xs l
     scan Clean e h = ground e (groundOf role neighbour (segments 4 xs)) refl h
     scan (Faulty f p) e h = clash (cc)
+
+-- What is read as a ground has it; what is read as a merged path has none.
+pub content-ground : (role neighbour : ℕ) (xs : List ℕ) (s : Scan) (g : Grounded) → firstFault 4 xs ≡ s → groundOf role neighbour (segments 4 xs) ≡ g
+    → ((h : Ground) → contentOf role neighbour xs ≡ grounded h → groundOf role neighbour (segments 4 xs) ≡ By h)
+    × ((l : List ℕ) → contentOf role neighbour xs ≡ merged l → groundOf role neighbour (segments 4 xs) ≡ Not)
+unfolding contentOf
+content-ground role neighbour xs (Faulty f p) g e e' = ((λ h c. clash (let z = rw e at c in cc)), (λ l c. clash (let z = rw e at c in cc)))
+content-ground role neighbour xs Clean (By g) e e' =
+    ((λ h c. let z : grounded g ≡ grounded h = rw (e, e') at c in let y : g ≡ h = cc in e' ∙ ap By y), (λ l c. clash (let z = rw (e, e') at c in cc)))
+content-ground role neighbour xs Clean Not e e' = ((λ h c. clash (let z = rw (e, e') at c in cc)), (λ l c. e'))
+
+-- What is read as a fault has it.
+pub content-fault : (role neighbour : ℕ) (xs : List ℕ) (f : Fault) (p : ℕ) → contentOf role neighbour xs ≡ faulty f p → firstFault 4 xs ≡ Faulty f p
+unfolding contentOf
+content-fault role neighbour xs f p = scan (firstFault 4 xs) refl (groundOf role neighbour (segments 4 xs))
+  where
+    scan : (s : Scan) → firstFault 4 xs ≡ s → (g : Grounded) → afterScan s (afterGround g (mergedPath (segments 4 xs))) ≡ faulty f p
+        → firstFault 4 xs ≡ Faulty f p
+    scan Clean e (By g) h = clash (cc)
+    scan Clean e Not h = clash (cc)
+    scan (Faulty f' p') e g h =
+        let y : f' ≡ f = cc in
+        let z : p' ≡ p = cc in
+        rw (← y, ← z) e

@@ -3,3 +3,4 @@ pub mod Faults
 pub mod Grounds
 pub mod Merging
 pub mod Reading
+pub mod Laws

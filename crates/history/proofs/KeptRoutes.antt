@@ -1,6 +1,6 @@
 -- The route that a keeping stores, and one that is judged anew, as the model has them. Assumes nothing.
 use Prim.Native.Nat.{ℕ, _≤_}
-use mathlib.Core.Path.{_≡_, refl}
+use mathlib.Core.Path.{_≡_, refl, sym, ap}
 use mathlib.Core.Bool.{Bool, true, false, cond}
 use mathlib.Core.List.{List}
 use mathlib.Core.Option.{none}
@@ -23,7 +23,7 @@ use Rattle.ledger.specs.Routes.{Route, groundOk, routeOk}
 use Rattle.ledger.specs.Calls.{stamped}
 use Rattle.rejudge.specs.Rejudging.{rejudgedRoute}
 use Rattle.rejudge.proofs.Rejudgements.{by-ground}
-use Rattle.filter.specs.Calls.{keptRoute, hopIn}
+use Rattle.filter.specs.Calls.{keeping, keptRoute, hopIn}
 use Rattle.filter.proofs.KeptRoutes.{judged-ground}
 use Rattle.history.specs.Calls.{routeRead, known}
 use Rattle.history.specs.Model.{withVerdict, withWords, judgedKept}
@@ -34,10 +34,10 @@ pub judged-word : (hop : HopFunction) (path : List ℕ) (role : ℕ) → 1 ≤ l
 unfolding judged
 judged-word hop path role one = go (isUpstream role)
   where
-    go : (b : Bool) → cond b (draftUpstream hop path) (draftDownstream hop path)
+    go : (b : Bool) → cond b (outcomeOf (draftUpstream hop path)) (outcomeOf (draftDownstream hop path))
         ≡ outcomeOf (verdictOf (cond b (Plain (upstream hop path)) (WithGap (downstream hop path) (gapOf hop path))))
-    go true = draft-upstream hop path one
-    go false = draft-downstream hop path one
+    go true = ap outcomeOf (sym (draft-upstream hop path one))
+    go false = ap outcomeOf (sym (draft-downstream hop path one))
 
 -- ---- a route that is judged anew
 
@@ -86,9 +86,9 @@ module _ (hop : HopFunction) where
 
 module _ (reg : List ℕ) (number role neighbour : ℕ) (attribute : List ℕ) (e : firstGiven (judgeRows role neighbour attribute) ≡ none) where
   -- But for the verdict it is the route that the arguments are read as.
-  pub kept-known : known (keptRoute reg number role neighbour attribute) ≡ routeRead number role neighbour attribute
+  pub kept-known : known (keptRoute reg (keeping number role neighbour attribute)) ≡ routeRead number role neighbour attribute
   kept-known = go (judgement (hopIn reg) role neighbour attribute e)
     where
-      go : Judgement (hopIn reg) role neighbour attribute → known (keptRoute reg number role neighbour attribute) ≡ routeRead number role neighbour attribute
+      go : Judgement (hopIn reg) role neighbour attribute → known (keptRoute reg (keeping number role neighbour attribute)) ≡ routeRead number role neighbour attribute
       go (on-ground g c j) = rw (j, c)
       go (on-path path c short j) = rw (j, c, judged-ground (hopIn reg) path role)

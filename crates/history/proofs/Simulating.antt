@@ -26,7 +26,7 @@ use Rattle.keyed.proofs.Mapping.{find-map, holds-map, put-map, without-map}
 use Rattle.rules.specs.Records.{Record, hopOf}
 use Rattle.rules.specs.Hops.{HopFunction}
 use Rattle.rules.specs.Judging.{judgeRows, judgedRoute}
-use Rattle.rules.proofs.Judges.{first-append, judged-reads, Judgement, on-ground, on-path, judgement}
+use Rattle.rules.proofs.Judges.{first-append, Judgement, on-ground, on-path, judgement}
 use Rattle.register.specs.Register.{registerWords, recordsOf, recordsOk, roomFor}
 use Rattle.register.specs.Register as register
 use Rattle.register.specs.Calls.{tableRow, registerRow, recordFor, holdsRecord, putRecord, eraseRecord, clearRecords, countRecords, ofSource, filedAs, fileEffect, withdrawEffect, clearEffect}
@@ -39,7 +39,7 @@ use Rattle.register.proofs.Changes as changes
 use Rattle.register.proofs.Refusals.{Register, records-register}
 use Rattle.ledger.specs.Routes.{ledgerWords, Route, routesOf, routeOk, routesOk, keyOf}
 use Rattle.ledger.specs.Routes as ledger
-use Rattle.ledger.specs.Calls.{ledgerRow, holdsRoute, putRoute, eraseRoute, dropEffect, countDiffering}
+use Rattle.ledger.specs.Calls.{ledgerRow, holdsRoute, putRoute, storeRows, eraseRoute, dropEffect, countDiffering}
 use Rattle.ledger.proofs.Entries.{routes-of-words}
 use Rattle.ledger.proofs.Entries as ledger-entries
 use Rattle.ledger.proofs.Holding.{room-routes, room-paths, has-room, each-ok}
@@ -48,7 +48,7 @@ use Rattle.ledger.proofs.Changes.{put-ok, without-ok}
 use Rattle.ledger.proofs.Refusals.{Ledger, routes-ledger}
 use Rattle.rejudge.specs.Rejudging.{rejudgedRoute}
 use Rattle.rejudge.proofs.Rejudgements.{rejudged-ok}
-use Rattle.filter.specs.Calls.{hopIn, tablesRow, refusalIn, keptRoute, keepRows, keepEffect, rejudgeEffect}
+use Rattle.filter.specs.Calls.{keeping, hopIn, tableRows, keptRoute, keepRows, keepEffect, rejudgeEffect}
 use Rattle.filter.proofs.KeptRoutes.{kept-ok}
 use Rattle.history.specs.Calls.{Call, file, withdraw, clear, keep, drop, rejudge, rejudged, Tables, Formed, routeRead, says, leaves, blank, callAt, tables, said, last, known, findRoute}
 use Rattle.history.specs.Replies.{ModelReply, refused, done, replaced, new, shownFiled, shownRemoval, shownCleared, shownJudged, shownRejudged, shown, accepted}
@@ -122,7 +122,7 @@ module _ (stored : List Route) (ok : routesOk stored ≡ true) where
 
 -- Rows 1, 2 and 3 are not given.
 tables-pass : (lists : List Record) (stored : List Route) → recordsOk lists ≡ true → routesOk stored ≡ true → (slots : List (Option Refusal))
-    → firstGiven (tablesRow (register.registerOf lists) (ledger.ledgerOf stored) ∷ registerRow (register.registerOf lists) ∷ ledgerRow (ledger.ledgerOf stored) ∷ slots)
+    → firstGiven (tableRows (register.registerOf lists) (ledger.ledgerOf stored) ++ slots)
     ≡ firstGiven slots
 unfolding firstGiven
 tables-pass lists stored ok fine slots =
@@ -291,37 +291,33 @@ module _ (lists : List Record) (stored : List Route) (ok : recordsOk lists ≡ t
   module _ (n role neighbour : ℕ) (attribute : List ℕ) where
     -- A keeping whose arguments bar it not asks of the model and of the ledger for the same room.
     same-room : firstGiven (judgeRows role neighbour attribute) ≡ none
-        → ledger.roomFor (putRoute (keptRoute (register.registerOf lists) n role neighbour attribute) stored)
+        → ledger.roomFor (putRoute (keptRoute (register.registerOf lists) (keeping n role neighbour attribute)) stored)
         ≡ roomForRoutes (putKept (routeRead n role neighbour attribute) (map known stored))
     same-room e =
-        room-known (putRoute (keptRoute (register.registerOf lists) n role neighbour attribute) stored)
-        ∙ ap roomForRoutes (sym (put-map keyOf numberOf eqb ltb known (λ r. refl) (keptRoute (register.registerOf lists) n role neighbour attribute) stored))
+        room-known (putRoute (keptRoute (register.registerOf lists) (keeping n role neighbour attribute)) stored)
+        ∙ ap roomForRoutes (sym (put-map keyOf numberOf eqb ltb known (λ r. refl) (keptRoute (register.registerOf lists) (keeping n role neighbour attribute)) stored))
         ∙ ap (λ r. roomForRoutes (putKept r (map known stored))) (kept-known (register.registerOf lists) n role neighbour attribute e)
 
     -- Keep is refused as by the model.
-    keep-refusal : firstGiven (keepRows (register.registerOf lists) (ledger.ledgerOf stored) n role neighbour attribute)
+    keep-refusal : firstGiven (keepRows (register.registerOf lists) (ledger.ledgerOf stored) (keeping n role neighbour attribute))
         ≡ refusal (modelOf lists stored) (keep n role neighbour attribute)
     unfolding refusal firstGiven
     keep-refusal =
-        tables-pass lists stored ok fine later
+        tables-pass lists stored ok fine (judgeRows role neighbour attribute ++ store)
+        ∙ first-append (judgeRows role neighbour attribute) store
         ∙ rw (
           routes-are stored fine,
-          judged-reads (hopIn (register.registerOf lists)) role neighbour attribute refusalIn (λ r. refl) (λ a. refl),
           ← holds-map keyOf numberOf eqb ltb known (λ r. refl) n stored,
           first-append (judgeRows role neighbour attribute) (heldRows (modelOf lists stored) (keep n role neighbour attribute)
               ++ roomRows (modelOf lists stored) (keep n role neighbour attribute)),
         ) (go (firstGiven (judgeRows role neighbour attribute)) refl)
       where
-        later : List (Option Refusal)
-        later =
-            refusalIn (judgedRoute (hopIn (register.registerOf lists)) role neighbour attribute)
-            ∷ rowIf (holdsRoute n (routesOf (ledger.ledgerOf stored))) RouteTaken
-            ∷ rowIf (not (ledger.roomFor (putRoute (keptRoute (register.registerOf lists) n role neighbour attribute) (routesOf (ledger.ledgerOf stored))))) RoutesFull
-            ∷ []
+        store : List (Option Refusal)
+        store = storeRows (ledger.ledgerOf stored) (keptRoute (register.registerOf lists) (keeping n role neighbour attribute))
 
         go : (o : Option Refusal) → firstGiven (judgeRows role neighbour attribute) ≡ o
             → orElse o (orElse (rowIf (holdsKept n (map known stored)) RouteTaken)
-            (orElse (rowIf (not (ledger.roomFor (putRoute (keptRoute (register.registerOf lists) n role neighbour attribute) stored))) RoutesFull) none))
+            (orElse (rowIf (not (ledger.roomFor (putRoute (keptRoute (register.registerOf lists) (keeping n role neighbour attribute)) stored))) RoutesFull) none))
             ≡ orElse o (orElse (rowIf (holdsKept n (map known stored)) RouteTaken)
             (orElse (rowIf (not (roomForRoutes (putKept (routeRead n role neighbour attribute) (map known stored)))) RoutesFull) none))
         go (some r) e = refl
@@ -347,11 +343,11 @@ module _ (lists : List Record) (stored : List Route) (ok : recordsOk lists ≡ t
 
     -- Keep, as the model refuses it.
     pub keep-step :
-        keepEffect (register.registerOf lists) (ledger.ledgerOf stored) n role neighbour attribute
+        keepEffect (register.registerOf lists) (ledger.ledgerOf stored) (keeping n role neighbour attribute)
         ≡ unlessRefused (refusal (modelOf lists stored) (keep n role neighbour attribute)) judging.Refused (ledger.ledgerOf stored)
         (record {
           answer = judgedRoute (hopOf lists) role neighbour attribute;
-          words = ledger.ledgerOf (putRoute (keptRoute (register.registerOf lists) n role neighbour attribute) stored);
+          words = ledger.ledgerOf (putRoute (keptRoute (register.registerOf lists) (keeping n role neighbour attribute)) stored);
         })
     unfolding keepEffect
     keep-step = rw (keep-refusal, routes-are stored fine, records-are lists ok)
@@ -382,7 +378,7 @@ module _ (lists : List Record) (stored : List Route) (ok : recordsOk lists ≡ t
     }
       where
         r : Route
-        r = keptRoute (register.registerOf lists) n role neighbour attribute
+        r = keptRoute (register.registerOf lists) (keeping n role neighbour attribute)
 
         answered : (o : Option Refusal) → refusal (modelOf lists stored) (keep n role neighbour attribute) ≡ o
             → replyUnless o (shownJudged (judgedRoute (hopOf lists) role neighbour attribute)) ≡ replyUnless o done
@@ -392,7 +388,7 @@ module _ (lists : List Record) (stored : List Route) (ok : recordsOk lists ≡ t
         stays-ok : refusal (modelOf lists stored) (keep n role neighbour attribute) ≡ none → routesOk (putRoute r stored) ≡ true
         stays-ok e =
             let p = passed e in
-            put-ok stored fine r (kept-ok (register.registerOf lists) n role neighbour attribute (p .0)) (same-room (p .0) ∙ p .1)
+            put-ok stored fine r (kept-ok (register.registerOf lists) (keeping n role neighbour attribute) (p .0)) (same-room (p .0) ∙ p .1)
 
         same-routes : firstGiven (judgeRows role neighbour attribute) ≡ none
             → change (modelOf lists stored) (keep n role neighbour attribute) ≡ modelOf lists (putRoute r stored)

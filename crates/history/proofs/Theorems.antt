@@ -49,7 +49,7 @@ use Rattle.ledger.proofs.Paths.{path-some}
 use Rattle.ledger.proofs.Refusals.{Ledger}
 use Rattle.rejudge.specs.Rejudging.{rejudgedRoute}
 use Rattle.rejudge.proofs.Rejudgements.{some-numbers, rejudged-ok}
-use Rattle.filter.specs.Calls.{hopIn, judgeAnswer, refusalIn, keepEffect, rejudgeEffect}
+use Rattle.filter.specs.Calls.{keeping, hopIn, judgeAnswer, refusalIn, keepEffect, rejudgeEffect}
 use Rattle.filter.proofs.KeptRoutes.{path-ok}
 use Rattle.history.specs.Calls.{Call, file, withdraw, clear, keep, drop, rejudge, filed, removed, cleared, kept, rejudged, Tables, Formed, tables, says, callAt, said, last, findRecord, findRoute, providersOf, known}
 use Rattle.history.specs.Replies.{ModelReply, new, replaced, done, gone, refused, shownFiled, shownRemoval, shownCleared, shown, forRoom, accepted}
@@ -146,11 +146,11 @@ module _ (t : Tables) (f : Formed t) (l : List Call) (i : ℕ) where
 
   -- So does a keeping that is answered.
   keep-answer : (number role neighbour : ℕ) (attribute : List ℕ) (a : Answer)
-      → kept (keepEffect (tables t l i .register) (tables t l i .ledger) number role neighbour attribute .answer) ≡ kept (Answered a)
+      → kept (keepEffect (tables t l i .register) (tables t l i .ledger) (keeping number role neighbour attribute) .answer) ≡ kept (Answered a)
       → judgedRoute (hopsAt t l i) role neighbour attribute ≡ Answered a
   keep-answer number role neighbour attribute a e =
       let step = keep-step (holds-at .lists) (holds-at .stored) (holds-at .lists-ok) (holds-at .routes-ok) number role neighbour attribute in
-      let g : keepEffect (tables t l i .register) (tables t l i .ledger) number role neighbour attribute .answer ≡ Answered a = cc in
+      let g : keepEffect (tables t l i .register) (tables t l i .ledger) (keeping number role neighbour attribute) .answer ≡ Answered a = cc in
       let o : Option Refusal = refusal (modelOf (holds-at .lists) (holds-at .stored)) (keep number role neighbour attribute) in
       rw (← hops-are) (keep-answered o _ role neighbour attribute _ _ a (rw (register-is, ledger-is, step) at g))
 

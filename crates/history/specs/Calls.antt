@@ -21,7 +21,7 @@ use Rattle.register.specs.Calls.{fileEffect, withdrawEffect, clearEffect}
 use Rattle.ledger.specs.Routes.{ledgerWords, Route, ledgerOk}
 use Rattle.ledger.specs.Routes as ledger
 use Rattle.ledger.specs.Calls.{dropEffect}
-use Rattle.filter.specs.Calls.{pathIn, keepEffect, rejudgeEffect}
+use Rattle.filter.specs.Calls.{pathIn, keeping, keepEffect, rejudgeEffect}
 
 -- The calls that can change a table, with their arguments: any numbers and any bytes.
 pub data Call : Type 0 where
@@ -50,7 +50,7 @@ abbrev pub says : Tables → Call → Reply
 says t (file source customer list) = filed (fileEffect (t .register) source customer list .answer)
 says t (withdraw source customer) = removed (withdrawEffect (t .register) source customer .answer)
 says t (clear source) = cleared (clearEffect (t .register) source .answer)
-says t (keep number role neighbour attribute) = kept (keepEffect (t .register) (t .ledger) number role neighbour attribute .answer)
+says t (keep number role neighbour attribute) = kept (keepEffect (t .register) (t .ledger) (keeping number role neighbour attribute) .answer)
 says t (drop number) = removed (dropEffect (t .ledger) number .answer)
 says t rejudge = rejudged (rejudgeEffect (t .register) (t .ledger) .answer)
 
@@ -60,7 +60,7 @@ leaves t (file source customer list) = record { register = fileEffect (t .regist
 leaves t (withdraw source customer) = record { register = withdrawEffect (t .register) source customer .words; ledger = t .ledger }
 leaves t (clear source) = record { register = clearEffect (t .register) source .words; ledger = t .ledger }
 leaves t (keep number role neighbour attribute) =
-    record { register = t .register; ledger = keepEffect (t .register) (t .ledger) number role neighbour attribute .words }
+    record { register = t .register; ledger = keepEffect (t .register) (t .ledger) (keeping number role neighbour attribute) .words }
 leaves t (drop number) = record { register = t .register; ledger = dropEffect (t .ledger) number .words }
 leaves t rejudge = record { register = t .register; ledger = rejudgeEffect (t .register) (t .ledger) .words }
 

@@ -30,7 +30,7 @@ use Rattle.history.specs.Reorderings.{IsRegisterStep, StepAt, Reordering
 
 -- Roles 3 and 6 go by section 6.2, the others by 6.1.
 abbrev pub draftPath : HopFunction → ℕ → List ℕ → Outcome
-draftPath hop role path = cond (isUpstream role) (draftUpstream hop path) (draftDownstream hop path)
+draftPath hop role path = cond (isUpstream role) (outcomeOf (draftUpstream hop path)) (outcomeOf (draftDownstream hop path))
 
 -- A ground makes the route Invalid. An attribute with a fault has no word.
 abbrev pub draftWord : HopFunction → ℕ → Content → Option Outcome

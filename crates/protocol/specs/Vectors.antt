@@ -18,9 +18,9 @@ use Rattle.types.specs.declared.Judged.{Judged}
 use Rattle.types.specs.declared.Judged.the-variants.{Answered, Refused}
 use Rattle.answers.specs.Texts.{eachText, judgedText, spacedText}
 use Rattle.history.specs.Calls.{Tables, file, withdraw, clear, keep, drop, rejudge}
-use Rattle.protocol.specs.declared.Named.the-variants.{Register, Ledger, Neither}
-use Rattle.protocol.specs.Commands.{Command, call, judge, show, words, poke, resize, empty, bad, namedBy, ofWords, withNumber, withBytes, withNumbers, upTo, lookCommand, routeCommand, lentCommand, commandOf}
-use Rattle.protocol.specs.Replies.{after}
+use Rattle.commands.specs.declared.Named.the-variants.{Register, Ledger, Neither}
+use Rattle.commands.specs.Commands.{Command, call, judge, show, words, poke, resize, empty, bad, namedBy, ofWords, withNumber, withBytes, withNumbers, upTo, lookCommand, routeCommand, lentCommand, commandOf}
+use Rattle.commands.specs.Performing.{after}
 use Rattle.protocol.specs.Feeding.{answerLine}
 
 abbrev command : String → Command

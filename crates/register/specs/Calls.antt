@@ -7,14 +7,14 @@ use mathlib.Core.Option.{Option}
 use lib.Dec.{ltb, eqb}
 use lib.ListN.{length}
 use Rattle.types.specs.declared.Refusal.{Refusal}
-use Rattle.types.specs.declared.Refusal.the-variants.{TableLength, RegisterMalformed, SourceNumber, CustomerZero, ProviderList, NoRecord, RegisterFull}
+use Rattle.types.specs.declared.Refusal.the-variants.{RegisterMalformed, SourceNumber, CustomerZero, ProviderList, NoRecord, RegisterFull}
 use Rattle.types.specs.declared.Filed.{Filed}
 use Rattle.types.specs.declared.Filed.the-variants as filed
 use Rattle.types.specs.declared.Removal.{Removal}
 use Rattle.types.specs.declared.Removal.the-variants as removal
 use Rattle.types.specs.declared.Cleared.{Cleared}
 use Rattle.types.specs.declared.Cleared.the-variants as cleared
-use Rattle.types.specs.Rows.{rowIf, firstGiven, Effect, unlessRefused}
+use Rattle.types.specs.Rows.{rowIf, lengthRow, firstGiven, Effect, unlessRefused}
 use Rattle.keyed.specs.Keyed.{samePair, beforePair, holds, put, without, countOf}
 use Rattle.rules.specs.Records.{Record}
 use Rattle.register.specs.Register.{registerWords, lastSource, recordsOf, registerOf, keyOf, positionOf, listOk, roomFor, registerOk}
@@ -42,7 +42,7 @@ countRecords source rs = countOf keyOf samePair beforePair (ofSource source) rs
 -- ---- the rows of each call
 
 abbrev pub tableRow : List ℕ → Option Refusal
-tableRow ws = rowIf (not (eqb (length ws) registerWords)) TableLength
+tableRow ws = lengthRow registerWords ws
 
 abbrev pub registerRow : List ℕ → Option Refusal
 registerRow ws = rowIf (not (registerOk ws)) RegisterMalformed

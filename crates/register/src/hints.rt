@@ -18,26 +18,35 @@ ghost use mathlib.Core.Bool.{true};
 ghost use Prim.Native.Nat.{_^_, _≤_, _<_};
 ghost use lib.ListN.{length};
 ghost use Rattle.register.specs.Register.{recordsOf, recordAt, registerOk, positionOf};
-ghost use Rattle.register.specs.Helpers.{headWords, Within};
+ghost use Rattle.register.specs.Helpers.{upperPart, firstCell, hintWords, Within};
 
 // Cells to a record of a full register.
 const CELLS_EACH: usize = 4;
 
 const CELLS: usize = CELLS_EACH * crate::MOST_RECORDS;
 
+// The words of a part: its first customer, its width's exponent, its first cell and the one behind its last.
+const EXPONENT: usize = 1;
+
+const FIRST: usize = 2;
+
+const END: usize = 3;
+
+const PART: usize = 4;
+
 // Where the words of the lower part begin, those of the upper part, and the hints.
 const LOWER: usize = 1;
 
-const UPPER: usize = 5;
+const UPPER: usize = LOWER + PART;
 
-const FIRST_CELL: usize = 9;
+const FIRST_CELL: usize = UPPER + PART;
 
 // The words that hold all hints; the last is behind the last cell.
 pub const WORDS: usize = FIRST_CELL + CELLS + 1;
 
 // The words of the part that a customer is in.
 fn part_of(customer: u32, upper: u32) -> usize
-    ensures { λ r. ⌜ r ≤ 5 ⌝ }
+    ensures { λ r. ⌜ r ≤ upperPart ⌝ }
 {
     if customer < upper {
         return LOWER;
@@ -60,17 +69,17 @@ fn cells_to(distance: u32, exponent: u32) -> usize
 
 // A customer's cell, as an index of words.
 fn cell(hints: &[u32], customer: u32) -> usize
-    requires { ⌜ headWords ≤ length (now hints) ⌝ }
+    requires { ⌜ firstCell ≤ length (now hints) ⌝ }
     ensures { λ r. ⌜ r < 2 ^ 32 ⌝ }
 {
     let part = part_of(customer, hints[0]);
     let base = hints[part];
-    let first = table::word(hints, part + 2);
-    let end = table::word(hints, part + 3);
+    let first = table::word(hints, part + FIRST);
+    let end = table::word(hints, part + END);
     if customer < base {
         return first;
     }
-    let at = first + cells_to(customer - base, hints[part + 1]);
+    let at = first + cells_to(customer - base, hints[part + EXPONENT]);
     if at < end {
         return at;
     }
@@ -93,7 +102,7 @@ fn customer_at(reg: &[u32], i: usize) -> u32
     requires { ⌜ (registerOk (now reg) ≡ true) × (i < length (recordsOf (now reg))) ⌝ }
     ensures { λ r. ⌜ r ≡ recordAt (recordsOf (now (reg .entry))) i .customer ⌝ }
 {
-    reg[2 + i * 4]
+    reg[2 + i * crate::WIDTH]
 }
 
 // Where the upper part of the customers begins: behind their widest gap.
@@ -119,17 +128,17 @@ fn cut(reg: &[u32]) -> usize
 
 // The words of a part, from its first customer, its last, its first cell and the one behind its last.
 fn set_part(hints: &mut [u32], part: usize, base: u32, last: u32, first: usize, end: usize)
-    requires { ⌜ (part ≤ 5) × (headWords ≤ length (now hints)) × (first ≤ end) × (end ≤ 65535) ⌝ }
+    requires { ⌜ (part ≤ upperPart) × (firstCell ≤ length (now hints)) × (first ≤ end) × (end ≤ hintWords) ⌝ }
 {
     hints[part] = base;
-    hints[part + 1] = exponent(std::num::wrapping_sub_u32(last, base), end - first);
-    hints[part + 2] = first as u32;
-    hints[part + 3] = end as u32;
+    hints[part + EXPONENT] = exponent(std::num::wrapping_sub_u32(last, base), end - first);
+    hints[part + FIRST] = first as u32;
+    hints[part + END] = end as u32;
 }
 
 // Behind each record's cell: how many records there are up to this one.
 fn mark(reg: &[u32], hints: &mut [u32])
-    requires { ⌜ (registerOk (now reg) ≡ true) × (headWords ≤ length (now hints)) ⌝ }
+    requires { ⌜ (registerOk (now reg) ≡ true) × (firstCell ≤ length (now hints)) ⌝ }
 {
     let n = table::word(reg, 0);
     let mut i: usize = 0;
@@ -158,7 +167,7 @@ fn spread(hints: &mut [u32]) {
 
 // Fills words that are all 0 with hints for a register.
 pub fn fill(reg: &[u32], hints: &mut [u32])
-    requires { ⌜ (registerOk (now reg) ≡ true) × (headWords ≤ length (now hints)) ⌝ }
+    requires { ⌜ (registerOk (now reg) ≡ true) × (firstCell ≤ length (now hints)) ⌝ }
 {
     let n = table::word(reg, 0);
     if n == 0 {

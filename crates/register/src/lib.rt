@@ -10,28 +10,48 @@ ghost use mathlib.Core.Bool.{true, false, cond, _&&_};
 ghost use Prim.Native.Nat.{_^_, _≤_, _<_};
 ghost use lib.ListN.{length, getD};
 ghost use Rattle.table.specs.Table.{Sound};
+ghost use Rattle.types.specs.Rows.{effect};
 ghost use Rattle.keyed.specs.Keyed.{samePair, beforePair, ascends, every};
 ghost use Rattle.types.specs.declared.Hop.the-variants.{NoAttestation, ProviderPlus, NotProviderPlus};
 ghost use Rattle.rules.specs.Records.{isIn, hopOf};
-ghost use Rattle.register.specs.Register.{mostBodyWords, recordsOf, recordAt, keyOf, rises, listOk, recordOk, recordsOk, registerOk, positionOf};
+ghost use Rattle.register.specs.Register.{headWords, tailWords, mostListed, recordsOf, recordAt, keyOf, rises, listOk, recordOk, recordsOk, registerOk, positionOf};
 ghost use Rattle.register.specs.Helpers.{descentsIn, Within};
 ghost use Rattle.register.specs.Calls.{holdsRecord, Passed, fileEffect, withdrawEffect, clearEffect};
 
 pub mod hints;
 
-// The words of a register.
-pub const WORDS: usize = 12290;
+// ---- limits
 
 const MOST_RECORDS: usize = 1024;
 
-const MOST_BODY_WORDS: usize = 8192;
+// The numbers in all lists together.
+const MOST_LISTED: usize = 8192;
 
+// The numbers in one list.
 const MOST_PROVIDERS: usize = 256;
 
 const LAST_SOURCE: u32 = 7;
 
-// An entry of the register ends with its count.
-const NO_TAIL: [u32; 0] = [0u32; 0];
+// ---- layout
+
+// A record's slot: customer, source, where its list starts among the bodies, and how many numbers it has. The first two are its head.
+const HEAD: usize = 2;
+
+const TAIL: usize = 0;
+
+const WIDTH: usize = HEAD + 2 + TAIL;
+
+const SOURCE: usize = 1;
+
+const START: usize = HEAD;
+
+const COUNT: usize = HEAD + 1;
+
+// The words of a register: two counts, and room for as many records and numbers as there may be.
+pub const WORDS: usize = 2 + MOST_RECORDS * WIDTH + MOST_LISTED;
+
+// The tail of a slot.
+const NO_TAIL: [u32; TAIL] = [0u32; TAIL];
 
 // ---- the check
 
@@ -101,21 +121,21 @@ fn descents(list: &[u32]) -> u32
 // Each record's own rules, and their order. The lists are read in one go: each of them ascends if no two numbers descend but where
 // one list ends and the next begins.
 fn are_records(reg: &[u32]) -> bool
-    requires { ⌜ Sound 2 0 (now reg) × (getD (now reg) 1 0 ≤ mostBodyWords) ⌝ }
+    requires { ⌜ Sound headWords tailWords (now reg) × (getD (now reg) 1 0 ≤ mostListed) ⌝ }
     ensures { λ r. ⌜ r ≡ (every recordOk (recordsOf (now (reg .entry))) && ascends keyOf samePair beforePair (recordsOf (now (reg .entry)))) ⌝ }
 {
     let n = table::word(reg, 0);
-    let bodies = 2 + n * 4;
+    let bodies = 2 + n * WIDTH;
     let mut customer: u32 = 0;
     let mut source: u32 = 0;
     let mut between: u32 = 0;
     let mut from = bodies;
     let mut i: usize = 0;
     while i < n {
-        let at = 2 + i * 4;
+        let at = 2 + i * WIDTH;
         let c = reg[at];
-        let s = reg[at + 1];
-        let count = table::word(reg, at + 3);
+        let s = reg[at + SOURCE];
+        let count = table::word(reg, at + COUNT);
         if (c == 0) | ((LAST_SOURCE < s) | ((count < 1) | (MOST_PROVIDERS < count))) {
             return false;
         }
@@ -139,13 +159,13 @@ fn are_records(reg: &[u32]) -> bool
 pub fn is_register(reg: &[u32]) -> bool
     ensures { λ r. ⌜ r ≡ registerOk (now (reg .entry)) ⌝ }
 {
-    if !table::well_formed(reg, 2, 0) {
+    if !table::well_formed(reg, HEAD, TAIL) {
         return false;
     }
     if MOST_RECORDS < table::word(reg, 0) {
         return false;
     }
-    if MOST_BODY_WORDS < table::word(reg, 1) {
+    if MOST_LISTED < table::word(reg, 1) {
         return false;
     }
     are_records(reg)
@@ -158,8 +178,8 @@ fn stands_before(reg: &[u32], i: usize, customer: u32, source: u32) -> bool
     requires { ⌜ (registerOk (now reg) ≡ true) × (i < length (recordsOf (now reg))) ⌝ }
     ensures { λ r. ⌜ r ≡ beforePair (keyOf (recordAt (recordsOf (now (reg .entry))) i)) (customer, source) ⌝ }
 {
-    let at = 2 + i * 4;
-    is_before(reg[at], reg[at + 1], customer, source)
+    let at = 2 + i * WIDTH;
+    is_before(reg[at], reg[at + SOURCE], customer, source)
 }
 
 // The position of a pair, which is one of from..=to, by halves.
@@ -196,9 +216,9 @@ fn is_at(reg: &[u32], position: usize, customer: u32, source: u32) -> bool
     ensures { λ r. ⌜ r ≡ holdsRecord customer source (recordsOf (now (reg .entry))) ⌝ }
 {
     if position < table::word(reg, 0) {
-        let at = 2 + position * 4;
+        let at = 2 + position * WIDTH;
         if reg[at] == customer {
-            return reg[at + 1] == source;
+            return reg[at + SOURCE] == source;
         }
     }
     false
@@ -255,7 +275,7 @@ pub fn hops_from(reg: &[u32], position: usize, x: u32, y: u32, z: u32) -> Hops
     ensures { λ r. ⌜ (r .y ≡ hopOf (recordsOf (now (reg .entry))) x y) × (r .z ≡ hopOf (recordsOf (now (reg .entry))) x z) ⌝ }
 {
     let n = table::word(reg, 0);
-    let bodies = 2 + n * 4;
+    let bodies = 2 + n * WIDTH;
     let mut has_y = false;
     let mut has_z = false;
     let mut i = position;
@@ -263,12 +283,12 @@ pub fn hops_from(reg: &[u32], position: usize, x: u32, y: u32, z: u32) -> Hops
         if n <= i {
             break;
         }
-        let at = 2 + i * 4;
+        let at = 2 + i * WIDTH;
         if reg[at] != x {
             break;
         }
-        let from = bodies + table::word(reg, at + 2);
-        let to = from + table::word(reg, at + 3);
+        let from = bodies + table::word(reg, at + START);
+        let to = from + table::word(reg, at + COUNT);
         let listed = scan(&reg[from..to], y, z);
         has_y = has_y | listed.y;
         has_z = has_z | listed.z;
@@ -295,36 +315,38 @@ pub fn hop_from(reg: &[u32], position: usize, x: u32, y: u32) -> Hop
 // A new record goes in at its position, if there is room for it.
 fn add(reg: &mut [u32], position: usize, source: u32, customer: u32, list: &[u32]) -> Filed
     requires { ⌜ Passed (now reg) position source customer (now list) × (holdsRecord customer source (recordsOf (now reg)) ≡ false) ⌝ }
-    ensures { λ r. ⌜ (r ≡ fileEffect (now (reg .entry)) source customer (now (list .entry)) .answer) × (now (reg .exit) ≡ fileEffect (now (reg .entry)) source customer (now (list .entry)) .words) ⌝ }
+    ensures { λ r. ⌜ effect r (now (reg .exit)) ≡ fileEffect (now (reg .entry)) source customer (now (list .entry)) ⌝ }
 {
     if MOST_RECORDS <= table::word(reg, 0) {
         return Filed::Refused(Refusal::RegisterFull);
     }
-    if MOST_BODY_WORDS - table::word(reg, 1) < list.len() {
+    if MOST_LISTED - table::word(reg, 1) < list.len() {
         return Filed::Refused(Refusal::RegisterFull);
     }
     let head = [customer, source];
-    table::insert(reg, 2, 0, position, &head, list, &NO_TAIL);
+    table::insert(reg, HEAD, TAIL, position, &head, list, &NO_TAIL);
     Filed::New
 }
 
 // A list takes the place of the one that stands under its pair, if there is room for it.
 fn replace(reg: &mut [u32], position: usize, source: u32, customer: u32, list: &[u32]) -> Filed
     requires { ⌜ Passed (now reg) position source customer (now list) × (holdsRecord customer source (recordsOf (now reg)) ≡ true) ⌝ }
-    ensures { λ r. ⌜ (r ≡ fileEffect (now (reg .entry)) source customer (now (list .entry)) .answer) × (now (reg .exit) ≡ fileEffect (now (reg .entry)) source customer (now (list .entry)) .words) ⌝ }
+    ensures { λ r. ⌜ effect r (now (reg .exit)) ≡ fileEffect (now (reg .entry)) source customer (now (list .entry)) ⌝ }
 {
-    let others = table::word(reg, 1) - table::word(reg, 2 + position * 4 + 3);
-    if MOST_BODY_WORDS - others < list.len() {
+    let others = table::word(reg, 1) - table::word(reg, 2 + position * WIDTH + COUNT);
+    if MOST_LISTED - others < list.len() {
         return Filed::Refused(Refusal::RegisterFull);
     }
     let head = [customer, source];
-    table::remove(reg, 2, 0, position);
-    table::insert(reg, 2, 0, position, &head, list, &NO_TAIL);
+    table::remove(reg, HEAD, TAIL, position);
+    table::insert(reg, HEAD, TAIL, position, &head, list, &NO_TAIL);
     Filed::Replaced
 }
 
+// File: a list goes in under the pair of its source and customer, in the place of the one that is there; no other list changes.
+// Answers whether it is new or replaced another. Rows 1, 2, 4, 5, 6, 8.
 pub fn file(reg: &mut [u32], source: u32, customer: AsNumber, list: &[u32]) -> Filed
-    ensures { λ r. ⌜ (r ≡ fileEffect (now (reg .entry)) source (customer .0) (now (list .entry)) .answer) × (now (reg .exit) ≡ fileEffect (now (reg .entry)) source (customer .0) (now (list .entry)) .words) ⌝ }
+    ensures { λ r. ⌜ effect r (now (reg .exit)) ≡ fileEffect (now (reg .entry)) source (customer .0) (now (list .entry)) ⌝ }
 {
     if reg.len() != WORDS {
         return Filed::Refused(Refusal::TableLength);
@@ -349,8 +371,9 @@ pub fn file(reg: &mut [u32], source: u32, customer: AsNumber, list: &[u32]) -> F
     add(reg, position, source, c, list)
 }
 
+// Withdraw: the list of one source and customer goes out; no other changes. Rows 1, 2, 4, 5, 7.
 pub fn withdraw(reg: &mut [u32], source: u32, customer: AsNumber) -> Removal
-    ensures { λ r. ⌜ (r ≡ withdrawEffect (now (reg .entry)) source (customer .0) .answer) × (now (reg .exit) ≡ withdrawEffect (now (reg .entry)) source (customer .0) .words) ⌝ }
+    ensures { λ r. ⌜ effect r (now (reg .exit)) ≡ withdrawEffect (now (reg .entry)) source (customer .0) ⌝ }
 {
     if reg.len() != WORDS {
         return Removal::Refused(Refusal::TableLength);
@@ -369,12 +392,13 @@ pub fn withdraw(reg: &mut [u32], source: u32, customer: AsNumber) -> Removal
     if !is_at(reg, position, c, source) {
         return Removal::Refused(Refusal::NoRecord);
     }
-    table::remove(reg, 2, 0, position);
+    table::remove(reg, HEAD, TAIL, position);
     Removal::Done
 }
 
+// Clear: every list of one source goes out; no other changes. Answers how many records went, zero included. Rows 1, 2, 4.
 pub fn clear(reg: &mut [u32], source: u32) -> Cleared
-    ensures { λ r. ⌜ (r ≡ clearEffect (now (reg .entry)) source .answer) × (now (reg .exit) ≡ clearEffect (now (reg .entry)) source .words) ⌝ }
+    ensures { λ r. ⌜ effect r (now (reg .exit)) ≡ clearEffect (now (reg .entry)) source ⌝ }
 {
     if reg.len() != WORDS {
         return Cleared::Refused(Refusal::TableLength);
@@ -385,6 +409,6 @@ pub fn clear(reg: &mut [u32], source: u32) -> Cleared
     if LAST_SOURCE < source {
         return Cleared::Refused(Refusal::SourceNumber);
     }
-    let gone = table::clear(reg, 2, 0, 1, source);
+    let gone = table::clear(reg, HEAD, TAIL, SOURCE, source);
     Cleared::Gone(gone as u32)
 }

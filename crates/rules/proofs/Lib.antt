@@ -5,3 +5,4 @@ pub mod Orders
 pub mod Locality
 pub mod Drafting
 pub mod Judges
+pub mod Laws

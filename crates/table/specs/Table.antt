@@ -12,9 +12,17 @@ pub record Entry : Type 0 where
   pub body : List ℕ
   pub tail : List ℕ
 
+-- The words before the slots: the two numbers.
+abbrev pub counters : ℕ
+counters = 2
+
+-- The words of a slot between head and tail: start and length of the body.
+abbrev pub span : ℕ
+span = 2
+
 -- The words of a slot.
 abbrev pub width : ℕ → ℕ → ℕ
-width h t = h + 2 + t
+width h t = h + span + t
 
 -- The slots of entries, where the bodies before them take o words.
 unfoldable pub slots : ℕ → List Entry → List ℕ
@@ -39,11 +47,11 @@ decodeSlots h t zero xs ys = []
 decodeSlots h t (suc m) xs ys =
     let c = getD xs (h + 1) 0 in
     let es = decodeSlots h t m (drop (width h t) xs) (drop c ys) in
-    record { head = take h xs; body = take c ys; tail = take t (drop (h + 2) xs) } ∷ es
+    record { head = take h xs; body = take c ys; tail = take t (drop (h + span) xs) } ∷ es
 
 -- The entries that a table holds.
 unfoldable pub decode : ℕ → ℕ → List ℕ → List Entry
-decode h t ws = decodeSlots h t (getD ws 0 0) (drop 2 ws) (drop (2 + getD ws 0 0 * width h t) ws)
+decode h t ws = decodeSlots h t (getD ws 0 0) (drop counters ws) (drop (counters + getD ws 0 0 * width h t) ws)
 
 -- ---- the word rules
 
@@ -63,8 +71,8 @@ unfoldable pub wellFormed : ℕ → ℕ → List ℕ → Bool
 wellFormed h t ws =
     let n = getD ws 0 0 in
     let b = getD ws 1 0 in
-    let end = 2 + n * width h t + b in
-    leb 2 (length ws) && (leb end (length ws) && (slotsOk h t n 0 b (drop 2 ws) && allZero (drop end ws)))
+    let end = counters + n * width h t + b in
+    leb counters (length ws) && (leb end (length ws) && (slotsOk h t n 0 b (drop counters ws) && allZero (drop end ws)))
 
 -- Each head has h words and each tail t.
 unfoldable pub Wide : ℕ → ℕ → List Entry → Type 0
@@ -75,7 +83,7 @@ Wide h t (e ∷ es) = ((length (e .head) ≡ h) × (length (e .tail) ≡ t)) × 
 pub record Sound (h t : ℕ) (ws : List ℕ) : Type 0 where
   pub wide : Wide h t (decode h t ws)
   pub same : ws ≡ encode (length ws) (decode h t ws)
-  pub fits : 2 + length (decode h t ws) * width h t + length (bodies (decode h t ws)) ≤ length ws
+  pub fits : counters + length (decode h t ws) * width h t + length (bodies (decode h t ws)) ≤ length ws
 
 -- ---- changes
 
@@ -91,7 +99,7 @@ pub record Insertable (h t : ℕ) (ws : List ℕ) (i : ℕ) (e : Entry) : Type 0
   pub within : i ≤ length (decode h t ws)
   pub head : length (e .head) ≡ h
   pub tail : length (e .tail) ≡ t
-  pub room : 2 + (length (decode h t ws) + 1) * width h t + length (bodies (decode h t ws)) + length (e .body) ≤ length ws
+  pub room : counters + (length (decode h t ws) + 1) * width h t + length (bodies (decode h t ws)) + length (e .body) ≤ length ws
   pub small : length ws < 2 ^ 32
 
 -- The entry at i may go out.
@@ -105,7 +113,7 @@ unfoldable pub restarted : ℕ → ℕ → ℕ → ℕ → List ℕ → List ℕ
 restarted h t zero o xs = xs
 restarted h t (suc m) o xs =
     let c = getD xs (h + 1) 0 in
-    take h xs ++ (o ∷ (c ∷ (take t (drop (h + 2) xs) ++ restarted h t m (o + c) (drop (width h t) xs))))
+    take h xs ++ (o ∷ (c ∷ (take t (drop (h + span) xs) ++ restarted h t m (o + c) (drop (width h t) xs))))
 
 -- The sum of the counts of the m slots that begin xs.
 unfoldable pub counts : ℕ → ℕ → ℕ → List ℕ → ℕ
@@ -129,7 +137,7 @@ stayingSlots h t column value zero o xs = []
 stayingSlots h t column value (suc m) o xs =
     let c = getD xs (h + 1) 0 in
     cond (eqb (getD xs column 0) value) (stayingSlots h t column value m o (drop (width h t) xs))
-    (take h xs ++ (o ∷ (c ∷ (take t (drop (h + 2) xs) ++ stayingSlots h t column value m (o + c) (drop (width h t) xs)))))
+    (take h xs ++ (o ∷ (c ∷ (take t (drop (h + span) xs) ++ stayingSlots h t column value m (o + c) (drop (width h t) xs)))))
 
 -- The entries with a value in a column may go out.
 pub record Clearable (h t : ℕ) (ws : List ℕ) (column : ℕ) : Type 0 where

@@ -5,15 +5,15 @@ use types::Hop;
 use types::Role;
 use types::Verdict;
 ghost use mathlib.Core.Path.{_≡_};
-ghost use mathlib.Core.Bool.{true};
-ghost use Prim.Native.Nat.{_≤_};
+ghost use Prim.Native.Nat.{_+_, _≤_};
 ghost use lib.ListN.{length};
 ghost use Rattle.types.specs.Numbers.{roleNumber};
 ghost use Rattle.rules.specs.Hops.{asAt};
 ghost use Rattle.rules.specs.Records.{hopOf};
 ghost use Rattle.rules.specs.Verdicts.{judged};
 ghost use Rattle.rules.specs.Verdicts as verdicts;
-ghost use Rattle.register.specs.Register.{recordsOf, registerOk};
+ghost use Rattle.register.specs.Register.{recordsOf};
+ghost use Rattle.verdict.specs.Helpers.{longestPath, Judgeable};
 ghost use Rattle.verdict.specs.Ramps.{rampsOf, afterUp, afterDown};
 
 // Whoever has one path to judge has no hints.
@@ -29,7 +29,7 @@ pub struct Ramps {
 
 // Upstream, one look-up for each number but the last.
 fn upstream(reg: &[u32], hints: &[u32], path: &[u32]) -> Verdict
-    requires { ⌜ (registerOk (now reg) ≡ true) × (1 ≤ length (now path)) × (length (now path) ≤ 65535) ⌝ }
+    requires { ⌜ Judgeable (now reg) (now path) ⌝ }
     ensures { λ r. ⌜ r ≡ verdicts.upstream (hopOf (recordsOf (now (reg .entry)))) (now (path .entry)) ⌝ }
 {
     let n = path.len();
@@ -57,7 +57,7 @@ fn upstream(reg: &[u32], hints: &[u32], path: &[u32]) -> Verdict
 
 // The indices after the hop from AS(i) to AS(i + 1).
 fn after_up(r: Ramps, n: usize, i: usize, hop: Hop) -> Ramps
-    requires { ⌜ i ≤ 65535 ⌝ }
+    requires { ⌜ i ≤ longestPath ⌝ }
     ensures { λ s. ⌜ s ≡ afterUp r n i hop ⌝ }
 {
     let mut u = r.u;
@@ -78,7 +78,7 @@ fn after_up(r: Ramps, n: usize, i: usize, hop: Hop) -> Ramps
 
 // The indices after the hop from AS(i + 1) to AS(i).
 fn after_down(r: Ramps, i: usize, hop: Hop) -> Ramps
-    requires { ⌜ i ≤ 65535 ⌝ }
+    requires { ⌜ i ≤ longestPath ⌝ }
     ensures { λ s. ⌜ s ≡ afterDown r i hop ⌝ }
 {
     let mut v = r.v;
@@ -99,7 +99,7 @@ fn after_down(r: Ramps, i: usize, hop: Hop) -> Ramps
 
 // AS(i), or 0 where the path ends before it.
 fn number_or_zero(path: &[u32], i: usize) -> u32
-    requires { ⌜ (1 ≤ i) × (i ≤ 65536) ⌝ }
+    requires { ⌜ (1 ≤ i) × (i ≤ longestPath + 1) ⌝ }
     ensures { λ r. ⌜ (i ≤ length (now (path .entry)) → r ≡ asAt (now (path .entry)) i) ⌝ }
 {
     let n = path.len();
@@ -111,7 +111,7 @@ fn number_or_zero(path: &[u32], i: usize) -> u32
 
 // All four indices in one pass, with one look-up for each number on the path and one reading of its lists.
 fn find_ramps(reg: &[u32], hints: &[u32], path: &[u32]) -> Ramps
-    requires { ⌜ (registerOk (now reg) ≡ true) × (1 ≤ length (now path)) × (length (now path) ≤ 65535) ⌝ }
+    requires { ⌜ Judgeable (now reg) (now path) ⌝ }
     ensures { λ r. ⌜ r ≡ rampsOf (hopOf (recordsOf (now (reg .entry)))) (now (path .entry)) ⌝ }
 {
     let n = path.len();
@@ -141,7 +141,7 @@ fn find_ramps(reg: &[u32], hints: &[u32], path: &[u32]) -> Ramps
 
 // The answer for a path of 1 number or more, looked up with hints for the register.
 pub fn judge_hinted(reg: &[u32], hints: &[u32], role: Role, path: &[u32]) -> Answer
-    requires { ⌜ (registerOk (now reg) ≡ true) × (1 ≤ length (now path)) × (length (now path) ≤ 65535) ⌝ }
+    requires { ⌜ Judgeable (now reg) (now path) ⌝ }
     ensures { λ r. ⌜ r ≡ judged (hopOf (recordsOf (now (reg .entry)))) (now (path .entry)) (roleNumber role) ⌝ }
 {
     if role.is_upstream() {
@@ -164,7 +164,7 @@ pub fn judge_hinted(reg: &[u32], hints: &[u32], role: Role, path: &[u32]) -> Ans
 
 // The answer for a path of 1 number or more.
 pub fn judge(reg: &[u32], role: Role, path: &[u32]) -> Answer
-    requires { ⌜ (registerOk (now reg) ≡ true) × (1 ≤ length (now path)) × (length (now path) ≤ 65535) ⌝ }
+    requires { ⌜ Judgeable (now reg) (now path) ⌝ }
     ensures { λ r. ⌜ r ≡ judged (hopOf (recordsOf (now (reg .entry)))) (now (path .entry)) (roleNumber role) ⌝ }
 {
     judge_hinted(reg, &NO_HINTS, role, path)

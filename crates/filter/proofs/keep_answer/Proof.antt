@@ -4,7 +4,7 @@ use Rattle.ledger.specs.Routes.{Route}
 use mathlib.Core.Path.{_≡_, sym, _∙_, ap}
 use Rattle.types.specs.Numbers.{roleNumber, verdictOf}
 use Rattle.ledger.specs.Calls.{routeFor, storeEffect}
-use Rattle.filter.proofs.Keepings.{stored-done, stored-refused}
+use Rattle.filter.proofs.Keepings.{joined, stored-done, stored-refused}
 use borrow.Author.Needs.{needs}
 use Rattle.filter.proofs.keep_answer.Statement.{statement}
 use Rattle.filter.proofs.keep_answer.Tie as tie
@@ -28,8 +28,9 @@ returns : tie.Need-returns
 returns c = let a = c .before .before .before .before .before .before .before .before .before .args in
     let r : Verdict → Route = λ v. routeFor (a .number .0) (roleNumber (a .role)) (a .neighbour .0) v (a .path .now) in
     let e = c .before .before .before .before .before .verdict .ensures in
-    stored-done (a .led .now) (r (verdictOf (a .answer))) (a .answer) (c .before .before .before .before .store .ensures .1 ∙ ap (λ v. storeEffect (a .led .now) (r v) .words) e)
-    (sym (c .enum-told .given .1) ∙ c .before .before .before .before .store .ensures .0 ∙ ap (λ v. storeEffect (a .led .now) (r v) .answer) e)
+    let s = c .before .before .before .before .store .ensures in
+    stored-done (a .led .now) (r (verdictOf (a .answer))) (a .answer)
+    (joined (sym (c .enum-told .given .1) ∙ ap (λ x. x .answer) s) (ap (λ x. x .words) s) ∙ ap (λ v. storeEffect (a .led .now) (r v)) e)
 
 same-length-2 : tie.Need-same-length-2
 same-length-2 c = search needs
@@ -38,8 +39,9 @@ returns-2 : tie.Need-returns-2
 returns-2 c = let a = c .before .before .before .before .before .before .before .before .before .before .args in
     let r : Verdict → Route = λ v. routeFor (a .number .0) (roleNumber (a .role)) (a .neighbour .0) v (a .path .now) in
     let e = c .before .before .before .before .before .before .verdict .ensures in
-    stored-refused (a .led .now) (r (verdictOf (a .answer))) (a .answer) (c .before .before .before .before .before .store .ensures .1 ∙ ap (λ v. storeEffect (a .led .now) (r v) .words) e)
-    (sym (c .before .r .given .1) ∙ c .before .before .before .before .before .store .ensures .0 ∙ ap (λ v. storeEffect (a .led .now) (r v) .answer) e)
+    let s = c .before .before .before .before .before .store .ensures in
+    stored-refused (a .led .now) (r (verdictOf (a .answer))) (a .answer)
+    (joined (sym (c .before .r .given .1) ∙ ap (λ x. x .answer) s) (ap (λ x. x .words) s) ∙ ap (λ v. storeEffect (a .led .now) (r v)) e)
 
 pub keep-answer-spec : {M : Type 1} → statement M
 keep-answer-spec =

@@ -2,14 +2,13 @@
 use native.Mathlib.Omega.{arith}
 use mathlib.Core.Path.{_≡_, sym, _∙_}
 use borrow.Author.Tests.{not-true, not-false}
-use Rattle.types.proofs.Refusing.{parts}
 use Rattle.register.proofs.Filing.{clear-length, clear-malformed, clear-source, clear-may, gone-few, clear-done}
 use borrow.Author.Needs.{needs}
 use Rattle.register.proofs.clear.Statement.{statement}
 use Rattle.register.proofs.clear.Tie as tie
 
 returns : tie.Need-returns
-returns c = parts (clear-length (c .before .before .args .reg .now) (c .before .before .args .source) (c .if1 .taken))
+returns c = sym (clear-length (c .before .before .args .reg .now) (c .before .before .args .source) (c .if1 .taken))
 
 is-register-requires : tie.Need-is-register-requires
 is-register-requires c κs = search needs
@@ -19,14 +18,14 @@ same-length c = search needs
 
 returns-2 : tie.Need-returns-2
 returns-2 c = let a = c .before .before .before .before .before .args in
-    parts (clear-malformed (a .reg .now) (a .source) (c .before .before .before .if1 .left) (sym (c .before .is-register .ensures) ∙ not-true _ (c .if2 .taken)))
+    sym (clear-malformed (a .reg .now) (a .source) (c .before .before .before .if1 .left) (sym (c .before .is-register .ensures) ∙ not-true _ (c .if2 .taken)))
 
 same-length-2 : tie.Need-same-length-2
 same-length-2 c = search needs
 
 returns-3 : tie.Need-returns-3
 returns-3 c = let a = c .before .before .before .before .before .before .args in
-    parts (clear-source (a .reg .now) (a .source) (c .before .before .before .before .if1 .left) (sym (c .before .before .is-register .ensures) ∙ not-false _ (c .before .if2 .left)) (c .if3 .taken))
+    sym (clear-source (a .reg .now) (a .source) (c .before .before .before .before .if1 .left) (sym (c .before .before .is-register .ensures) ∙ not-false _ (c .before .if2 .left)) (c .if3 .taken))
 
 clear-requires : tie.Need-clear-requires
 clear-requires c κs = clear-may (c .before .before .before .before .before .before .before .args .reg .now) (c .before .before .before .before .before .before .before .args .source) (c .before .before .before .before .before .if1 .left) (sym (c .before .before .before .is-register .ensures) ∙ not-false _ (c .before .before .if2 .left))

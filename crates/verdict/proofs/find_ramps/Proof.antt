@@ -1,4 +1,4 @@
--- `verify::find_ramps` meets its contract. Assumes nothing.
+-- `verdict::find_ramps` meets its contract. Assumes nothing.
 use borrow.Author.Needs.{needs}
 use Prim.Native.Nat.{_-_}
 use native.Mathlib.Omega.{arith}

@@ -1,4 +1,4 @@
--- `verify::upstream` meets its contract. Assumes nothing.
+-- `verdict::upstream` meets its contract. Assumes nothing.
 use borrow.Author.Needs.{needs}
 use Prim.Native.Nat.{_-_}
 use mathlib.Core.Path.{sym, _∙_}
