@@ -14,7 +14,7 @@ use Rattle.rules.specs.Draft.{each}
 use Rattle.rules.proofs.Drafting.{each-no}
 use Rattle.register.specs.Register.{registerOf, listed, rises, risesFrom, listOk, roomFor, recordsOf}
 use Rattle.ledger.specs.Routes.{routesOf}
-use Rattle.history.specs.Calls.{Call, file, withdraw, Tables, Formed, blank, said, last, findRecord, providersOf}
+use Rattle.history.specs.Calls.{Call, of-pair, Tables, Formed, blank, said, last, findRecord, providersOf}
 use Rattle.history.specs.Replies.{refused, shown, forRoom}
 use Rattle.history.specs.Model.{refusal, after, replyAt, final, written}
 use Rattle.history.specs.Reorderings.{Tied, same-pair, clear-first, clear-second, same-route}
@@ -91,19 +91,12 @@ differs e =
     let y : _≡_ {A = ℕ} 0 1 = cc in
     omega arith
 
--- The swapped calls are not tied.
-untied-pairs : (s c s′ c′ : ℕ) (list list′ : List ℕ) → ((s ≡ s′) × (c ≡ c′) → ⊥) → Tied (file s c list) (file s′ c′ list′) → ⊥
-untied-pairs s c s′ c′ list list′ n (same-pair x y p q) = n (p .0 ∙ sym (q .0), p .1 ∙ sym (q .1))
-untied-pairs s c s′ c′ list list′ n (clear-first x p q) = p
-untied-pairs s c s′ c′ list list′ n (clear-second x p q) = q
-untied-pairs s c s′ c′ list list′ n (same-route x p q) = p
-
--- Nor are a withdrawal and a filing of another pair.
-untied-withdrawal : (s c s′ c′ : ℕ) (list : List ℕ) → ((s ≡ s′) × (c ≡ c′) → ⊥) → Tied (withdraw s c) (file s′ c′ list) → ⊥
-untied-withdrawal s c s′ c′ list n (same-pair x y p q) = n (p .0 ∙ sym (q .0), p .1 ∙ sym (q .1))
-untied-withdrawal s c s′ c′ list n (clear-first x p q) = p
-untied-withdrawal s c s′ c′ list n (clear-second x p q) = q
-untied-withdrawal s c s′ c′ list n (same-route x p q) = p
+-- Steps on different pairs are not tied.
+untied-pairs : (s c s′ c′ : ℕ) → ((s ≡ s′) × (c ≡ c′) → ⊥) → Tied (of-pair s c) (of-pair s′ c′) → ⊥
+untied-pairs s c s′ c′ n (same-pair x y p q) = n (p .0 ∙ sym (q .0), p .1 ∙ sym (q .1))
+untied-pairs s c s′ c′ n (clear-first x p q) = p
+untied-pairs s c s′ c′ n (clear-second x p q) = q
+untied-pairs s c s′ c′ n (same-route x p q) = p
 
 -- The definitions of demands 2 and 3 come to what they should.
 pub sanity : Sanity
@@ -124,10 +117,10 @@ sanity = record {
     sym (filed-list 0 65010 blank blank-formed two-first 2) ∙ ap (λ m. providersOf (findRecord (65010, 0) (m .lists))) two-lists ∙ both .1,
   );
   both-there-too = (sym (filed-list 2 65010 blank blank-formed one-first 2) ∙ both .0, sym (filed-list 0 65010 blank blank-formed one-first 2) ∙ both .1);
-  either-order = swap [] _ _ [] (untied-pairs 2 65010 0 65010 _ _ (λ p. let e : 2 ≡ 0 = p .0 in omega arith));
+  either-order = swap [] _ _ [] (untied-pairs 2 65010 0 65010 (λ p. let e : 2 ≡ 0 = p .0 in omega arith));
   same-either-way = history-written blank blank-formed two-first ∙ ap written two-lists ∙ sym (history-written blank blank-formed one-first);
   whole-register = ap (λ t. t .register) (history-written blank blank-formed two-first ∙ ap written two-lists) ∙ register-words;
-  room-reordered = swap (filings 32) _ _ [] (untied-withdrawal 0 1 0 33 _ (λ p. let e : 1 ≡ 33 = p .1 in omega arith));
+  room-reordered = swap (filings 32) _ _ [] (untied-pairs 0 1 0 33 (λ p. let e : 1 ≡ 33 = p .1 in omega arith));
   room-is-made = made;
   room-is-missing = history-replies blank blank-formed room-missing 32 ∙ missing;
   room-differs = differs;

@@ -23,7 +23,7 @@ use Rattle.ledger.specs.Routes.{Route, groundOk, routeOk}
 use Rattle.ledger.specs.Calls.{stamped}
 use Rattle.rejudge.specs.Rejudging.{rejudgedRoute}
 use Rattle.rejudge.proofs.Rejudgements.{by-ground}
-use Rattle.filter.specs.Calls.{keeping, keptRoute, hopIn}
+use Rattle.filter.specs.Calls.{Keeping, keptRoute, hopIn}
 use Rattle.filter.proofs.KeptRoutes.{judged-ground}
 use Rattle.history.specs.Calls.{routeRead, known}
 use Rattle.history.specs.Model.{withVerdict, withWords, judgedKept}
@@ -84,11 +84,11 @@ module _ (hop : HopFunction) where
 
 -- ---- the route that a keeping stores
 
-module _ (reg : List ℕ) (number role neighbour : ℕ) (attribute : List ℕ) (e : firstGiven (judgeRows role neighbour attribute) ≡ none) where
+module _ (reg : List ℕ) (k : Keeping) (e : firstGiven (judgeRows (k .role) (k .neighbour) (k .attribute)) ≡ none) where
   -- But for the verdict it is the route that the arguments are read as.
-  pub kept-known : known (keptRoute reg (keeping number role neighbour attribute)) ≡ routeRead number role neighbour attribute
-  kept-known = go (judgement (hopIn reg) role neighbour attribute e)
+  pub kept-known : known (keptRoute reg k) ≡ routeRead k
+  kept-known = go (judgement (hopIn reg) (k .role) (k .neighbour) (k .attribute) e)
     where
-      go : Judgement (hopIn reg) role neighbour attribute → known (keptRoute reg (keeping number role neighbour attribute)) ≡ routeRead number role neighbour attribute
+      go : Judgement (hopIn reg) (k .role) (k .neighbour) (k .attribute) → known (keptRoute reg k) ≡ routeRead k
       go (on-ground g c j) = rw (j, c)
-      go (on-path path c short j) = rw (j, c, judged-ground (hopIn reg) path role)
+      go (on-path path c short j) = rw (j, c, judged-ground (hopIn reg) path (k .role))

@@ -49,9 +49,9 @@ use Rattle.ledger.proofs.Paths.{path-some}
 use Rattle.ledger.proofs.Refusals.{Ledger}
 use Rattle.rejudge.specs.Rejudging.{rejudgedRoute}
 use Rattle.rejudge.proofs.Rejudgements.{some-numbers, rejudged-ok}
-use Rattle.filter.specs.Calls.{keeping, hopIn, judgeAnswer, refusalIn, keepEffect, rejudgeEffect}
+use Rattle.filter.specs.Calls.{Keeping, hopIn, judgeAnswer, refusalIn, keepEffect, rejudgeEffect}
 use Rattle.filter.proofs.KeptRoutes.{path-ok}
-use Rattle.history.specs.Calls.{Call, file, withdraw, clear, keep, drop, rejudge, filed, removed, cleared, kept, rejudged, Tables, Formed, tables, says, callAt, said, last, findRecord, findRoute, providersOf, known}
+use Rattle.history.specs.Calls.{Call, file, withdraw, clear, keep, drop, rejudge, filed, removed, cleared, kept, rejudged, Scope, of-pair, of-source, of-route, idle, scope, Tables, Formed, tables, says, callAt, scopeAt, said, last, findRecord, findRoute, providersOf, known}
 use Rattle.history.specs.Replies.{ModelReply, new, replaced, done, gone, refused, shownFiled, shownRemoval, shownCleared, shown, forRoom, accepted}
 use Rattle.history.specs.Model.{numberOf, refusal, after, replyAt, written}
 use Rattle.history.specs.Filings.{filedList, keptRouteAt, hopFiled, hopsAt, storedBy, storedAt}
@@ -145,14 +145,13 @@ module _ (t : Tables) (f : Formed t) (l : List Call) (i : ℕ) where
       rw (register-is, register-passes (holds-at .lists) (holds-at .lists-ok) [], records-are (holds-at .lists) (holds-at .lists-ok), hops-are)
 
   -- So does a keeping that is answered.
-  keep-answer : (number role neighbour : ℕ) (attribute : List ℕ) (a : Answer)
-      → kept (keepEffect (tables t l i .register) (tables t l i .ledger) (keeping number role neighbour attribute) .answer) ≡ kept (Answered a)
-      → judgedRoute (hopsAt t l i) role neighbour attribute ≡ Answered a
-  keep-answer number role neighbour attribute a e =
-      let step = keep-step (holds-at .lists) (holds-at .stored) (holds-at .lists-ok) (holds-at .routes-ok) number role neighbour attribute in
-      let g : keepEffect (tables t l i .register) (tables t l i .ledger) (keeping number role neighbour attribute) .answer ≡ Answered a = cc in
-      let o : Option Refusal = refusal (modelOf (holds-at .lists) (holds-at .stored)) (keep number role neighbour attribute) in
-      rw (← hops-are) (keep-answered o _ role neighbour attribute _ _ a (rw (register-is, ledger-is, step) at g))
+  keep-answer : (k : Keeping) (a : Answer) → kept (keepEffect (tables t l i .register) (tables t l i .ledger) k .answer) ≡ kept (Answered a)
+      → judgedRoute (hopsAt t l i) (k .role) (k .neighbour) (k .attribute) ≡ Answered a
+  keep-answer k a e =
+      let step = keep-step (holds-at .lists) (holds-at .stored) (holds-at .lists-ok) (holds-at .routes-ok) k in
+      let g : keepEffect (tables t l i .register) (tables t l i .ledger) k .answer ≡ Answered a = cc in
+      let o : Option Refusal = refusal (modelOf (holds-at .lists) (holds-at .stored)) (keep k) in
+      rw (← hops-are) (keep-answered o _ (k .role) (k .neighbour) (k .attribute) _ _ a (rw (register-is, ledger-is, step) at g))
 
   -- A re-judging counts the routes that it changes.
   rejudge-count : callAt l i ≡ rejudge
@@ -229,7 +228,7 @@ demand2 t f = record {
   register-exact = registers-alike t f;
   ledger-exact = ledgers-alike t f;
   judge-answers = judge-answer t f;
-  keep-answers = λ l i number role neighbour attribute a c e. keep-answer t f l i number role neighbour attribute a (rw c at e);
+  keep-answers = λ l i k a c e. keep-answer t f l i k a (rw c at e);
   draft-answers = λ l i role neighbour attribute a e. answered-word (hopsAt t l i) role neighbour attribute a e;
   rejudge-counts = rejudge-count t f;
 }
@@ -275,22 +274,20 @@ cleared-back (clearing.Gone n) = refl
 cleared-back (clearing.Refused r) = refl
 
 -- Register steps that show the same answer the same.
-same-shown : (t u : Tables) (c : Call) → IsRegisterStep c → shown (says t c) ≡ shown (says u c) → says t c ≡ says u c
+same-shown : (t u : Tables) (c : Call) → IsRegisterStep (scope c) → shown (says t c) ≡ shown (says u c) → says t c ≡ says u c
 same-shown t u (file s c list) g e = ap filed (sym (filed-back _) ∙ ap filedBack e ∙ filed-back _)
 same-shown t u (withdraw s c) g e = ap removed (sym (removal-back _) ∙ ap removalBack e ∙ removal-back _)
 same-shown t u (clear s) g e = ap cleared (sym (cleared-back _) ∙ ap clearedBack e ∙ cleared-back _)
-same-shown t u (keep n role neighbour attribute) g e = absurd g
+same-shown t u (keep k) g e = absurd g
 same-shown t u (drop n) g e = absurd g
 same-shown t u rejudge g e = absurd g
 
 -- A register step is a step.
-register-step : (c : Call) → IsRegisterStep c → IsStep c
-register-step (file s c list) g = tt
-register-step (withdraw s c) g = tt
-register-step (clear s) g = tt
-register-step (keep n role neighbour attribute) g = absurd g
-register-step (drop n) g = absurd g
-register-step rejudge g = absurd g
+register-step : (c : Scope) → IsRegisterStep c → IsStep c
+register-step (of-pair s c) g = tt
+register-step (of-source s) g = tt
+register-step (of-route n) g = absurd g
+register-step idle g = absurd g
 
 -- Past the end of a list stand re-judgings, and these are not refused.
 roomy-model : (t : Tables) → Formed t → (l : List Call) → Roomy t l → RoomyModel t l
@@ -366,14 +363,14 @@ last-verdicts t f l number r e = rw (← hops-are t f l (length l)) (go (findRou
 
 module _ (t : Tables) (f : Formed t) (l m : List Call) (r : Reordering l m) (g : Roomy t l) (h : Roomy t m) where
   -- Each step is done in both lists or refused alike.
-  ends-alike : (i : ℕ) → IsStep (callAt l i) → shown (said t l i) ≡ shown (said t m (r .to i))
+  ends-alike : (i : ℕ) → IsStep (scopeAt l i) → shown (said t l i) ≡ shown (said t m (r .to i))
   ends-alike i s =
       history-replies t f l i ∙ same-replies t f l m r (roomy-model t f l g) (roomy-model t f m h) i s ∙ sym (history-replies t f m (r .to i))
 
   -- Each register step gets the same answer.
-  answers-alike : (i : ℕ) → IsRegisterStep (callAt l i) → said t l i ≡ said t m (r .to i)
+  answers-alike : (i : ℕ) → IsRegisterStep (scopeAt l i) → said t l i ≡ said t m (r .to i)
   answers-alike i s =
-      let k : IsStep (callAt l i) = register-step (callAt l i) s in
+      let k : IsStep (scopeAt l i) = register-step (scopeAt l i) s in
       let c : callAt m (r .to i) ≡ callAt l i = r .to-same i k in
       rw c (same-shown (tables t l i) (tables t m (r .to i)) (callAt l i) s (rw c at (ends-alike i k)))
 

@@ -19,8 +19,8 @@ use Rattle.rules.specs.Draft as draft
 use Rattle.register.specs.Register.{registerWords, recordsOf, registerOk}
 use Rattle.ledger.specs.Routes.{ledgerWords, Route, routesOf, ledgerOk}
 use Rattle.ledger.specs.Calls.{countDiffering}
-use Rattle.filter.specs.Calls.{judgeAnswer}
-use Rattle.history.specs.Calls.{Call, keep, rejudge, kept, rejudged, Tables, Formed, tables, callAt, said, last, findRecord, findRoute, providersOf, known}
+use Rattle.filter.specs.Calls.{Keeping, judgeAnswer}
+use Rattle.history.specs.Calls.{Call, keep, rejudge, kept, rejudged, Tables, Formed, tables, callAt, scopeAt, said, last, findRecord, findRoute, providersOf, known}
 use Rattle.history.specs.Replies.{shown, forRoom}
 use Rattle.history.specs.Model.{after, replyAt, final, written}
 use Rattle.history.specs.Filings.{filedList, keptRouteAt, hopsAt, storedAt}
@@ -64,9 +64,8 @@ pub record Demand2 (t : Tables) : Type 0 where
   -- Every verdict that is given, by Judge at any time or by a keeping, with its ground or places, is the rules' for the union of those lists.
   pub judge-answers : (l : List Call) (i role neighbour : ℕ) (attribute : List ℕ)
       → judgeAnswer (tables t l i .register) role neighbour attribute ≡ judgedRoute (hopsAt t l i) role neighbour attribute
-  pub keep-answers : (l : List Call) (i number role neighbour : ℕ) (attribute : List ℕ) (a : Answer)
-      → callAt l i ≡ keep number role neighbour attribute → said t l i ≡ kept (Answered a)
-      → judgedRoute (hopsAt t l i) role neighbour attribute ≡ Answered a
+  pub keep-answers : (l : List Call) (i : ℕ) (k : Keeping) (a : Answer) → callAt l i ≡ keep k → said t l i ≡ kept (Answered a)
+      → judgedRoute (hopsAt t l i) (k .role) (k .neighbour) (k .attribute) ≡ Answered a
   -- Its word is the draft's: Valid exactly where the draft says Valid, and so for Invalid and Unknown.
   pub draft-answers : (l : List Call) (i role neighbour : ℕ) (attribute : List ℕ) (a : Answer)
       → judgedRoute (hopsAt t l i) role neighbour attribute ≡ Answered a
@@ -100,7 +99,7 @@ pub record Demand3 (t : Tables) : Type 0 where
   -- Every verdict in them, with its places, is the draft's over the lists that demand 2 speaks of.
   pub verdicts : (l : List Call) (number : ℕ) (r : Route) → findRoute number (routesOf (last t l .ledger)) ≡ some r → Drafted (hopsAt t l (length l)) r
   -- Two lists, one a reordering of the other, neither refused for room: each register call gets the same answer in both;
-  pub same-answers : (l m : List Call) (r : Reordering l m) → Roomy t l → Roomy t m → (i : ℕ) → IsRegisterStep (callAt l i) → said t l i ≡ said t m (r .to i)
+  pub same-answers : (l m : List Call) (r : Reordering l m) → Roomy t l → Roomy t m → (i : ℕ) → IsRegisterStep (scopeAt l i) → said t l i ≡ said t m (r .to i)
   -- each keeping and dropping is done in both, or refused in both by the same row and place;
   pub same-ends : (l m : List Call) (r : Reordering l m) → Roomy t l → Roomy t m → (i : ℕ) → StepAt l i → shown (said t l i) ≡ shown (said t m (r .to i))
   -- and after one last re-judging in each, both tables are equal word for word.

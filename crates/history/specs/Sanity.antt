@@ -9,7 +9,8 @@ use lib.ListN.{replicate}
 use Rattle.types.specs.declared.Refusal.the-variants.{RegisterFull}
 use Rattle.register.specs.Register.{recordsOf}
 use Rattle.ledger.specs.Routes.{routesOf}
-use Rattle.history.specs.Calls.{Call, file, withdraw, clear, keep, drop, rejudge, Tables, Formed, blank, callAt, said, last, KeptRoute, routeRead, findRecord, findRoute, providersOf, known}
+use Rattle.filter.specs.Calls.{Keeping}
+use Rattle.history.specs.Calls.{Call, file, withdraw, clear, keep, drop, rejudge, Tables, Formed, scope, blank, callAt, scopeAt, said, last, KeptRoute, routeRead, findRecord, findRoute, providersOf, known}
 use Rattle.history.specs.Replies.{refused, shown, accepted}
 use Rattle.history.specs.Filings.{filedList, keptRouteAt}
 use Rattle.history.specs.Reorderings.{OnPair, Clears, OnRoute, Tied, Reordering}
@@ -21,7 +22,7 @@ use Rattle.history.specs.Demands.{Roomy}
 abbrev pub ListStands : Tables → List Call → (from i source customer : ℕ) → Type 0
 ListStands t l from i source customer =
     (j : ℕ) → from ≤ j → j < i → accepted (shown (said t l j)) ≡ true
-    → (OnPair source customer (callAt l j) → ⊥) × (Clears source (callAt l j) → ⊥)
+    → (OnPair source customer (scopeAt l j) → ⊥) × (Clears source (scopeAt l j) → ⊥)
 
 -- The list for the pair after i calls: an accepted filing at some index gave it, or t holds it, and nothing since.
 pub data LastFiled (t : Tables) (l : List Call) (i source customer : ℕ) (list : List ℕ) : Type 0 where
@@ -32,15 +33,14 @@ pub data LastFiled (t : Tables) (l : List Call) (i source customer : ℕ) (list 
 
 -- From index `from` to before i no accepted keeping or dropping of the number.
 abbrev pub RouteStands : Tables → List Call → (from i number : ℕ) → Type 0
-RouteStands t l from i number = (j : ℕ) → from ≤ j → j < i → accepted (shown (said t l j)) ≡ true → OnRoute number (callAt l j) → ⊥
+RouteStands t l from i number = (j : ℕ) → from ≤ j → j < i → accepted (shown (said t l j)) ≡ true → OnRoute number (scopeAt l j) → ⊥
 
 -- A keeping under the number that is read as this route.
 pub record KeepsAs (number : ℕ) (c : Call) (r : KeptRoute) : Type 0 where
-  pub role : ℕ
-  pub neighbour : ℕ
-  pub attribute : List ℕ
-  pub keeping : c ≡ keep number role neighbour attribute
-  pub reads : r ≡ routeRead number role neighbour attribute
+  pub arguments : Keeping
+  pub under : arguments .number ≡ number
+  pub keeping : c ≡ keep arguments
+  pub reads : r ≡ routeRead arguments
 
 -- The route under the number after i calls: an accepted keeping at some index gave it, or t holds it, and nothing since.
 pub data LastKept (t : Tables) (l : List Call) (i number : ℕ) (r : KeptRoute) : Type 0 where
@@ -87,13 +87,12 @@ pub record Sanity : Type 0 where
   pub back : (l m : List Call) → Reordering l m → Reordering m l
   pub chain : (l m n : List Call) → Reordering l m → Reordering m n → Reordering l n
   -- Two neighbours that are not tied may be swapped, and a re-judging may be put in anywhere.
-  pub swap : (k : List Call) (a b : Call) (l : List Call) → (Tied a b → ⊥) → Reordering (k ++ (a ∷ b ∷ l)) (k ++ (b ∷ a ∷ l))
+  pub swap : (k : List Call) (a b : Call) (l : List Call) → (Tied (scope a) (scope b) → ⊥) → Reordering (k ++ (a ∷ b ∷ l)) (k ++ (b ∷ a ∷ l))
   pub rejudge-anywhere : (k l : List Call) → Reordering (k ++ l) (k ++ (rejudge ∷ l))
   -- A filing may not pass a clearing of its source, nor a keeping a dropping of its number.
   pub clearing-stays : (source customer : ℕ) (list : List ℕ)
       → Reordering (file source customer list ∷ clear source ∷ []) (clear source ∷ file source customer list ∷ []) → ⊥
-  pub dropping-stays : (number role neighbour : ℕ) (attribute : List ℕ)
-      → Reordering (keep number role neighbour attribute ∷ drop number ∷ []) (drop number ∷ keep number role neighbour attribute ∷ []) → ⊥
+  pub dropping-stays : (k : Keeping) → Reordering (keep k ∷ drop (k .number) ∷ []) (drop (k .number) ∷ keep k ∷ []) → ⊥
   -- Two sources file for one customer, and both lists are there, in either order.
   pub both-there : (filedList blank two-first 2 2 65010 ≡ some (65001 ∷ 65002 ∷ [])) × (filedList blank two-first 2 0 65010 ≡ some (65003 ∷ []))
   pub both-there-too : (filedList blank one-first 2 2 65010 ≡ some (65001 ∷ 65002 ∷ [])) × (filedList blank one-first 2 0 65010 ≡ some (65003 ∷ []))
