@@ -17,9 +17,8 @@ use Rattle.ledger.specs.Routes.{routesOf}
 use Rattle.ledger.specs.Routes as routes
 use Rattle.history.specs.Calls.{Call, file, withdraw, clear, keep, drop, rejudge, Tables, Formed, callAt, said, KeptRoute, routeRead, findRecord, providersOf, known}
 use Rattle.history.specs.Replies.{new, replaced, shown, accepted}
-use Rattle.history.specs.Model.{Model, numberOf, refusal, answer, change, replyUnless, changeUnless, after}
+use Rattle.history.specs.Model.{Model, numberOf, findKept, refusal, answer, change, replyUnless, changeUnless, after}
 use Rattle.history.specs.Filings.{filedBy, filedList, keptBy, keptRouteAt}
-use Rattle.history.proofs.Keys.{findKept}
 use Rattle.history.proofs.Simulating.{history-replies}
 
 -- A call that is not refused is accepted.

@@ -10,7 +10,7 @@ use lib.ListN.{length}
 use Rattle.types.specs.declared.Refusal.{Refusal}
 use Rattle.types.specs.declared.Refusal.the-variants.{NoRecord, RouteTaken, NoRoute}
 use Rattle.types.specs.Rows.{rowIf, orElse, firstGiven}
-use Rattle.keyed.specs.Keyed.{Ordered, samePair, beforePair, ascends, find, without, countOf}
+use Rattle.keyed.specs.Keyed.{Ordered, samePair, beforePair, ascends, without, countOf}
 use Rattle.keyed.proofs.Orders.{ordered-pairs, ordered-ℕ, same-flip}
 use Rattle.keyed.proofs.Puts.{ascends-put, ascends-without}
 use Rattle.keyed.proofs.Mapping.{ascends-map}
@@ -24,11 +24,7 @@ use Rattle.ledger.specs.Routes as routes
 use Rattle.ledger.proofs.Holding as ledger-holding
 use Rattle.history.specs.Calls.{Call, file, withdraw, clear, keep, drop, rejudge, Scope, of-pair, of-source, of-route, idle, scope, Tables, Formed, callAt, KeptRoute, routeRead, findRecord, known}
 use Rattle.history.specs.Replies.{ModelReply, new, replaced, gone}
-use Rattle.history.specs.Model.{Model, heldBy, numberOf, holdsKept, argumentRows, heldRows, answer, change, replyUnless, changeUnless}
-
--- The kept route under a number.
-abbrev pub findKept : ℕ → List KeptRoute → Option KeptRoute
-findKept number rs = find numberOf eqb ltb number rs
+use Rattle.history.specs.Model.{Model, heldBy, numberOf, findKept, holdsKept, argumentRows, heldRows, answer, change, replyUnless, changeUnless}
 
 -- A key of the lists (customer and source) or of the routes.
 pub data Key : Type 0 where

@@ -45,6 +45,7 @@ use Rattle.ledger.specs.Routes.{ledgerWords, ledgerOk, Route, routesOf, routeOk
 use Rattle.ledger.specs.Routes as ledger
 use Rattle.ledger.specs.Calls.{stamped, countDiffering}
 use Rattle.ledger.proofs.Holding.{each-ok, in-order}
+use Rattle.ledger.proofs.Holding as ledger-holding
 use Rattle.ledger.proofs.Paths.{path-some}
 use Rattle.ledger.proofs.Refusals.{Ledger}
 use Rattle.rejudge.specs.Rejudging.{rejudgedRoute}
@@ -53,11 +54,11 @@ use Rattle.filter.specs.Calls.{Keeping, hopIn, judgeAnswer, refusalIn, keepEffe
 use Rattle.filter.proofs.KeptRoutes.{path-ok}
 use Rattle.history.specs.Calls.{Call, file, withdraw, clear, keep, drop, rejudge, filed, removed, cleared, kept, rejudged, Scope, of-pair, of-source, of-route, idle, scope, Tables, Formed, tables, says, callAt, scopeAt, said, last, findRecord, findRoute, providersOf, known}
 use Rattle.history.specs.Replies.{ModelReply, new, replaced, done, gone, refused, shownFiled, shownRemoval, shownCleared, shown, forRoom, accepted}
-use Rattle.history.specs.Model.{numberOf, refusal, after, replyAt, written}
+use Rattle.history.specs.Model.{numberOf, findKept, refusal, after, replyAt, written}
 use Rattle.history.specs.Filings.{filedList, keptRouteAt, hopFiled, hopsAt, storedBy, storedAt}
 use Rattle.history.specs.Reorderings.{IsRegisterStep, IsStep, Reordering}
 use Rattle.history.specs.Demands.{draftWord, wordNumber, Roomy, Drafted, Demand2, Demand3, Demands}
-use Rattle.history.proofs.Keys.{findKept}
+use Rattle.history.proofs.Entries.{once}
 use Rattle.history.proofs.Matching.{RoomyModel, same-replies, same-final}
 use Rattle.history.proofs.KeptRoutes.{judged-word, on-a-ground, rejudged-known}
 use Rattle.history.proofs.Simulating.{modelOf, Holds, records-are, is-register, register-passes, routes-are, is-ledger, keep-step, rejudge-step, rejudge-counts, history-holds, history-stores, history-replies, history-written}
@@ -223,6 +224,8 @@ demand2 t f = record {
   lists-held = λ l i source customer. ap (λ rs. providersOf (findRecord (customer, source) rs)) (lists-are t f l i) ∙ filed-list source customer t f l i;
   routes-held = kept-are t f;
   verdicts-held = λ l i number. stored-at t f l number i;
+  one-list = λ l i. once register.keyOf samePair beforePair ordered-pairs _ _ (holding.ordered _ (formed-register t f l i .1));
+  one-route = λ l i. once keyOf eqb ltb ordered-ℕ _ _ (ledger-holding.ordered _ (formed-ledger t f l i .1));
   register-formed = formed-register t f;
   ledger-formed = formed-ledger t f;
   register-exact = registers-alike t f;
@@ -384,6 +387,8 @@ pub demand3 : (t : Tables) → Formed t → Demand3 t
 demand3 t f = record {
   as-model = history-replies t f;
   lists-filed = λ l i source customer. filed-list source customer t f l i;
+  routes-kept = λ l i number. kept-route number t f l i;
+  register-written = λ l i. register-is t f l i ∙ ap register.registerOf (sym (ap (λ m. m .lists) (holds-at t f l i .model-is)));
   written-out = history-written t f;
   verdicts = last-verdicts t f;
   same-answers = answers-alike t f;

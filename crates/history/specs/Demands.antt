@@ -16,13 +16,15 @@ use Rattle.rules.specs.Verdicts.{judged}
 use Rattle.rules.specs.Judging.{judgedRoute}
 use Rattle.rules.specs.Draft.{Outcome, outcomeOf, draftUpstream, draftDownstream}
 use Rattle.rules.specs.Draft as draft
-use Rattle.register.specs.Register.{registerWords, recordsOf, registerOk}
-use Rattle.ledger.specs.Routes.{ledgerWords, Route, routesOf, ledgerOk}
+use Rattle.register.specs.Register.{registerWords, recordsOf, recordAt, registerOk}
+use Rattle.register.specs.Register as register
+use Rattle.ledger.specs.Routes.{ledgerWords, Route, routesOf, routeAt, ledgerOk}
+use Rattle.ledger.specs.Routes as ledger
 use Rattle.ledger.specs.Calls.{countDiffering}
 use Rattle.filter.specs.Calls.{Keeping, judgeAnswer}
 use Rattle.history.specs.Calls.{Call, keep, rejudge, kept, rejudged, Tables, Formed, tables, callAt, scopeAt, said, last, findRecord, findRoute, providersOf, known}
 use Rattle.history.specs.Replies.{shown, forRoom}
-use Rattle.history.specs.Model.{after, replyAt, final, written}
+use Rattle.history.specs.Model.{findKept, after, replyAt, final, written}
 use Rattle.history.specs.Filings.{filedList, keptRouteAt, hopsAt, storedAt}
 use Rattle.history.specs.Reorderings.{IsRegisterStep, StepAt, Reordering}
 
@@ -46,6 +48,10 @@ wordNumber draft.Unknown = 2
 
 -- ---- demand 2
 
+-- No key twice among n entries.
+abbrev pub Once : {K : Type 0} → (ℕ → K) → ℕ → Type 0
+Once keyAt n = (x y : ℕ) → x < n → y < n → keyAt x ≡ keyAt y → x ≡ y
+
 pub record Demand2 (t : Tables) : Type 0 where
   -- The register has, for each source and customer, the last list that was accepted and neither withdrawn nor cleared since.
   pub lists-held : (l : List Call) (i source customer : ℕ)
@@ -57,6 +63,11 @@ pub record Demand2 (t : Tables) : Type 0 where
   -- Both tables keep the word rules: rows 1 to 3 are never given.
   pub register-formed : (l : List Call) (i : ℕ) → (length (tables t l i .register) ≡ registerWords) × (registerOk (tables t l i .register) ≡ true)
   pub ledger-formed : (l : List Call) (i : ℕ) → (length (tables t l i .ledger) ≡ ledgerWords) × (ledgerOk (tables t l i .ledger) ≡ true)
+  -- At most one list for a customer and a source, and one route for a number.
+  pub one-list : (l : List Call) (i : ℕ)
+      → Once (λ x. register.keyOf (recordAt (recordsOf (tables t l i .register)) x)) (length (recordsOf (tables t l i .register)))
+  pub one-route : (l : List Call) (i : ℕ)
+      → Once (λ x. ledger.keyOf (routeAt (routesOf (tables t l i .ledger)) x)) (length (routesOf (tables t l i .ledger)))
   -- They hold nothing else: what is filed makes up the register's words, and what is stored the ledger's, whatever the calls were.
   pub register-exact : (l m : List Call) (i j : ℕ) → ((source customer : ℕ) → filedList t l i source customer ≡ filedList t m j source customer)
       → tables t l i .register ≡ tables t m j .register
@@ -94,6 +105,10 @@ pub record Demand3 (t : Tables) : Type 0 where
   -- The model's lists are those that demand 2 speaks of.
   pub lists-filed : (l : List Call) (i source customer : ℕ)
       → providersOf (findRecord (customer, source) (after t l i .lists)) ≡ filedList t l i source customer
+  -- Its routes are those that demand 2 speaks of.
+  pub routes-kept : (l : List Call) (i number : ℕ) → findKept number (after t l i .routes) ≡ keptRouteAt t l i number
+  -- At every step the register is the model's lists written out.
+  pub register-written : (l : List Call) (i : ℕ) → tables t l i .register ≡ register.registerOf (after t l i .lists)
   -- After every list and one last re-judging both tables are the model written out.
   pub written-out : (l : List Call) → last t l ≡ written (final t l)
   -- Every verdict in them, with its places, is the draft's over the lists that demand 2 speaks of.

@@ -10,7 +10,7 @@ use Rattle.types.specs.declared.Refusal.{Refusal}
 use Rattle.types.specs.declared.Refusal.the-variants.{ProviderList, NoRecord, RegisterFull, RouteTaken, NoRoute, RoutesFull}
 use Rattle.types.specs.Numbers.{verdictNumber, placeA, placeB, verdictOf}
 use Rattle.types.specs.Rows.{rowIf, firstGiven}
-use Rattle.keyed.specs.Keyed.{holds, put, without}
+use Rattle.keyed.specs.Keyed.{find, holds, put, without}
 use Rattle.rules.specs.Hops.{HopFunction}
 use Rattle.rules.specs.Records.{Record, hopOf}
 use Rattle.rules.specs.Verdicts.{judged}
@@ -37,6 +37,9 @@ heldBy t = record { lists = recordsOf (t .register); routes = map known (routesO
 -- Routes looked for, put in, taken out.
 abbrev pub numberOf : KeptRoute → ℕ
 numberOf r = r .number
+
+abbrev pub findKept : ℕ → List KeptRoute → Option KeptRoute
+findKept number rs = find numberOf eqb ltb number rs
 
 abbrev pub holdsKept : ℕ → List KeptRoute → Bool
 holdsKept number rs = holds numberOf eqb ltb number rs
