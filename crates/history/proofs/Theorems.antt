@@ -9,11 +9,8 @@ use borrow.Author.Tests.{eqb-true, eqb-false}
 use lib.Dec.{eqb, ltb}
 use native.Mathlib.Decide.{decLt}
 use lib.ListN.{length, List·getD-eq-default}
-use Rattle.types.specs.declared.Cause.the-variants.{ByGround}
 use Rattle.types.specs.declared.Verdict.{Verdict}
-use Rattle.types.specs.declared.Verdict.the-variants.{Valid, Invalid, Unknown}
 use Rattle.types.specs.declared.Answer.{Answer}
-use Rattle.types.specs.declared.Answer.the-variants.{Plain}
 use Rattle.types.specs.declared.Filed.{Filed}
 use Rattle.types.specs.declared.Filed.the-variants as filing
 use Rattle.types.specs.declared.Removal.{Removal}
@@ -23,9 +20,8 @@ use Rattle.types.specs.declared.Cleared.the-variants as clearing
 use Rattle.types.specs.declared.Judged.the-variants.{Answered, Refused}
 use Rattle.types.specs.declared.Rejudged.the-variants.{Changed}
 use Rattle.types.specs.declared.Refusal.{Refusal}
-use Rattle.types.specs.Numbers.{verdictNumber, verdictOf}
+use Rattle.types.specs.Numbers.{verdictNumber, placeA, placeB, verdictOf}
 use Rattle.types.specs.Rows.{firstGiven, unlessRefused}
-use Rattle.as_path.specs.Reading.{contentOf}
 use Rattle.keyed.specs.Keyed.{samePair, beforePair, find}
 use Rattle.keyed.proofs.Orders.{ordered-pairs, ordered-ℕ}
 use Rattle.keyed.proofs.Finds.{find-key, every-found, same-finds}
@@ -33,9 +29,8 @@ use Rattle.keyed.proofs.Mapping.{find-map}
 use Rattle.rules.specs.Hops.{HopFunction}
 use Rattle.rules.specs.Records.{Record, hopOf}
 use Rattle.rules.specs.Verdicts.{judged}
-use Rattle.rules.specs.Judging.{judgeRows, judgedRoute}
-use Rattle.rules.specs.Draft.{outcomeOf}
-use Rattle.rules.proofs.Judges.{judged-reads, Judgement, on-ground, on-path, judgement}
+use Rattle.rules.specs.Judging.{judgedRoute}
+use Rattle.rules.proofs.Drafting.{draft-judged, draft-route}
 use Rattle.register.specs.Register.{registerWords, recordsOf, registerOk}
 use Rattle.register.specs.Register as register
 use Rattle.register.specs.Calls.{recordFor}
@@ -46,45 +41,22 @@ use Rattle.ledger.specs.Routes as ledger
 use Rattle.ledger.specs.Calls.{stamped, countDiffering}
 use Rattle.ledger.proofs.Holding.{each-ok, in-order}
 use Rattle.ledger.proofs.Holding as ledger-holding
-use Rattle.ledger.proofs.Paths.{path-some}
 use Rattle.ledger.proofs.Refusals.{Ledger}
 use Rattle.rejudge.specs.Rejudging.{rejudgedRoute}
 use Rattle.rejudge.proofs.Rejudgements.{some-numbers, rejudged-ok}
-use Rattle.filter.specs.Calls.{Keeping, hopIn, judgeAnswer, refusalIn, keepEffect, rejudgeEffect}
-use Rattle.filter.proofs.KeptRoutes.{path-ok}
+use Rattle.filter.specs.Calls.{Keeping, hopIn, judgeAnswer, keepEffect, rejudgeEffect}
 use Rattle.history.specs.Calls.{Call, file, withdraw, clear, keep, drop, rejudge, filed, removed, cleared, kept, rejudged, Scope, of-pair, of-source, of-route, idle, scope, Tables, Formed, tables, says, callAt, scopeAt, said, last, findRecord, findRoute, providersOf, known}
 use Rattle.history.specs.Replies.{ModelReply, new, replaced, done, gone, refused, shownFiled, shownRemoval, shownCleared, shown, forRoom, accepted}
 use Rattle.history.specs.Model.{numberOf, findKept, refusal, after, replyAt, written}
 use Rattle.history.specs.Filings.{filedList, keptRouteAt, hopFiled, hopsAt, storedBy, storedAt}
 use Rattle.history.specs.Reorderings.{IsRegisterStep, IsStep, Reordering}
-use Rattle.history.specs.Demands.{draftWord, wordNumber, Roomy, Drafted, Demand2, Demand3, Demands}
+use Rattle.history.specs.Demands.{Roomy, Drafted, Demand2, Demand3, Demands}
 use Rattle.history.proofs.Entries.{once}
 use Rattle.history.proofs.Matching.{RoomyModel, same-replies, same-final}
-use Rattle.history.proofs.KeptRoutes.{judged-word, on-a-ground, rejudged-known}
+use Rattle.history.proofs.KeptRoutes.{on-a-ground, rejudged-known}
 use Rattle.history.proofs.Simulating.{modelOf, Holds, records-are, is-register, register-passes, routes-are, is-ledger, keep-step, rejudge-step, rejudge-counts, history-holds, history-stores, history-replies, history-written}
 use Rattle.history.proofs.FiledLists.{filed-list, kept-route}
 use Rattle.history.proofs.FiledHops.{filed-hops}
-
--- A verdict that is answered without a refusal: rows 9 to 17 are not given.
-answered-rows : (hop : HopFunction) (role neighbour : ℕ) (attribute : List ℕ) (a : Answer) → judgedRoute hop role neighbour attribute ≡ Answered a
-    → firstGiven (judgeRows role neighbour attribute) ≡ none
-answered-rows hop role neighbour attribute a e = sym (judged-reads hop role neighbour attribute refusalIn (λ r. refl) (λ a. refl)) ∙ ap refusalIn e
-
--- Its word is the draft's.
-answered-word : (hop : HopFunction) (role neighbour : ℕ) (attribute : List ℕ) (a : Answer) → judgedRoute hop role neighbour attribute ≡ Answered a
-    → draftWord hop role (contentOf role neighbour attribute) ≡ some (outcomeOf (verdictOf a))
-answered-word hop role neighbour attribute a e = go (judgement hop role neighbour attribute (answered-rows hop role neighbour attribute a e))
-  where
-    go : Judgement hop role neighbour attribute → draftWord hop role (contentOf role neighbour attribute) ≡ some (outcomeOf (verdictOf a))
-    go (on-ground g c j) =
-        let f : Answered (Plain (Invalid (ByGround g))) ≡ Answered a = sym j ∙ e in
-        let z : Plain (Invalid (ByGround g)) ≡ a = cc in
-        rw (c, ← z)
-    go (on-path path c short j) =
-        let f : Answered (judged hop path role) ≡ Answered a = sym j ∙ e in
-        let z : judged hop path role ≡ a = cc in
-        let n = path-some role neighbour path (path-ok role neighbour attribute path c short) in
-        rw (c, ← z) (ap some (judged-word hop path role n))
 
 -- A keeping that is answered answers what is judged.
 keep-answered : (o : Option Refusal) (hop : HopFunction) (role neighbour : ℕ) (attribute ws ws′ : List ℕ) (a : Answer)
@@ -232,7 +204,7 @@ demand2 t f = record {
   ledger-exact = ledgers-alike t f;
   judge-answers = judge-answer t f;
   keep-answers = λ l i k a c e. keep-answer t f l i k a (rw c at e);
-  draft-answers = λ l i role neighbour attribute a e. answered-word (hopsAt t l i) role neighbour attribute a e;
+  draft-answers = λ l i role neighbour attribute a e. draft-route (hopsAt t l i) role neighbour attribute a e;
   rejudge-counts = rejudge-count t f;
 }
 
@@ -301,13 +273,7 @@ roomy-model t f l h i = go (decLt i (length l))
     go (yes p) = ap forRoom (sym (history-replies t f l i)) ∙ h i p
     go (no n) = let e : callAt l i ≡ rejudge = List·getD-eq-default l rejudge (omega arith) in rw e
 
--- A verdict's word is its outcome's.
-word-number : (v : Verdict) → verdictNumber v ≡ wordNumber (outcomeOf v)
-word-number Valid = refl
-word-number (Invalid c) = refl
-word-number (Unknown a b) = refl
-
--- A route that is judged anew has the verdict and places of its path, and the draft's word.
+-- A route that is judged anew has the draft's verdict and places of its path.
 drafted : (hop : HopFunction) (r : Route) → routeOk r ≡ true → Drafted hop (rejudgedRoute hop r)
 drafted hop r ok = go (eqb (r .ground) 0) refl
   where
@@ -317,11 +283,12 @@ drafted hop r ok = go (eqb (r .ground) 0) refl
     go : (b : Bool) → eqb (r .ground) 0 ≡ b → Drafted hop (cond b (stamped v r) r)
     go true e =
         let g : r .ground ≡ 0 = eqb-true _ _ e in
+        let d = draft-judged hop (r .path) (r .role) (some-numbers r ok g) in
         record {
-          verdict = λ z. refl;
-          a = λ z. refl;
-          b = λ z. refl;
-          word = λ z. word-number v ∙ ap wordNumber (sym (judged-word hop (r .path) (r .role) (some-numbers r ok g)));
+          verdict = λ z. ap (λ x. verdictNumber (verdictOf x)) d;
+          a = λ z. ap (λ x. placeA (verdictOf x)) d;
+          b = λ z. ap (λ x. placeB (verdictOf x)) d;
+          rules = λ z. d;
           ground = λ z. absurd (z g);
         }
     go false e =
@@ -329,7 +296,7 @@ drafted hop r ok = go (eqb (r .ground) 0) refl
           verdict = λ z. absurd (eqb-false _ _ e z);
           a = λ z. absurd (eqb-false _ _ e z);
           b = λ z. absurd (eqb-false _ _ e z);
-          word = λ z. absurd (eqb-false _ _ e z);
+          rules = λ z. absurd (eqb-false _ _ e z);
           ground = λ z. on-a-ground r ok e;
         }
 
