@@ -9,7 +9,7 @@ use lib.Dec.{leb}
 use lib.ListN.{length, getD}
 use Rattle.types.specs.declared.Refusal.the-variants.{TableLength, RoutesMalformed, RouteTaken, NoRoute, RoutesFull}
 use Rattle.types.specs.declared.Removal.the-variants as removal
-use Rattle.types.specs.Rows.{firstGiven}
+use Rattle.types.specs.Rows.{firstGiven, effect}
 use Rattle.table.specs.Table.{Entry, bodies, encode, decode, Insertable, Removable, insertAt, removeAt}
 use Rattle.table.proofs.Typed.{inserted-entries, removed-entries}
 use Rattle.keyed.proofs.Orders.{both-intro}
@@ -102,9 +102,9 @@ module _ {ws : List ℕ} {r : Route} {position : ℕ} (s : Storable ws r positio
 
   -- With its entry in, the words are those of the definition.
   pub store-done : {ws' : List ℕ} → ws' ≡ encode (length ws) (insertAt position e (decode 7 0 ws))
-      → (kept.Done ≡ storeEffect ws r .answer) × (ws' ≡ storeEffect ws r .words)
+      → effect kept.Done ws' ≡ storeEffect ws r
   unfolding storeEffect firstGiven roomFor ledgerOf
-  store-done {ws'} g = rw (s .free, fits) (refl, g ∙ words)
+  store-done {ws'} g = rw (s .free, fits) (ap (effect kept.Done) (g ∙ words))
     where
       fits : roomFor (putRoute r (routesOf ws)) ≡ true
       fits =
@@ -146,9 +146,9 @@ module _ (ws : List ℕ) (number : ℕ) where
 
         -- With its entry out, the words are those of the definition.
         pub drop-done : {ws' : List ℕ} → ws' ≡ encode (length ws) (removeAt position (decode 7 0 ws))
-            → (removal.Done ≡ dropEffect ws number .answer) × (ws' ≡ dropEffect ws number .words)
+            → effect removal.Done ws' ≡ dropEffect ws number
         unfolding dropEffect firstGiven ledgerOf
-        drop-done {ws'} g = rw (eq-eqb (length ws) ledgerWords a, b, e) (refl, g ∙ words)
+        drop-done {ws'} g = rw (eq-eqb (length ws) ledgerWords a, b, e) (ap (effect removal.Done) (g ∙ words))
           where
             words : encode (length ws) (removeAt position (decode 7 0 ws)) ≡ encode ledgerWords (map entryOf (eraseRoute number (routesOf ws)))
             words =

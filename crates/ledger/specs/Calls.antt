@@ -5,18 +5,18 @@ use mathlib.Core.Bool.{Bool, true, not, cond, _&&_}
 use mathlib.Core.List.{List, [], _∷_, map}
 use mathlib.Core.Option.{Option}
 use lib.Dec.{ltb, eqb}
-use lib.ListN.{length}
+use lib.ListN.{length, set}
 use Rattle.types.specs.declared.Refusal.{Refusal}
-use Rattle.types.specs.declared.Refusal.the-variants.{TableLength, RoutesMalformed, RouteTaken, NoRoute, RoutesFull}
+use Rattle.types.specs.declared.Refusal.the-variants.{RoutesMalformed, RouteTaken, NoRoute, RoutesFull}
 use Rattle.types.specs.declared.Verdict.{Verdict}
 use Rattle.types.specs.declared.Removal.{Removal}
 use Rattle.types.specs.declared.Removal.the-variants as removal
 use Rattle.types.specs.Numbers.{verdictNumber, verdictGround, placeA, placeB}
-use Rattle.types.specs.Rows.{rowIf, firstGiven, Effect, unlessRefused}
+use Rattle.types.specs.Rows.{rowIf, lengthRow, firstGiven, Effect, unlessRefused}
 use Rattle.keyed.specs.Keyed.{holds, put, without}
 use Rattle.ledger.specs.declared.Kept.{Kept}
 use Rattle.ledger.specs.declared.Kept.the-variants as kept
-use Rattle.ledger.specs.Routes.{ledgerWords, Route, routesOf, ledgerOf, keyOf, roomFor, ledgerOk, positionOf}
+use Rattle.ledger.specs.Routes.{ledgerWords, Route, routesOf, routeAt, ledgerOf, keyOf, roomFor, ledgerOk, positionOf}
 
 -- ---- routes: looked for, put in, taken out
 
@@ -63,7 +63,7 @@ ledgerRow ws = rowIf (not (ledgerOk ws)) RoutesMalformed
 
 abbrev pub dropRows : List ℕ → ℕ → List (Option Refusal)
 dropRows ws number =
-    rowIf (not (eqb (length ws) ledgerWords)) TableLength
+    lengthRow ledgerWords ws
     ∷ ledgerRow ws
     ∷ rowIf (not (holdsRoute number (routesOf ws))) NoRoute
     ∷ []
@@ -92,6 +92,14 @@ stamped v r =
 -- Whether two routes differ in the verdict or in a place.
 abbrev pub differs : Route → Route → Bool
 differs r s = not (eqb (r .verdict) (s .verdict) && (eqb (r .a) (s .a) && eqb (r .b) (s .b)))
+
+-- Route i becomes another: whether the two differ so, and the ledger with the other in its place.
+abbrev pub changeEffect : List ℕ → ℕ → (Route → Route) → Effect Bool
+changeEffect ws i f =
+    record {
+      answer = differs (routeAt (routesOf ws) i) (f (routeAt (routesOf ws) i));
+      words = ledgerOf (set (routesOf ws) i (f (routeAt (routesOf ws) i)));
+    }
 
 -- How many of a ledger's routes differ so from those at their places in another.
 unfoldable pub countDiffering : List Route → List Route → ℕ

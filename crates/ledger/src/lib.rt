@@ -13,21 +13,45 @@ ghost use lib.ListN.{length};
 ghost use Rattle.table.specs.Table.{Sound};
 ghost use Rattle.keyed.specs.Keyed.{ascends, every, holds};
 ghost use Rattle.types.specs.Numbers.{roleNumber};
+ghost use Rattle.types.specs.Rows.{effect};
 ghost use Rattle.ledger.specs.Calls.{routeFor, storeEffect, dropEffect};
 ghost use Rattle.ledger.specs.Routes.{ledgerWords, routesOf, routeAt, keyOf, noZero, pathOk, routeOk, isBehind, PathFrom, ledgerOk, positionOf};
-
-// The words of a ledger.
-pub const WORDS: usize = 12802;
 
 const MOST_ROUTES: usize = 512;
 
 const MOST_PATH_WORDS: usize = 8192;
 
-// An entry of the ledger ends with its count.
-const NO_TAIL: [u32; 0] = [0u32; 0];
+// A route's slot: head words, start and count of its path, tail words.
+const HEAD: usize = 7;
 
-// The last place in a path.
-const MOST_PLACE: u32 = 64;
+const TAIL: usize = 0;
+
+const WIDTH: usize = HEAD + 2 + TAIL;
+
+// The words of a ledger.
+pub const WORDS: usize = 2 + MOST_ROUTES * WIDTH + MOST_PATH_WORDS;
+
+const NO_TAIL: [u32; TAIL] = [0u32; TAIL];
+
+// The words of a slot, counted from its first.
+const NUMBER: usize = 0;
+
+const ROLE: usize = 1;
+
+const NEIGHBOUR: usize = 2;
+
+const GROUND: usize = 3;
+
+const VERDICT: usize = 4;
+
+const PLACE_A: usize = 5;
+
+const PLACE_B: usize = 6;
+
+const COUNT: usize = HEAD + 1;
+
+// The greatest place in a path.
+const MOST_PLACE: u32 = as_path::MOST_NUMBERS as u32;
 
 // ---- the check
 
@@ -68,13 +92,13 @@ fn is_route(led: &[u32], i: usize, from: usize, to: usize) -> bool
     requires { ⌜ PathFrom (now led) i from to ⌝ }
     ensures { λ r. ⌜ r ≡ routeOk (routeAt (routesOf (now (led .entry))) i) ⌝ }
 {
-    let slot = 2 + i * 9;
-    let role = led[slot + 1];
-    let neighbour = led[slot + 2];
-    let ground = led[slot + 3];
-    let verdict = led[slot + 4];
-    let a = led[slot + 5];
-    let b = led[slot + 6];
+    let slot = 2 + i * WIDTH;
+    let role = led[slot + ROLE];
+    let neighbour = led[slot + NEIGHBOUR];
+    let ground = led[slot + GROUND];
+    let verdict = led[slot + VERDICT];
+    let a = led[slot + PLACE_A];
+    let b = led[slot + PLACE_B];
     let fits = ((1 <= role) & (role <= 6))
         & ((1 <= neighbour)
             & ((ground <= 3) & ((verdict <= 2) & ((a <= MOST_PLACE) & (b <= MOST_PLACE)))));
@@ -95,7 +119,7 @@ fn is_behind(led: &[u32], i: usize) -> bool
     if i == 0 {
         return true;
     }
-    led[2 + (i - 1) * 9] < led[2 + i * 9]
+    led[2 + (i - 1) * WIDTH] < led[2 + i * WIDTH]
 }
 
 // Each route's own rules, and their order.
@@ -104,10 +128,10 @@ fn are_routes(led: &[u32]) -> bool
     ensures { λ r. ⌜ r ≡ (every routeOk (routesOf (now (led .entry))) && ascends keyOf eqb ltb (routesOf (now (led .entry)))) ⌝ }
 {
     let n = table::word(led, 0);
-    let mut from = 2 + n * 9;
+    let mut from = 2 + n * WIDTH;
     let mut i: usize = 0;
     while i < n {
-        let to = from + table::word(led, 2 + i * 9 + 8);
+        let to = from + table::word(led, 2 + i * WIDTH + COUNT);
         if !is_behind(led, i) {
             return false;
         }
@@ -124,7 +148,7 @@ fn are_routes(led: &[u32]) -> bool
 pub fn is_ledger(led: &[u32]) -> bool
     ensures { λ r. ⌜ r ≡ ledgerOk (now (led .entry)) ⌝ }
 {
-    if !table::well_formed(led, 7, 0) {
+    if !table::well_formed(led, HEAD, TAIL) {
         return false;
     }
     if MOST_ROUTES < table::word(led, 0) {
@@ -147,7 +171,7 @@ pub fn find(led: &[u32], number: u32) -> usize
     let mut high = table::word(led, 0);
     while low < high {
         let middle = low + (high - low) / 2;
-        if led[2 + middle * 9] < number {
+        if led[2 + middle * WIDTH] < number {
             low = middle + 1;
         } else {
             high = middle;
@@ -162,7 +186,7 @@ pub fn is_at(led: &[u32], position: usize, number: u32) -> bool
     ensures { λ r. ⌜ r ≡ holds keyOf eqb ltb number (routesOf (now (led .entry))) ⌝ }
 {
     if position < table::word(led, 0) {
-        return led[2 + position * 9] == number;
+        return led[2 + position * WIDTH] == number;
     }
     false
 }
@@ -185,7 +209,8 @@ pub fn store(
     path: &[u32],
 ) -> Kept
     requires { ⌜ (length (now led) ≡ ledgerWords) × (ledgerOk (now led) ≡ true) ⌝ }
-    ensures { λ r. ⌜ (r ≡ storeEffect (now (led .entry)) (routeFor (number .0) (roleNumber role) (neighbour .0) verdict (now (path .entry))) .answer) × (now (led .exit) ≡ storeEffect (now (led .entry)) (routeFor (number .0) (roleNumber role) (neighbour .0) verdict (now (path .entry))) .words) ⌝ }
+    ensures { λ r. ⌜ effect r (now (led .exit))
+        ≡ storeEffect (now (led .entry)) (routeFor (number .0) (roleNumber role) (neighbour .0) verdict (now (path .entry))) ⌝ }
 {
     let n = number.0;
     let position = find(led, n);
@@ -208,12 +233,12 @@ pub fn store(
         verdict.place_a(),
         verdict.place_b(),
     ];
-    table::insert(led, 7, 0, position, &head, path, &NO_TAIL);
+    table::insert(led, HEAD, TAIL, position, &head, path, &NO_TAIL);
     Kept::Done
 }
 
 pub fn drop(led: &mut [u32], number: RouteNumber) -> Removal
-    ensures { λ r. ⌜ (r ≡ dropEffect (now (led .entry)) (number .0) .answer) × (now (led .exit) ≡ dropEffect (now (led .entry)) (number .0) .words) ⌝ }
+    ensures { λ r. ⌜ effect r (now (led .exit)) ≡ dropEffect (now (led .entry)) (number .0) ⌝ }
 {
     if led.len() != WORDS {
         return Removal::Refused(Refusal::TableLength);
@@ -226,6 +251,6 @@ pub fn drop(led: &mut [u32], number: RouteNumber) -> Removal
     if !is_at(led, position, n) {
         return Removal::Refused(Refusal::NoRoute);
     }
-    table::remove(led, 7, 0, position);
+    table::remove(led, HEAD, TAIL, position);
     Removal::Done
 }

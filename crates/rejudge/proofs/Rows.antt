@@ -12,51 +12,51 @@ use Rattle.types.specs.declared.Verdict.{Verdict}
 use Rattle.types.specs.declared.Answer.{Answer}
 use Rattle.types.specs.Numbers.{roleNumber, roleOf, verdictOf}
 use Rattle.types.specs.Roles.{isRole}
+use Rattle.types.specs.Rows.{effect}
 use Rattle.types.proofs.RoleNumbers.{role-named, role-none}
-use Rattle.rules.specs.Records.{hopOf}
+use Rattle.rules.specs.Hops.{HopFunction}
 use Rattle.rules.specs.Verdicts.{judged}
-use Rattle.register.specs.Register.{recordsOf, registerOk}
-use Rattle.ledger.specs.Routes.{Route, routesOf, ledgerOf, routeAt, pathWords}
-use Rattle.ledger.specs.Calls.{stamped, differs}
+use Rattle.ledger.specs.Routes.{Route, routesOf, routeAt, pathWords}
+use Rattle.ledger.specs.Calls.{stamped, changeEffect}
 use Rattle.ledger.proofs.Entries.{words-are, role-is, ground-is, route-count, path-start, path-length, path-is, path-within}
 use Rattle.rejudge.specs.Rejudging.{rejudgedRoute, Judgeable}
 use Rattle.rejudge.proofs.Stores
 use Rattle.rejudge.proofs.Rejudgements.{not-differs, left-alone, gets-verdict, has-role, some-numbers, few-numbers}
 
--- What is promised of a route: the words at the exit, and whether the route changed.
-abbrev pub Promised : List ℕ → List ℕ → ℕ → List ℕ → Bool → Type 0
-Promised reg ws i out b =
-    (out ≡ ledgerOf (set (routesOf ws) i (rejudgedRoute (hopOf (recordsOf reg)) (routeAt (routesOf ws) i))))
-    × (b ≡ differs (routeAt (routesOf ws) i) (rejudgedRoute (hopOf (recordsOf reg)) (routeAt (routesOf ws) i)))
+-- What is promised of a route: whether it changed, and the words at the exit.
+abbrev pub Promised : HopFunction → List ℕ → ℕ → List ℕ → Bool → Type 0
+Promised hop ws i out b = effect b out ≡ changeEffect ws i (rejudgedRoute hop)
 
--- A route that stays keeps the promise with the words as they are.
-stays : {reg ws : List ℕ} {i : ℕ} → Judgeable reg ws i
-    → rejudgedRoute (hopOf (recordsOf reg)) (routeAt (routesOf ws) i) ≡ routeAt (routesOf ws) i → Promised reg ws i ws false
-stays {ws} {i} p e =
-    rw (e, set-getD (routesOf ws) i (routeAt [] 0)) (words-are ws (p .route .sound) (p .route .size), sym (not-differs (routeAt (routesOf ws) i)))
+module _ {ws : List ℕ} {i : ℕ} (p : Judgeable ws i) where
+  -- The route.
+  abbrev route : Route
+  route = routeAt (routesOf ws) i
 
-module _ {reg ws : List ℕ} {i : ℕ} (p : Judgeable reg ws i) where
   -- The slot lies within the words.
   pub slot-in : 2 + i * 9 + 9 ≤ length ws
   slot-in = Stores.slot-in (p .route)
 
+  -- A route that stays keeps the promise with the words as they are.
+  stays : (hop : HopFunction) → rejudgedRoute hop route ≡ route → Promised hop ws i ws false
+  stays hop e =
+      rw (e, set-getD (routesOf ws) i (routeAt [] 0), not-differs route) (ap (effect false) (words-are ws (p .route .sound) (p .route .size)))
+
   -- A ground: nothing is stored.
-  pub grounded : (getD ws (2 + i * 9 + 3) 0 ≡ 0 → ⊥) → Promised reg ws i ws false
-  grounded k = stays p (left-alone _ (routeAt (routesOf ws) i) (λ e. k (ground-is ws (p .route .sound) i (p .route .within) ∙ e)))
+  pub grounded : (hop : HopFunction) → (getD ws (2 + i * 9 + 3) 0 ≡ 0 → ⊥) → Promised hop ws i ws false
+  grounded hop k = stays hop (left-alone hop route (λ e. k (ground-is ws (p .route .sound) i (p .route .within) ∙ e)))
 
   -- A role is always read.
   pub no-role {ℓ} : {X : Type ℓ} → roleOf (getD ws (2 + i * 9 + 1) 0) ≡ Nothing → X
   no-role e =
-      absurd (true≢false (sym (has-role (routeAt (routesOf ws) i) (p .ok))
+      absurd (true≢false (sym (has-role route (p .ok))
       ∙ ap isRole (sym (role-is ws (p .route .sound) i (p .route .within)))
       ∙ role-none (getD ws (2 + i * 9 + 1) 0) e))
 
 -- What is known once the role and the path's position are read: the count of the routes, the path's start and its length.
 pub record Known : Type 0 where
-  pub reg : List ℕ
   pub ws : List ℕ
   pub i : ℕ
-  pub may : Judgeable reg ws i
+  pub may : Judgeable ws i
   pub ground-read : getD ws (2 + i * 9 + 3) 0 ≡ 0
   pub role : Role
   pub role-read : roleOf (getD ws (2 + i * 9 + 1) 0) ≡ Is role
@@ -103,20 +103,18 @@ module _ (k : Known) where
   no-ground = let p = k .may .route in sym (ground-is (k .ws) (p .sound) (k .i) (p .within)) ∙ k .ground-read
 
   -- The path may be judged.
-  pub may-judge : (registerOk (k .reg) ≡ true) × (1 ≤ length (part k)) × (length (part k) ≤ 65535)
+  pub may-judge : (1 ≤ length (part k)) × (length (part k) ≤ 65535)
   may-judge =
       let l : length (part k) ≡ length (its k .path) = ap length part-is in
       let short = few-numbers (its k) (k .may .ok) no-ground in
-      (k .may .register, omega (arith, some-numbers (its k) (k .may .ok) no-ground), omega arith)
+      (omega (arith, some-numbers (its k) (k .may .ok) no-ground), omega arith)
 
   -- Its verdict stored keeps the promise.
-  pub rejudged-route : {a : Answer} {v : Verdict} {out : List ℕ} {b : Bool}
-      → a ≡ judged (hopOf (recordsOf (k .reg))) (part k) (roleNumber (k .role)) → v ≡ verdictOf a
-      → (out ≡ ledgerOf (set (routesOf (k .ws)) (k .i) (stamped v (its k)))) × (b ≡ differs (its k) (stamped v (its k)))
-      → Promised (k .reg) (k .ws) (k .i) out b
-  rejudged-route {a} {v} ea ev q =
+  pub rejudged-route : (hop : HopFunction) {a : Answer} {v : Verdict} {out : List ℕ} {b : Bool}
+      → a ≡ judged hop (part k) (roleNumber (k .role)) → v ≡ verdictOf a → effect b out ≡ changeEffect (k .ws) (k .i) (stamped v)
+      → Promised hop (k .ws) (k .i) out b
+  rejudged-route hop {a} {v} ea ev q =
       let p = k .may .route in
-      let hop = hopOf (recordsOf (k .reg)) in
       let role : roleNumber (k .role) ≡ its k .role =
       role-named _ (k .role) (k .role-read) .number ∙ role-is (k .ws) (p .sound) (k .i) (p .within) in
       let f : v ≡ verdictOf (judged hop (its k .path) (its k .role)) = ev ∙ ap verdictOf (ea ∙ (λ z. judged hop (part-is z) (role z))) in

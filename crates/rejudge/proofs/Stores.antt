@@ -9,11 +9,12 @@ use lib.ListN.{length, getD, set, length-set}
 use lib.Seq.{getD-set-same, set-set}
 use Rattle.types.specs.declared.Verdict.{Verdict}
 use Rattle.types.specs.Numbers.{verdictNumber, placeA, placeB}
+use Rattle.types.specs.Rows.{effect}
 use Rattle.table.specs.Table.{Entry, decode, Sound}
 use Rattle.table.proofs.Sounds.{nth, wide-at}
 use Rattle.table.proofs.Setting.{withHead, set-head-sound}
 use Rattle.ledger.specs.Routes.{Route, routeOf, entryOf, routesOf, ledgerOf, routeAt}
-use Rattle.ledger.specs.Calls.{stamped, differs}
+use Rattle.ledger.specs.Calls.{stamped, differs, changeEffect}
 use Rattle.ledger.proofs.Entries.{typing, route-is, length-routes, words-are, slot-within, verdict-is, a-is, b-is}
 use Rattle.rejudge.specs.Rejudging.{RouteIn}
 
@@ -84,7 +85,7 @@ module _ {ws : List ℕ} {i : ℕ} (p : RouteIn ws i) where
 
   module _ (v : Verdict) {w a b : ℕ} (ew : w ≡ verdictNumber v) (ea : a ≡ placeA v) (eb : b ≡ placeB v) where
     -- The verdict's word and places, stored one after another.
-    pub stamped-words :
+    stamped-words :
         set (set (set ws (2 + i * 9 + 4) w) (2 + i * 9 + 5) a) (2 + i * 9 + 6) b
         ≡ ledgerOf (set (routesOf ws) i (stamped v (routeAt (routesOf ws) i)))
     stamped-words =
@@ -94,8 +95,15 @@ module _ {ws : List ℕ} {i : ℕ} (p : RouteIn ws i) where
         rw (ew, ea, eb) (words-are _ (u .sound) (u .size ∙ p .size) ∙ ap ledgerOf (u .routes))
 
     -- Whether one of them changed.
-    pub stamped-differs :
+    stamped-differs :
         not (eqb (getD ws (2 + i * 9 + 4) 0) w && (eqb (getD ws (2 + i * 9 + 5) 0) a && eqb (getD ws (2 + i * 9 + 6) 0) b))
         ≡ differs (routeAt (routesOf ws) i) (stamped v (routeAt (routesOf ws) i))
     stamped-differs =
         rw (ew, ea, eb, verdict-is ws (p .sound) i (p .within), a-is ws (p .sound) i (p .within), b-is ws (p .sound) i (p .within))
+
+    -- Both.
+    pub stamped-effect :
+        effect (not (eqb (getD ws (2 + i * 9 + 4) 0) w && (eqb (getD ws (2 + i * 9 + 5) 0) a && eqb (getD ws (2 + i * 9 + 6) 0) b)))
+        (set (set (set ws (2 + i * 9 + 4) w) (2 + i * 9 + 5) a) (2 + i * 9 + 6) b)
+        ≡ changeEffect ws i (stamped v)
+    stamped-effect = λ z. effect (stamped-differs z) (stamped-words z)

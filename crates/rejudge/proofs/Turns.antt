@@ -7,18 +7,17 @@ use native.Mathlib.Omega.{arith}
 use native.Mathlib.Numerals.{add-one}
 use lib.ListN.{length, getD, drop, set, length-map, drop-of-length-le}
 use lib.Seq.{drop-cons}
+use Rattle.types.specs.Rows.{effect}
 use Rattle.table.specs.Table.{bodies, Sound}
 use Rattle.table.proofs.Exact.{length-encode, passes-sound}
 use Rattle.keyed.proofs.Finds.{every-at}
 use Rattle.rules.specs.Hops.{HopFunction}
-use Rattle.rules.specs.Records.{hopOf}
-use Rattle.register.specs.Register.{recordsOf, registerOk}
 use Rattle.ledger.specs.Routes.{ledgerWords, mostRoutes, mostPathWords, Route, entryOf, routesOf, ledgerOf, routeAt, pathWords, routeOk, ledgerOk}
 use Rattle.ledger.specs.Calls.{differs, countDiffering}
 use Rattle.ledger.proofs.Entries.{entries-wide, routes-fit, routes-of-words, words-formed, words-are}
 use Rattle.ledger.proofs.Holding.{sound, routes-ok, has-room, room-paths, each-ok}
 use Rattle.ledger.proofs.Looking.{count-is, few}
-use Rattle.rejudge.specs.Rejudging.{rejudgedRoute, Judgeable}
+use Rattle.rejudge.specs.Rejudging.{rejudgedEffect, Judgeable}
 use Rattle.rejudge.proofs.Rows.{Promised}
 use Rattle.rejudge.proofs.Rejudgements.{anew, path-stays}
 
@@ -109,38 +108,34 @@ short-paths ws e = room-paths (routesOf ws) (has-room (routesOf ws) (routes-ok w
 
 -- ---- the loop
 
--- The words at the entry are a ledger.
-abbrev pub Given : List ℕ → List ℕ → Type 0
-Given reg start = (registerOk reg ≡ true) × (length start ≡ ledgerWords) × (ledgerOk start ≡ true)
-
 -- The first i routes are judged anew; those that changed and those that will are all that change.
-pub record Turned (reg start : List ℕ) (n : ℕ) (ws : List ℕ) (changed i : ℕ) : Type 0 where
-  pub given : Given reg start
+pub record Turned (hop : HopFunction) (start : List ℕ) (n : ℕ) (ws : List ℕ) (changed i : ℕ) : Type 0 where
+  pub long : length start ≡ ledgerWords
+  pub ok : ledgerOk start ≡ true
   pub count : n ≡ length (routesOf start)
   pub within : i ≤ n
   pub small : n ≤ mostRoutes
   pub fewer : changed ≤ i
-  pub words : ws ≡ ledgerOf (firstAnew (hopOf (recordsOf reg)) i (routesOf start))
-  pub sum : changed + changes (hopOf (recordsOf reg)) i (routesOf start) ≡ changes (hopOf (recordsOf reg)) 0 (routesOf start)
+  pub words : ws ≡ ledgerOf (firstAnew hop i (routesOf start))
+  pub sum : changed + changes hop i (routesOf start) ≡ changes hop 0 (routesOf start)
 
 -- Before the first turn.
-pub turns : (reg start : List ℕ) {n : ℕ} → Given reg start → n ≡ getD start 0 0 → Turned reg start n start 0 0
+pub turns : (hop : HopFunction) (start : List ℕ) {n : ℕ} → length start ≡ ledgerWords → ledgerOk start ≡ true → n ≡ getD start 0 0
+    → Turned hop start n start 0 0
 unfolding firstAnew
-turns reg start p e =
+turns hop start long ok e =
     record {
-      given = p;
-      count = e ∙ count-is start (p .2);
+      long = long;
+      ok = ok;
+      count = e ∙ count-is start ok;
       within = omega arith;
-      small = omega (arith, e, count-is start (p .2), few start (p .2));
+      small = omega (arith, e, count-is start ok, few start ok);
       fewer = omega arith;
-      words = words-are start (sound start (p .2)) (p .1);
+      words = words-are start (sound start ok) long;
       sum = omega arith;
     }
 
-module _ {reg start ws : List ℕ} {n changed i : ℕ} (t : Turned reg start n ws changed i) where
-  abbrev hop : HopFunction
-  hop = hopOf (recordsOf reg)
-
+module _ {hop : HopFunction} {start ws : List ℕ} {n changed i : ℕ} (t : Turned hop start n ws changed i) where
   abbrev routes : List Route
   routes = routesOf start
 
@@ -148,17 +143,19 @@ module _ {reg start ws : List ℕ} {n changed i : ℕ} (t : Turned reg start n w
   holding : Held ws (firstAnew hop i routes)
   holding =
       rw (t .words) (held (firstAnew hop i routes)
-      (omega (arith, first-length hop i routes, few start (t .given .2))) (omega (arith, first-paths hop i routes, short-paths start (t .given .2))))
+      (omega (arith, first-length hop i routes, few start (t .ok))) (omega (arith, first-paths hop i routes, short-paths start (t .ok))))
 
   -- They are as many as at the entry.
   pub same-size : length ws ≡ length start
-  same-size = holding .size ∙ sym (t .given .1)
+  same-size = holding .size ∙ sym (t .long)
 
   -- After the last turn.
-  pub turned-all : n ≤ i → (ws ≡ ledgerOf (map (rejudgedRoute hop) routes)) × (changed ≡ countDiffering routes (map (rejudgedRoute hop) routes))
+  pub turned-all : n ≤ i → effect changed ws ≡ rejudgedEffect hop start
   turned-all h =
       let l : length routes ≤ i = omega (arith, t .count) in
-      (t .words ∙ ap ledgerOf (first-all hop i routes l), omega (arith, t .sum, changes-end hop i routes l))
+      let all : changed ≡ changes hop 0 routes = omega (arith, t .sum, changes-end hop i routes l) in
+      let words : ws ≡ ledgerOf (map (anew hop) routes) = t .words ∙ ap ledgerOf (first-all hop i routes l) in
+      λ z. effect (all z) (words z)
 
   module _ (h : i < n) where
     -- Route i is one of the routes.
@@ -166,19 +163,18 @@ module _ {reg start ws : List ℕ} {n changed i : ℕ} (t : Turned reg start n w
     inside = omega (arith, t .count)
 
     -- Route i may be judged anew.
-    pub may-turn : Judgeable reg ws i
+    pub may-turn : Judgeable ws i
     may-turn =
         record {
-          register = t .given .0;
           route = record { sound = holding .sound; size = holding .size; within = rw (holding .routes, first-length hop i routes) inside };
-          ok = rw (holding .routes, first-at hop i routes) (every-at routeOk routes (routeAt [] 0) (each-ok _ (routes-ok start (t .given .2))) i inside);
+          ok = rw (holding .routes, first-at hop i routes) (every-at routeOk routes (routeAt [] 0) (each-ok _ (routes-ok start (t .ok))) i inside);
         }
 
-    module _ {out : List ℕ} {b : Bool} (q : Promised reg ws i out b) where
+    module _ {out : List ℕ} {b : Bool} (q : Promised hop ws i out b) where
       -- The words of the next turn.
       next-words : out ≡ ledgerOf (firstAnew hop (i + 1) routes)
       next-words =
-          q .0
+          ap (λ s. s .words) q
           ∙ ap (λ l. ledgerOf (set l i (anew hop (routeAt l i)))) (holding .routes)
           ∙ ap (λ r. ledgerOf (set (firstAnew hop i routes) i (anew hop r))) (first-at hop i routes)
           ∙ ap ledgerOf (first-next hop i routes)
@@ -186,18 +182,19 @@ module _ {reg start ws : List ℕ} {n changed i : ℕ} (t : Turned reg start n w
 
       -- Whether route i differs.
       tells : b ≡ differs (routeAt routes i) (anew hop (routeAt routes i))
-      tells = q .1 ∙ ap (λ r. differs r (anew hop r)) (ap (λ l. routeAt l i) (holding .routes) ∙ first-at hop i routes)
+      tells = ap (λ s. s .answer) q ∙ ap (λ r. differs r (anew hop r)) (ap (λ l. routeAt l i) (holding .routes) ∙ first-at hop i routes)
 
       -- What is left, counted with route i.
       left-is : changes hop i routes ≡ cond b (suc (changes hop (i + 1) routes)) (changes hop (i + 1) routes)
       left-is = rw (tells, add-one i) (changes-next hop i routes inside)
 
       -- It changed.
-      pub turns-changed : b ≡ true → Turned reg start n out (changed + 1) (i + 1)
+      pub turns-changed : b ≡ true → Turned hop start n out (changed + 1) (i + 1)
       turns-changed e =
           let l : changes hop i routes ≡ suc (changes hop (i + 1) routes) = rw e at left-is in
           record {
-            given = t .given;
+            long = t .long;
+            ok = t .ok;
             count = t .count;
             within = omega arith;
             small = t .small;
@@ -207,11 +204,12 @@ module _ {reg start ws : List ℕ} {n changed i : ℕ} (t : Turned reg start n w
           }
 
       -- It did not change.
-      pub turns-same : b ≡ false → Turned reg start n out changed (i + 1)
+      pub turns-same : b ≡ false → Turned hop start n out changed (i + 1)
       turns-same e =
           let l : changes hop i routes ≡ changes hop (i + 1) routes = rw e at left-is in
           record {
-            given = t .given;
+            long = t .long;
+            ok = t .ok;
             count = t .count;
             within = omega arith;
             small = t .small;

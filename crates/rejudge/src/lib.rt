@@ -4,18 +4,18 @@ use types::RoleRead;
 use types::Verdict;
 ghost use mathlib.Core.Path.{_≡_};
 ghost use mathlib.Core.Bool.{true};
-ghost use mathlib.Core.List.{map};
-ghost use lib.ListN.{length, set};
+ghost use lib.ListN.{length};
+ghost use Rattle.types.specs.Rows.{effect};
 ghost use Rattle.rules.specs.Records.{hopOf};
 ghost use Rattle.register.specs.Register.{recordsOf, registerOk};
-ghost use Rattle.ledger.specs.Routes.{ledgerWords, routesOf, routeAt, ledgerOf, ledgerOk};
-ghost use Rattle.ledger.specs.Calls.{stamped, differs, countDiffering};
-ghost use Rattle.rejudge.specs.Rejudging.{rejudgedRoute, RouteIn, Judgeable};
+ghost use Rattle.ledger.specs.Routes.{ledgerWords, ledgerOk};
+ghost use Rattle.ledger.specs.Calls.{stamped, changeEffect};
+ghost use Rattle.rejudge.specs.Rejudging.{rejudgedRoute, rejudgedEffect, RouteIn, Judgeable};
 
 // Route i gets a verdict's word and places; answers whether one of them changed.
 fn restamp(led: &mut [u32], i: usize, v: Verdict) -> bool
     requires { ⌜ RouteIn (now led) i ⌝ }
-    ensures { λ r. ⌜ (now (led .exit) ≡ ledgerOf (set (routesOf (now (led .entry))) i (stamped v (routeAt (routesOf (now (led .entry))) i)))) × (r ≡ differs (routeAt (routesOf (now (led .entry))) i) (stamped v (routeAt (routesOf (now (led .entry))) i))) ⌝ }
+    ensures { λ r. ⌜ effect r (now (led .exit)) ≡ changeEffect (now (led .entry)) i (stamped v) ⌝ }
 {
     let slot = 2 + i * 9;
     let word = v.number();
@@ -30,8 +30,8 @@ fn restamp(led: &mut [u32], i: usize, v: Verdict) -> bool
 
 // Route i judged anew; answers whether its verdict or a place changed.
 fn rejudge_route(reg: &[u32], hints: &[u32], led: &mut [u32], i: usize) -> bool
-    requires { ⌜ Judgeable (now reg) (now led) i ⌝ }
-    ensures { λ r. ⌜ (now (led .exit) ≡ ledgerOf (set (routesOf (now (led .entry))) i (rejudgedRoute (hopOf (recordsOf (now (reg .entry)))) (routeAt (routesOf (now (led .entry))) i)))) × (r ≡ differs (routeAt (routesOf (now (led .entry))) i) (rejudgedRoute (hopOf (recordsOf (now (reg .entry)))) (routeAt (routesOf (now (led .entry))) i))) ⌝ }
+    requires { ⌜ (registerOk (now reg) ≡ true) × Judgeable (now led) i ⌝ }
+    ensures { λ r. ⌜ effect r (now (led .exit)) ≡ changeEffect (now (led .entry)) i (rejudgedRoute (hopOf (recordsOf (now (reg .entry))))) ⌝ }
 {
     let slot = 2 + i * 9;
     if led[slot + 3] != 0 {
@@ -50,7 +50,7 @@ fn rejudge_route(reg: &[u32], hints: &[u32], led: &mut [u32], i: usize) -> bool
 // Every route judged anew, with hints for the register; answers how many changed.
 fn rejudge_routes(reg: &[u32], hints: &[u32], led: &mut [u32]) -> usize
     requires { ⌜ (registerOk (now reg) ≡ true) × (length (now led) ≡ ledgerWords) × (ledgerOk (now led) ≡ true) ⌝ }
-    ensures { λ r. ⌜ (now (led .exit) ≡ ledgerOf (map (rejudgedRoute (hopOf (recordsOf (now (reg .entry))))) (routesOf (now (led .entry))))) × (r ≡ countDiffering (routesOf (now (led .entry))) (map (rejudgedRoute (hopOf (recordsOf (now (reg .entry))))) (routesOf (now (led .entry))))) ⌝ }
+    ensures { λ r. ⌜ effect r (now (led .exit)) ≡ rejudgedEffect (hopOf (recordsOf (now (reg .entry)))) (now (led .entry)) ⌝ }
 {
     let n = table::word(led, 0);
     let mut changed: usize = 0;
@@ -68,7 +68,7 @@ fn rejudge_routes(reg: &[u32], hints: &[u32], led: &mut [u32]) -> usize
 // Answers how many routes changed. Hints are worth their filling when there are more numbers to look up than records.
 pub fn rejudge_all(reg: &[u32], led: &mut [u32]) -> usize
     requires { ⌜ (registerOk (now reg) ≡ true) × (length (now led) ≡ ledgerWords) × (ledgerOk (now led) ≡ true) ⌝ }
-    ensures { λ r. ⌜ (now (led .exit) ≡ ledgerOf (map (rejudgedRoute (hopOf (recordsOf (now (reg .entry))))) (routesOf (now (led .entry))))) × (r ≡ countDiffering (routesOf (now (led .entry))) (map (rejudgedRoute (hopOf (recordsOf (now (reg .entry))))) (routesOf (now (led .entry))))) ⌝ }
+    ensures { λ r. ⌜ effect r (now (led .exit)) ≡ rejudgedEffect (hopOf (recordsOf (now (reg .entry)))) (now (led .entry)) ⌝ }
 {
     if table::word(led, 1) <= table::word(reg, 0) {
         return rejudge_routes(reg, &verdict::NO_HINTS, led);

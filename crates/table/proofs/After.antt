@@ -6,12 +6,12 @@ use native.Mathlib.Omega.{arith}
 use native.Mathlib.Nat.{suc-mul}
 use lib.ListN.{length, take, drop, getD, length-append, take-append-drop}
 use lib.Seq.{split-at}
-use Rattle.table.specs.Table.{Entry, width, bodies, encode, Wide, decode, Sound, Insertable, Removable, insertAt, removeAt}
+use Rattle.table.specs.Table.{counters, Entry, width, bodies, encode, Wide, decode, Sound, Insertable, Removable, insertAt, removeAt}
 use Rattle.table.proofs.Tables.{bodies-append, wide-append, wide-left, wide-right}
 use Rattle.table.proofs.Exact.{decode-encode, encode-sound}
 
 -- The table of entries that fit is sound and holds them.
-pub holds : (h t size : ℕ) (es : List Entry) → Wide h t es → 2 + length es * width h t + length (bodies es) ≤ size
+pub holds : (h t size : ℕ) (es : List Entry) → Wide h t es → counters + length es * width h t + length (bodies es) ≤ size
     → Sound h t (encode size es) × (decode h t (encode size es) ≡ es)
 holds h t size es w fits = (encode-sound h t size es w fits, decode-encode h t size es w fits)
 
@@ -43,8 +43,8 @@ module _ (h t i : ℕ) (x : Entry) (es : List Entry) where
       wide-append h t (take i es) (x ∷ drop i es) (wide-left h t (take i es) (drop i es) v) (wx, wide-right h t (take i es) (drop i es) v)
 
   -- It fits where there is room for one more slot and body.
-  pub insert-fits : (size : ℕ) → 2 + (length es + 1) * width h t + length (bodies es) + length (x .body) ≤ size
-      → 2 + length (insertAt i x es) * width h t + length (bodies (insertAt i x es)) ≤ size
+  pub insert-fits : (size : ℕ) → counters + (length es + 1) * width h t + length (bodies es) + length (x .body) ≤ size
+      → counters + length (insertAt i x es) * width h t + length (bodies (insertAt i x es)) ≤ size
   unfolding insertAt
   insert-fits size room =
       let back : take i es ++ drop i es ≡ es = take-append-drop i es in
@@ -56,7 +56,7 @@ module _ (h t i : ℕ) (x : Entry) (es : List Entry) where
 
   -- The table of the entries with x at i is sound and holds them.
   pub insert-holds : (size : ℕ) → Wide h t es → (length (x .head) ≡ h) × (length (x .tail) ≡ t)
-      → 2 + (length es + 1) * width h t + length (bodies es) + length (x .body) ≤ size
+      → counters + (length es + 1) * width h t + length (bodies es) + length (x .body) ≤ size
       → Sound h t (encode size (insertAt i x es)) × (decode h t (encode size (insertAt i x es)) ≡ insertAt i x es)
   insert-holds size w wx room = holds h t size (insertAt i x es) (insert-wide w wx) (insert-fits size room)
 
@@ -74,8 +74,8 @@ module _ (h t i : ℕ) (es : List Entry) (l : i < length es) where
       (wide-right h t (take i es) (c .0 ∷ drop (suc i) es) v .1)
 
   -- It fits where the list fitted.
-  pub remove-fits : (size : ℕ) → 2 + length es * width h t + length (bodies es) ≤ size
-      → 2 + length (removeAt i es) * width h t + length (bodies (removeAt i es)) ≤ size
+  pub remove-fits : (size : ℕ) → counters + length es * width h t + length (bodies es) ≤ size
+      → counters + length (removeAt i es) * width h t + length (bodies (removeAt i es)) ≤ size
   unfolding removeAt
   remove-fits size fits =
       let c = cut-at i es l in
@@ -87,7 +87,7 @@ module _ (h t i : ℕ) (es : List Entry) (l : i < length es) where
       omega arith
 
   -- The table of the entries without that at i is sound and holds them.
-  pub remove-holds : (size : ℕ) → Wide h t es → 2 + length es * width h t + length (bodies es) ≤ size
+  pub remove-holds : (size : ℕ) → Wide h t es → counters + length es * width h t + length (bodies es) ≤ size
       → Sound h t (encode size (removeAt i es)) × (decode h t (encode size (removeAt i es)) ≡ removeAt i es)
   remove-holds size w fits = holds h t size (removeAt i es) (remove-wide w) (remove-fits size fits)
 

@@ -10,7 +10,7 @@ use lib.Dec.{eqb, leb}
 use lib.ListN.{length, drop, getD, drop-of-length-le}
 use lib.Seq.{drop-drop, getD-drop, drop-cons}
 use borrow.Author.Tests.{eq-eqb, ne-eqb, le-leb, lt-leb}
-use Rattle.table.specs.Table.{width, slotsOk, allZero, wellFormed}
+use Rattle.table.specs.Table.{counters, width, slotsOk, allZero, wellFormed}
 use Rattle.table.proofs.Laws.{count-index}
 
 -- ---- the slots
@@ -86,26 +86,26 @@ product-fits n h t l k j =
 
 module _ (h t : ℕ) (ws : List ℕ) where
   -- Fewer than two words fail.
-  pub wf-short : length ws < 2 → false ≡ wellFormed h t ws
+  pub wf-short : length ws < counters → false ≡ wellFormed h t ws
   unfolding wellFormed
-  wf-short l = rw (lt-leb 2 (length ws) l)
+  wf-short l = rw (lt-leb counters (length ws) l)
 
-  module _ (n b : ℕ) (e : n ≡ getD ws 0 0) (f : b ≡ getD ws 1 0) (l : 2 ≤ length ws) where
+  module _ (n b : ℕ) (e : n ≡ getD ws 0 0) (f : b ≡ getD ws 1 0) (l : counters ≤ length ws) where
     -- Slots and bodies that do not fit fail.
-    pub wf-long : length ws < 2 + n * width h t + b → false ≡ wellFormed h t ws
+    pub wf-long : length ws < counters + n * width h t + b → false ≡ wellFormed h t ws
     unfolding wellFormed
-    wf-long k = rw (le-leb 2 (length ws) l, ← e, ← f, lt-leb (2 + n * width h t + b) (length ws) k)
+    wf-long k = rw (le-leb counters (length ws) l, ← e, ← f, lt-leb (counters + n * width h t + b) (length ws) k)
 
-    module _ (k : 2 + n * width h t + b ≤ length ws) where
+    module _ (k : counters + n * width h t + b ≤ length ws) where
       -- Where they fit, the check is that of the slots and that of the zeros.
-      pub wf-all : (slotsOk h t n 0 (getD ws 1 0) (drop 2 ws) && allZero (drop (2 + n * width h t + b) ws)) ≡ wellFormed h t ws
+      pub wf-all : (slotsOk h t n 0 (getD ws 1 0) (drop counters ws) && allZero (drop (counters + n * width h t + b) ws)) ≡ wellFormed h t ws
       unfolding wellFormed
-      wf-all = rw (le-leb 2 (length ws) l, ← e, ← f, le-leb (2 + n * width h t + b) (length ws) k)
+      wf-all = rw (le-leb counters (length ws) l, ← e, ← f, le-leb (counters + n * width h t + b) (length ws) k)
 
       -- Slots that fail, fail.
-      pub wf-slots : false ≡ slotsOk h t n 0 (getD ws 1 0) (drop 2 ws) → false ≡ wellFormed h t ws
-      wf-slots r = ap (λ (x : Bool). x && allZero (drop (2 + n * width h t + b) ws)) r ∙ wf-all
+      pub wf-slots : false ≡ slotsOk h t n 0 (getD ws 1 0) (drop counters ws) → false ≡ wellFormed h t ws
+      wf-slots r = ap (λ (x : Bool). x && allZero (drop (counters + n * width h t + b) ws)) r ∙ wf-all
 
       -- Slots that pass leave the zeros to check.
-      pub wf-zeros : true ≡ slotsOk h t n 0 (getD ws 1 0) (drop 2 ws) → allZero (drop (2 + n * width h t + b) ws) ≡ wellFormed h t ws
-      wf-zeros r = ap (λ (x : Bool). x && allZero (drop (2 + n * width h t + b) ws)) r ∙ wf-all
+      pub wf-zeros : true ≡ slotsOk h t n 0 (getD ws 1 0) (drop counters ws) → allZero (drop (counters + n * width h t + b) ws) ≡ wellFormed h t ws
+      wf-zeros r = ap (λ (x : Bool). x && allZero (drop (counters + n * width h t + b) ws)) r ∙ wf-all

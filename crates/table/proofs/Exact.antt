@@ -10,7 +10,7 @@ use lib.Dec.{eqb, leb}
 use lib.ListN.{length, take, drop, getD, replicate, length-append, length-drop, length-replicate, take-append-drop}
 use lib.Seq.{take-at, drop-at, take-add, drop-drop, drop-cons, length-take-le, drop-append-add}
 use borrow.Author.Tests.{eqb-true, leb-true, eq-eqb, le-leb}
-use Rattle.table.specs.Table.{Entry, width, slots, bodies, pad, encode, Wide, decodeSlots, decode, Sound, slotsOk, allZero, wellFormed}
+use Rattle.table.specs.Table.{counters, span, Entry, width, slots, bodies, pad, encode, Wide, decodeSlots, decode, Sound, slotsOk, allZero, wellFormed}
 use Rattle.table.proofs.Tables.{length-slots, length-pad, slot-head, slot-start, slot-count, slot-tail, slot-rest}
 use Rattle.table.proofs.Checking.{wf-zeros}
 
@@ -48,7 +48,7 @@ decode-slots h t o (e ∷ es) y z w =
     ∙ decode-slot h t (length es) o e (slots (o + k) es ++ y) (bodies es ++ z) (w .0)
     ∙ ap (λ (l : List Entry). e ∷ l) (decode-slots h t (o + k) es y z (w .1))
 
-module _ (h t size : ℕ) (es : List Entry) (w : Wide h t es) (fits : 2 + length es * width h t + length (bodies es) ≤ size) where
+module _ (h t size : ℕ) (es : List Entry) (w : Wide h t es) (fits : counters + length es * width h t + length (bodies es) ≤ size) where
   -- A table decodes to its entries.
   pub decode-encode : decode h t (encode size es) ≡ es
   unfolding decode encode pad
@@ -57,9 +57,9 @@ module _ (h t size : ℕ) (es : List Entry) (w : Wide h t es) (fits : 2 + length
       let b : ℕ = length (bodies es) in
       let z : List ℕ = replicate (size - suc (suc (length (slots 0 es ++ bodies es)))) 0 in
       let p : List ℕ = n ∷ (b ∷ slots 0 es) in
-      let lp : length p ≡ 2 + n * width h t = omega (arith, length-slots h t 0 es w) in
-      let l : drop (2 + n * width h t) (n ∷ (b ∷ ((slots 0 es ++ bodies es) ++ z))) ≡ bodies es ++ z =
-      rw append-assoc (drop-at p (bodies es ++ z) (2 + n * width h t) lp) in
+      let lp : length p ≡ counters + n * width h t = omega (arith, length-slots h t 0 es w) in
+      let l : drop (counters + n * width h t) (n ∷ (b ∷ ((slots 0 es ++ bodies es) ++ z))) ≡ bodies es ++ z =
+      rw append-assoc (drop-at p (bodies es ++ z) (counters + n * width h t) lp) in
       rw (l, append-assoc) (decode-slots h t 0 es (bodies es ++ z) z w)
 
   -- A table has the size that it is to have.
@@ -100,7 +100,7 @@ ok-slots h t o b (x ∷ es) y w e =
 
 -- A table passes the check.
 pub encode-passes : (h t size : ℕ) (es : List Entry) → Wide h t es
-    → 2 + length es * width h t + length (bodies es) ≤ size → wellFormed h t (encode size es) ≡ true
+    → counters + length es * width h t + length (bodies es) ≤ size → wellFormed h t (encode size es) ≡ true
 unfolding encode pad
 encode-passes h t size es w fits =
     let n : ℕ = length es in
@@ -108,7 +108,7 @@ encode-passes h t size es w fits =
     let x : List ℕ = slots 0 es ++ bodies es in
     let left : ℕ = size - suc (suc (length x)) in
     let ws : List ℕ = n ∷ (b ∷ (x ++ replicate left 0)) in
-    let end : ℕ = 2 + n * width h t + b in
+    let end : ℕ = counters + n * width h t + b in
     let lx : length x ≡ n * width h t + b = length-append (slots 0 es) (bodies es) ∙ omega (arith, length-slots h t 0 es w) in
     let lw : length ws ≡ size = omega (arith, length-append x (replicate left 0), length-replicate {A = ℕ} left 0) in
     let back : drop end ws ≡ replicate left 0 = drop-at (n ∷ (b ∷ x)) (replicate left 0) end (omega arith) in
@@ -131,14 +131,14 @@ all-zero (x ∷ xs) e =
 
 -- The words of a slot are its head, its start, its count and its tail.
 whole-slot : (xs : List ℕ) (h t : ℕ) → width h t ≤ length xs
-    → take (width h t) xs ≡ take h xs ++ (getD xs h 0 ∷ (getD xs (h + 1) 0 ∷ take t (drop (h + 2) xs)))
+    → take (width h t) xs ≡ take h xs ++ (getD xs h 0 ∷ (getD xs (h + 1) 0 ∷ take t (drop (h + span) xs)))
 whole-slot xs h t l =
-    let two : take 2 (drop h xs) ≡ getD xs h 0 ∷ (getD xs (h + 1) 0 ∷ []) =
-    ap (take 2) (drop-cons xs h 0 (omega arith) ∙ ap (λ (r : List ℕ). getD xs h 0 ∷ r) (drop-cons xs (suc h) 0 (omega arith)))
+    let two : take span (drop h xs) ≡ getD xs h 0 ∷ (getD xs (h + 1) 0 ∷ []) =
+    ap (take span) (drop-cons xs h 0 (omega arith) ∙ ap (λ (r : List ℕ). getD xs h 0 ∷ r) (drop-cons xs (suc h) 0 (omega arith)))
     ∙ ap (λ (k : ℕ). getD xs h 0 ∷ (getD xs k 0 ∷ [])) (sym (add-one h)) in
-    take-add (h + 2) t xs
-    ∙ ap (λ (r : List ℕ). r ++ take t (drop (h + 2) xs)) (take-add h 2 xs ∙ ap (λ (r : List ℕ). take h xs ++ r) two)
-    ∙ append-assoc (take h xs) (getD xs h 0 ∷ (getD xs (h + 1) 0 ∷ [])) (take t (drop (h + 2) xs))
+    take-add (h + span) t xs
+    ∙ ap (λ (r : List ℕ). r ++ take t (drop (h + span) xs)) (take-add h span xs ∙ ap (λ (r : List ℕ). take h xs ++ r) two)
+    ∙ append-assoc (take h xs) (getD xs h 0 ∷ (getD xs (h + 1) 0 ∷ [])) (take t (drop (h + span) xs))
 
 -- What m slots that pass decode to: entries whose slots and bodies are the words read.
 record Read (h t m o b : ℕ) (xs ys : List ℕ) : Type 0 where
@@ -165,7 +165,7 @@ read h t (suc m) o b xs ys lx ly e =
     let ly′ : b - (o + c) ≤ length (drop c ys) = simp length-drop (omega arith) in
     let r = read h t m (o + c) b (drop w xs) (drop c ys) lx′ ly′ (q .1) in
     let lc : length (take c ys) ≡ c = length-take-le c ys (omega arith) in
-    let lt : length (take t (drop (h + 2) xs)) ≡ t = length-take-le t (drop (h + 2) xs) (simp length-drop (omega arith)) in
+    let lt : length (take t (drop (h + span) xs)) ≡ t = length-take-le t (drop (h + span) xs) (simp length-drop (omega arith)) in
     let sum : suc m * width h t ≡ width h t + m * width h t = omega arith in
     let left : b - o ≡ c + (b - (o + c)) = omega arith in
     record {
@@ -184,12 +184,12 @@ passes-sound h t (n ∷ b ∷ xs) e =
     let N : ℕ = n * width h t in
     let ws : List ℕ = n ∷ (b ∷ xs) in
     let Y : List ℕ = drop N xs in
-    let rest = allZero (drop (2 + N + b) ws) in
+    let rest = allZero (drop (counters + N + b) ws) in
     let ok = slotsOk h t n 0 b xs in
-    let p₁ = and-eq-true-iff (leb 2 (length ws)) (leb (2 + N + b) (length ws) && (ok && rest)) .0 e in
-    let p₂ = and-eq-true-iff (leb (2 + N + b) (length ws)) (ok && rest) .0 (p₁ .1) in
+    let p₁ = and-eq-true-iff (leb counters (length ws)) (leb (counters + N + b) (length ws) && (ok && rest)) .0 e in
+    let p₂ = and-eq-true-iff (leb (counters + N + b) (length ws)) (ok && rest) .0 (p₁ .1) in
     let p₃ = and-eq-true-iff ok rest .0 (p₂ .1) in
-    let fit : 2 + N + b ≤ length ws = leb-true (2 + N + b) (length ws) (p₂ .0) in
+    let fit : counters + N + b ≤ length ws = leb-true (counters + N + b) (length ws) (p₂ .0) in
     let ly : length Y ≡ length xs - N = length-drop N xs in
     let r = read h t n 0 b xs Y (omega arith) (omega arith) (p₃ .0) in
     let D : List Entry = decodeSlots h t n xs Y in
@@ -202,8 +202,8 @@ passes-sound h t (n ∷ b ∷ xs) e =
     let left : ℕ = length ws - length (n ∷ (b ∷ front)) in
     let enc : encode (length ws) D ≡ pad (length ws) (n ∷ (b ∷ front)) =
     λ i. pad (length ws) (r .many i ∷ (lb i ∷ (r .slots-are i ++ bod i))) in
-    let back : drop (2 + N + b) ws ≡ drop b Y =
-    ap (λ (k : ℕ). drop k ws) (add-assoc 2 N b) ∙ drop-append-add (n ∷ (b ∷ [])) xs (N + b) ∙ sym (drop-drop b N xs) in
+    let back : drop (counters + N + b) ws ≡ drop b Y =
+    ap (λ (k : ℕ). drop k ws) (add-assoc counters N b) ∙ drop-append-add (n ∷ (b ∷ [])) xs (N + b) ∙ sym (drop-drop b N xs) in
     let many : length (drop b Y) ≡ left = length-drop b Y ∙ omega arith in
     let zeros : drop b Y ≡ replicate left 0 =
     all-zero (drop b Y) (subst (λ (l : List ℕ). allZero l ≡ true) back (p₃ .1)) ∙ ap (λ (m : ℕ). replicate {A = ℕ} m 0) many in

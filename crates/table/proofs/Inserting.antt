@@ -8,7 +8,7 @@ use native.Mathlib.Numerals.{add-one}
 use lib.ListN.{length, take, drop, set, getD, length-append, length-drop, take-append-drop}
 use lib.Seq.{length-take-le}
 use Rattle.runs.specs.Words.{spliced}
-use Rattle.table.specs.Table.{Entry, width, slots, bodies, pad, encode, Wide, decode, restarted, counts, Insertable, startOf, insertAt}
+use Rattle.table.specs.Table.{counters, Entry, width, slots, bodies, pad, encode, Wide, decode, restarted, counts, Insertable, startOf, insertAt}
 use Rattle.table.proofs.Tables.{slots-append, bodies-append, length-slots, wide-append, wide-left, wide-right}
 use Rattle.table.proofs.Tables.{pad-splice, restart-pad, counts-pad, encode-split}
 use Rattle.table.proofs.Sounds.{count-is, body-is, start-under, split-mul}
@@ -46,8 +46,8 @@ module _ (size h t : ℕ) (es fs : List Entry) (e : Entry) (we : Wide h t es) (w
   length-bodies = rw (bodies-append, length-append)
 
   -- The body goes in.
-  insert-1 : (at used : ℕ) → 2 + length (es ++ fs) * width h t + length (bodies es) ≡ at
-      → 2 + length (es ++ fs) * width h t + length (bodies (es ++ fs)) ≡ used → used + length (e .body) ≤ size
+  insert-1 : (at used : ℕ) → counters + length (es ++ fs) * width h t + length (bodies es) ≡ at
+      → counters + length (es ++ fs) * width h t + length (bodies (es ++ fs)) ≡ used → used + length (e .body) ≤ size
       → spliced (encode size (es ++ fs)) at used (e .body) ≡ stage₁ size es fs e
   insert-1 at used ea eu room =
       let x : List ℕ = slots 0 es ++ (slots (length (bodies es)) fs ++ bodies es) in
@@ -58,8 +58,8 @@ module _ (size h t : ℕ) (es fs : List Entry) (e : Entry) (we : Wide h t es) (w
       rw (encode-split, a) (pad-splice size p (bodies fs) (e .body) at used lp (omega arith) room ∙ (simp append-assoc))
 
   -- The slot goes in.
-  insert-2 : (at used : ℕ) → 2 + length es * width h t ≡ at
-      → 2 + length (es ++ fs) * width h t + length (bodies (es ++ fs)) + length (e .body) ≡ used → used + width h t ≤ size
+  insert-2 : (at used : ℕ) → counters + length es * width h t ≡ at
+      → counters + length (es ++ fs) * width h t + length (bodies (es ++ fs)) + length (e .body) ≡ used → used + width h t ≤ size
       → spliced (stage₁ size es fs e) at used (slot (length (bodies es)) e) ≡ stage₂ size es fs e (length (bodies es))
   insert-2 at used ea eu room =
       let p : List ℕ = length (es ++ fs) ∷ (length (bodies (es ++ fs)) ∷ slots 0 es) in
@@ -73,7 +73,7 @@ module _ (size h t : ℕ) (es fs : List Entry) (e : Entry) (we : Wide h t es) (w
       ∙ ap (λ (l : List ℕ). pad size (length (es ++ fs) ∷ (length (bodies (es ++ fs)) ∷ l))) (sym (append-assoc (slots 0 es) r q))
 
   -- What stands before the slots behind the new one.
-  before-rest : (at : ℕ) → 2 + length es * width h t + width h t ≡ at → 2 + length (slots 0 es ++ slot (length (bodies es)) e) ≡ at
+  before-rest : (at : ℕ) → counters + length es * width h t + width h t ≡ at → counters + length (slots 0 es ++ slot (length (bodies es)) e) ≡ at
   before-rest at ea =
       omega (
         arith,
@@ -83,7 +83,7 @@ module _ (size h t : ℕ) (es fs : List Entry) (e : Entry) (we : Wide h t es) (w
       )
 
   -- The starts behind the new slot are counted anew.
-  insert-3 : (at : ℕ) → 2 + length es * width h t + width h t ≡ at
+  insert-3 : (at : ℕ) → counters + length es * width h t + width h t ≡ at
       → take at (stage₂ size es fs e (length (bodies es)))
       ++ restarted h t (length fs) (length (bodies es) + length (e .body)) (drop at (stage₂ size es fs e (length (bodies es))))
       ≡ stage₂ size es fs e (length (bodies es) + length (e .body))
@@ -92,7 +92,7 @@ module _ (size h t : ℕ) (es fs : List Entry) (e : Entry) (we : Wide h t es) (w
       restart-pad size _ _ h t o (o + length (e .body)) at (slots 0 es ++ slot o e) (bodies es ++ (e .body ++ bodies fs)) fs wf (before-rest at ea)
 
   -- The counts that this reads.
-  insert-counts : (at : ℕ) → 2 + length es * width h t + width h t ≡ at
+  insert-counts : (at : ℕ) → counters + length es * width h t + width h t ≡ at
       → counts h t (length fs) (drop at (stage₂ size es fs e (length (bodies es)))) ≡ length (bodies fs)
   insert-counts at ea =
       let o : ℕ = length (bodies es) in
@@ -136,7 +136,7 @@ pub record Numbers (w i n b start k size : ℕ) : Type 0 where
   pub split : i * w + (n - i) * w ≡ n * w
   pub under : i ≤ n
   pub part : start ≤ b
-  pub room : 2 + n * w + w + b + k ≤ size
+  pub room : counters + n * w + w + b + k ≤ size
   pub small : size < 2 ^ 32
 
 module _ (K : Known) where
@@ -150,11 +150,11 @@ module _ (K : Known) where
 
   -- Where slot i is, or goes.
   abbrev pub at : ℕ
-  at = 2 + K .i * w
+  at = counters + K .i * w
 
   -- Where the slots end.
   abbrev pub end : ℕ
-  end = 2 + K .n * w
+  end = counters + K .n * w
 
   -- All entries, and those before and from i on.
   abbrev D : List Entry

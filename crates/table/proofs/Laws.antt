@@ -9,7 +9,7 @@ use lib.ListN.{length, take, drop, set, getD, length-append, length-drop, take-a
 use lib.Seq.{take-set-le, drop-set-lt, drop-set-add, drop-cons, getD-drop, length-take-le, drop-drop, take-add, set-split, take-append-add}
 use Rattle.runs.specs.Words.{opened, pasted, spliced}
 use Rattle.runs.proofs.Laws.{paste-paste, store-paste, splice-done, opened-long}
-use Rattle.table.specs.Table.{width, restarted, counts}
+use Rattle.table.specs.Table.{span, width, restarted, counts}
 
 -- One slot fewer.
 pub peel : (m w : ℕ) → 0 < m → m * w ≡ (m - 1) * w + w
@@ -18,29 +18,29 @@ peel m w h =
     ap (λ (k : ℕ). k * w) e ∙ suc-mul (m - 1) w
 
 -- A slot up to its count, with o for its start.
-slot-front : (xs : List ℕ) (h o : ℕ) → h + 2 ≤ length xs → take (h + 2) (set xs h o) ≡ take h xs ++ (o ∷ (getD xs (h + 1) 0 ∷ []))
+slot-front : (xs : List ℕ) (h o : ℕ) → h + span ≤ length xs → take (h + span) (set xs h o) ≡ take h xs ++ (o ∷ (getD xs (h + 1) 0 ∷ []))
 slot-front xs h o l =
     let a : h < length xs = omega arith in
     let b : suc h < length xs = omega arith in
     let n : length (take h xs) ≡ h = length-take-le h xs (omega arith) in
-    ap (take (h + 2)) (set-split xs h o a)
-    ∙ ap (λ (k : ℕ). take (k + 2) (take h xs ++ (o ∷ drop (suc h) xs))) (sym n)
-    ∙ take-append-add (take h xs) (o ∷ drop (suc h) xs) 2
+    ap (take (h + span)) (set-split xs h o a)
+    ∙ ap (λ (k : ℕ). take (k + span) (take h xs ++ (o ∷ drop (suc h) xs))) (sym n)
+    ∙ take-append-add (take h xs) (o ∷ drop (suc h) xs) span
     ∙ rw (add-one, drop-cons xs (suc h) 0)
 
 -- A slot, with o for its start.
 pub slot-set : (xs : List ℕ) (h t o : ℕ) → width h t ≤ length xs
-    → take (width h t) (set xs h o) ≡ take h xs ++ (o ∷ (getD xs (h + 1) 0 ∷ take t (drop (h + 2) xs)))
+    → take (width h t) (set xs h o) ≡ take h xs ++ (o ∷ (getD xs (h + 1) 0 ∷ take t (drop (h + span) xs)))
 slot-set xs h t o l =
-    let r : List ℕ = take t (drop (h + 2) xs) in
-    take-add (h + 2) t (set xs h o)
-    ∙ (λ i. slot-front xs h o (omega arith) i ++ take t (drop-set-lt (h + 2) xs h o (omega arith) i))
+    let r : List ℕ = take t (drop (h + span) xs) in
+    take-add (h + span) t (set xs h o)
+    ∙ (λ i. slot-front xs h o (omega arith) i ++ take t (drop-set-lt (h + span) xs h o (omega arith) i))
     ∙ append-assoc (take h xs) (o ∷ (getD xs (h + 1) 0 ∷ [])) r
 
 -- The first slot's start counted anew, then those of the others.
 restarted-peel : (h t m o : ℕ) (xs : List ℕ) → 0 < m
     → restarted h t m o xs
-    ≡ take h xs ++ (o ∷ (getD xs (h + 1) 0 ∷ (take t (drop (h + 2) xs) ++ restarted h t (m - 1) (o + getD xs (h + 1) 0) (drop (width h t) xs))))
+    ≡ take h xs ++ (o ∷ (getD xs (h + 1) 0 ∷ (take t (drop (h + span) xs) ++ restarted h t (m - 1) (o + getD xs (h + 1) 0) (drop (width h t) xs))))
 unfolding restarted
 restarted-peel h t zero o xs l = absurd (not-suc-le-zero l)
 restarted-peel h t (suc m) o xs l =
@@ -73,13 +73,13 @@ restart-step s h t p m o l fits =
     let c = count-index s p h in
     let back : drop (p + width h t) (set s (p + h) o) ≡ drop (width h t) xs =
     drop-set-lt (p + width h t) s (p + h) o (omega arith) ∙ sym (drop-drop (width h t) p s) in
-    let front : take (p + width h t) (set s (p + h) o) ≡ take p s ++ (take h xs ++ (o ∷ (getD xs (h + 1) 0 ∷ take t (drop (h + 2) xs)))) =
+    let front : take (p + width h t) (set s (p + h) o) ≡ take p s ++ (take h xs ++ (o ∷ (getD xs (h + 1) 0 ∷ take t (drop (h + span) xs)))) =
     take-add p (width h t) (set s (p + h) o)
     ∙ (λ i. take-set-le p s (p + h) o (omega arith) i ++ take (width h t) (drop-set-add p s h o i))
     ∙ ap (λ (l : List ℕ). take p s ++ l) (slot-set xs h t o long) in
     let rest : List ℕ = restarted h t (m - 1) (o + getD xs (h + 1) 0) (drop (width h t) xs) in
     (λ i. front i ++ restarted h t (m - 1) (o + sym c i) (back i))
-    ∙ regroup (take p s) (take h xs) o (getD xs (h + 1) 0) (take t (drop (h + 2) xs)) rest
+    ∙ regroup (take p s) (take h xs) o (getD xs (h + 1) 0) (take t (drop (h + span) xs)) rest
     ∙ ap (λ (l : List ℕ). take p s ++ l) (sym (restarted-peel h t m o xs l))
 
 -- The counts of the slots that are left, before and after one slot's start is written.
@@ -97,22 +97,22 @@ restart-done s h t p zero o l = take-append-drop p s
 restart-done s h t p (suc m) o l = absurd (not-suc-le-zero l)
 
 -- A gap that is opened and then written over with p, a, k and q.
-pub put-slot-done : (s p q : List ℕ) (at used a k : ℕ) → at + (length p + 2 + length q) ≤ length s
-    → pasted (set (set (pasted (opened s at (length p + 2 + length q) used) at p) (at + length p) a) (at + length p + 1) k) (at + length p + 2) q
+pub put-slot-done : (s p q : List ℕ) (at used a k : ℕ) → at + (length p + span + length q) ≤ length s
+    → pasted (set (set (pasted (opened s at (length p + span + length q) used) at p) (at + length p) a) (at + length p + 1) k) (at + length p + span) q
     ≡ spliced s at used (p ++ (a ∷ (k ∷ q)))
 put-slot-done s p q at used a k room =
-    let w : ℕ = length p + 2 + length q in
+    let w : ℕ = length p + span + length q in
     let l : List ℕ = opened s at w used in
     let long : at + w ≤ length l = opened-long s at w used room in
     let p₁ : List ℕ = p ++ (a ∷ []) in
     let p₂ : List ℕ = p₁ ++ (k ∷ []) in
     let all : List ℕ = p ++ (a ∷ (k ∷ q)) in
     let e₁ : at + length p₁ ≡ at + length p + 1 = omega (arith, length-append p (a ∷ [])) in
-    let e₂ : at + length p₂ ≡ at + length p + 2 = omega (arith, length-append p₁ (k ∷ []), length-append p (a ∷ [])) in
+    let e₂ : at + length p₂ ≡ at + length p + span = omega (arith, length-append p₁ (k ∷ []), length-append p (a ∷ [])) in
     let flat : p₂ ++ q ≡ all = append-assoc p₁ (k ∷ []) q ∙ append-assoc p (a ∷ []) (k ∷ q) in
     let n : w ≡ length all = omega (arith, length-append p (a ∷ (k ∷ q))) in
-    ap (λ (x : List ℕ). pasted (set x (at + length p + 1) k) (at + length p + 2) q) (store-paste l p at (at + length p) a refl (omega arith))
-    ∙ ap (λ (x : List ℕ). pasted x (at + length p + 2) q) (store-paste l p₁ at (at + length p + 1) k e₁ (omega arith))
-    ∙ paste-paste l p₂ q at (at + length p + 2) e₂ (omega arith)
+    ap (λ (x : List ℕ). pasted (set x (at + length p + 1) k) (at + length p + span) q) (store-paste l p at (at + length p) a refl (omega arith))
+    ∙ ap (λ (x : List ℕ). pasted x (at + length p + span) q) (store-paste l p₁ at (at + length p + 1) k e₁ (omega arith))
+    ∙ paste-paste l p₂ q at (at + length p + span) e₂ (omega arith)
     ∙ (λ i. pasted (opened s at (n i) used) at (flat i))
     ∙ splice-done s all at used (omega (arith, n))

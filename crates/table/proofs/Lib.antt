@@ -10,3 +10,4 @@ pub mod Staying
 pub mod Clearing
 pub mod Setting
 pub mod Typed
+pub mod Tabled

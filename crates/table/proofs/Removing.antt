@@ -6,7 +6,7 @@ use native.Mathlib.Omega.{arith}
 use native.Mathlib.Nat.{suc-mul, add-mul}
 use lib.ListN.{length, take, drop, set, getD, length-append, length-drop}
 use Rattle.runs.specs.Words.{closed}
-use Rattle.table.specs.Table.{Entry, width, slots, bodies, pad, encode, Wide, decode, restarted, counts, Removable, startOf, removeAt}
+use Rattle.table.specs.Table.{counters, Entry, width, slots, bodies, pad, encode, Wide, decode, restarted, counts, Removable, startOf, removeAt}
 use Rattle.table.proofs.Tables.{bodies-append, length-slots, pad-close, restart-pad, counts-pad, encode-split}
 use Rattle.table.proofs.Sounds.{count-is, body-is, split-mul, nth, cut, start-is, slot-count-is, wide-before, wide-at, before}
 use Rattle.table.proofs.Inserting.{slot, length-slot}
@@ -46,8 +46,8 @@ module _ (size h t : ℕ) (es fs : List Entry) (e : Entry) (we : Wide h t es) (w
   l-bodies = rw (bodies-append es (e ∷ fs), length-append, length-append)
 
   -- The body goes out.
-  remove-1 : (at used : ℕ) → 2 + length (es ++ (e ∷ fs)) * width h t + length (bodies es) ≡ at
-      → 2 + length (es ++ (e ∷ fs)) * width h t + length (bodies (es ++ (e ∷ fs))) ≡ used → used ≤ size
+  remove-1 : (at used : ℕ) → counters + length (es ++ (e ∷ fs)) * width h t + length (bodies es) ≡ at
+      → counters + length (es ++ (e ∷ fs)) * width h t + length (bodies (es ++ (e ∷ fs))) ≡ used → used ≤ size
       → closed (encode size (es ++ (e ∷ fs))) at (length (e .body)) used ≡ out₁ size es fs e
   unfolding slots bodies
   remove-1 at used ea eu room =
@@ -69,8 +69,8 @@ module _ (size h t : ℕ) (es fs : List Entry) (e : Entry) (we : Wide h t es) (w
       rw (encode-split size es (e ∷ fs), a) (pad-close size p (e .body) (bodies fs) at k used lp refl (omega (arith, l-bodies)) room ∙ (simp append-assoc))
 
   -- The slot goes out.
-  remove-2 : (at used : ℕ) → 2 + length es * width h t ≡ at
-      → 2 + length (es ++ (e ∷ fs)) * width h t + length (bodies (es ++ (e ∷ fs))) ≡ used + length (e .body) → used ≤ size
+  remove-2 : (at used : ℕ) → counters + length es * width h t ≡ at
+      → counters + length (es ++ (e ∷ fs)) * width h t + length (bodies (es ++ (e ∷ fs))) ≡ used + length (e .body) → used ≤ size
       → closed (out₁ size es fs e) at (width h t) used ≡ out₂ size es fs e (length (bodies es) + length (e .body))
   remove-2 at used ea eu room =
       let p : List ℕ = length (es ++ (e ∷ fs)) ∷ (length (bodies (es ++ (e ∷ fs))) ∷ slots 0 es) in
@@ -80,14 +80,14 @@ module _ (size h t : ℕ) (es fs : List Entry) (e : Entry) (we : Wide h t es) (w
       pad-close size p (slot o e) q at (width h t) used lp (length-slot h t o e lh lt) lq room
 
   -- The starts behind it are counted anew.
-  remove-3 : (at : ℕ) → 2 + length es * width h t ≡ at
+  remove-3 : (at : ℕ) → counters + length es * width h t ≡ at
       → take at (out₂ size es fs e (length (bodies es) + length (e .body)))
       ++ restarted h t (length fs) (length (bodies es)) (drop at (out₂ size es fs e (length (bodies es) + length (e .body))))
       ≡ out₂ size es fs e (length (bodies es))
   remove-3 at ea = restart-pad size _ _ h t (o + k) o at (slots 0 es) (bodies es ++ bodies fs) fs wf (omega (arith, length-slots h t 0 es we))
 
   -- The counts that this reads.
-  remove-counts : (at : ℕ) → 2 + length es * width h t ≡ at
+  remove-counts : (at : ℕ) → counters + length es * width h t ≡ at
       → counts h t (length fs) (drop at (out₂ size es fs e (length (bodies es) + length (e .body)))) ≡ length (bodies fs)
   remove-counts at ea = counts-pad size _ _ h t (o + k) at (slots 0 es) (bodies es ++ bodies fs) fs wf (omega (arith, length-slots h t 0 es we))
 
@@ -118,7 +118,7 @@ pub record Found : Type 0 where
 pub record Placed (w i n b size : ℕ) : Type 0 where
   pub split : i * w + w + (n - i - 1) * w ≡ n * w
   pub under : i < n
-  pub room : 2 + n * w + b ≤ size
+  pub room : counters + n * w + b ≤ size
   pub small : size < 2 ^ 32
 
 module _ (K : Found) where
@@ -128,11 +128,11 @@ module _ (K : Found) where
 
   -- Where slot i is, or goes.
   abbrev pub at : ℕ
-  at = 2 + K .i * w
+  at = counters + K .i * w
 
   -- Where the slots end.
   abbrev pub end : ℕ
-  end = 2 + K .n * w
+  end = counters + K .n * w
 
   -- All entries, and those before, at and behind i.
   abbrev D : List Entry

@@ -6,7 +6,7 @@ use native.Mathlib.Omega.{arith}
 use lib.ListN.{length, take, drop, set, replicate, length-append, length-set}
 use lib.Seq.{set-append-left, set-split}
 use Rattle.runs.proofs.Laws.{set-append-add}
-use Rattle.table.specs.Table.{Entry, width, slots, bodies, pad, encode, Wide, decode, Sound}
+use Rattle.table.specs.Table.{counters, Entry, width, slots, bodies, pad, encode, Wide, decode, Sound}
 use Rattle.table.proofs.Tables.{bodies-append, length-slots, wide-append, encode-split}
 use Rattle.table.proofs.Sounds.{nth, cut, wide-before, wide-at, laid, before}
 use Rattle.table.proofs.After.{holds}
@@ -47,7 +47,7 @@ module _ (es fs : List Entry) (e : Entry) (l : List ℕ) where
 
 -- A store into word j of the head of entry e.
 pub encode-set : (size h t : ℕ) (es fs : List Entry) (e : Entry) → Wide h t es → length (e .head) ≡ h → (j : ℕ) → j < h → (x : ℕ)
-    → set (encode size (es ++ (e ∷ fs))) (2 + length es * width h t + j) x ≡ encode size (es ++ (withHead e (set (e .head) j x) ∷ fs))
+    → set (encode size (es ++ (e ∷ fs))) (counters + length es * width h t + j) x ≡ encode size (es ++ (withHead e (set (e .head) j x) ∷ fs))
 unfolding slots bodies
 encode-set size h t es fs e w le j lj x =
     let e′ : Entry = withHead e (set (e .head) j x) in
@@ -58,7 +58,7 @@ encode-set size h t es fs e w le j lj x =
     let a : List ℕ = n ∷ (b ∷ slots 0 es) in
     let c : List ℕ = o ∷ (k ∷ (e .tail ++ slots (o + k) fs)) in
     let y : List ℕ = bodies es ++ (e .body ++ bodies fs) in
-    let N : ℕ = 2 + length es * width h t in
+    let N : ℕ = counters + length es * width h t in
     let la : length a ≡ N = omega (arith, length-slots h t 0 es w) in
     let ll : length (a ++ ((e .head ++ c) ++ y)) ≡ length a + (length (e .head) + length c + length y) =
     length-append a ((e .head ++ c) ++ y)
@@ -83,11 +83,11 @@ module _ (h t : ℕ) (ws : List ℕ) (s : Sound h t ws) (i : ℕ) (l : i < lengt
   changed-cut = set-split (decode h t ws) i changed l
 
   -- Words with word j of the head of the entry at i set are the table of the entries with it set.
-  pub set-head : set ws (2 + i * width h t + j) x
+  pub set-head : set ws (counters + i * width h t + j) x
       ≡ encode (length ws) (set (decode h t ws) i (withHead (nth i (decode h t ws)) (set (nth i (decode h t ws) .head) j x)))
   set-head =
       let D : List Entry = decode h t ws in
-      (λ q. set (laid h t ws s i l q) (2 + sym (before h t ws s i l) q * width h t + j) x)
+      (λ q. set (laid h t ws s i l q) (counters + sym (before h t ws s i l) q * width h t + j) x)
       ∙ encode-set (length ws) h t (take i D) (drop (suc i) D) (nth i D) (wide-before h t ws s i l) (wide-at h t ws s i l .0 .0) j lj x
       ∙ ap (encode (length ws)) (sym changed-cut)
 
@@ -108,12 +108,12 @@ module _ (h t : ℕ) (ws : List ℕ) (s : Sound h t ws) (i : ℕ) (l : i < lengt
       ap bodies changed-cut ∙ bodies-with (take i D) (drop (suc i) D) (nth i D) (changed .head) ∙ ap bodies (sym (cut i D l))
 
   -- Such words are sound and hold the entries with it set.
-  pub set-head-sound : Sound h t (set ws (2 + i * width h t + j) x)
-      × (decode h t (set ws (2 + i * width h t + j) x)
+  pub set-head-sound : Sound h t (set ws (counters + i * width h t + j) x)
+      × (decode h t (set ws (counters + i * width h t + j) x)
       ≡ set (decode h t ws) i (withHead (nth i (decode h t ws)) (set (nth i (decode h t ws) .head) j x)))
   set-head-sound =
       let D : List Entry = decode h t ws in
-      let fits : 2 + length (set D i changed) * width h t + length (bodies (set D i changed)) ≤ length ws =
+      let fits : counters + length (set D i changed) * width h t + length (bodies (set D i changed)) ≤ length ws =
       rw (length-set D i changed, changed-bodies) (s .fits) in
       subst (λ (r : List ℕ). Sound h t r × (decode h t r ≡ set D i changed)) (sym set-head)
       (holds h t (length ws) (set D i changed) changed-wide fits)

@@ -6,7 +6,7 @@ use native.Mathlib.Omega.{arith}
 use native.Mathlib.Nat.{suc-mul, mul-le-mul-right, add-mul}
 use lib.ListN.{length, take, drop, getD, length-append, take-append-drop}
 use lib.Seq.{split-at, length-take-le, take-all}
-use Rattle.table.specs.Table.{Entry, width, bodies, pad, encode, Wide, decode, Sound, startOf}
+use Rattle.table.specs.Table.{counters, span, Entry, width, bodies, pad, encode, Wide, decode, Sound, startOf}
 use Rattle.table.proofs.Tables.{wide-left, wide-right, start-at, count-at, head-at, tail-at, head-part, body-at, bodies-append}
 
 -- A slot before others ends before they do.
@@ -37,7 +37,7 @@ cut i es l = split-at es i blank l
 
 module _ (h t : ℕ) (ws : List ℕ) (s : Sound h t ws) where
   -- Both counters are there.
-  pub long : 2 ≤ length ws
+  pub long : counters ≤ length ws
   long = omega (arith, s .fits)
 
   -- Word 0 counts the entries.
@@ -65,7 +65,7 @@ module _ (h t : ℕ) (ws : List ℕ) (s : Sound h t ws) where
 
   module _ (i : ℕ) (l : i < length (decode h t ws)) where
     -- The slot of an entry is there.
-    pub in-slot : 2 + i * width h t + width h t ≤ length ws
+    pub in-slot : counters + i * width h t + width h t ≤ length ws
     in-slot = omega (arith, s .fits, less-mul i (length (decode h t ws)) (width h t) l)
 
     -- The widths, of the entries as they are cut.
@@ -90,47 +90,47 @@ module _ (h t : ℕ) (ws : List ℕ) (s : Sound h t ws) where
     before = length-take-le i (decode h t ws) (omega arith)
 
     -- A slot's start is where its entry's body starts.
-    pub start-is : getD ws (2 + i * width h t + h) 0 ≡ startOf i (decode h t ws)
+    pub start-is : getD ws (counters + i * width h t + h) 0 ≡ startOf i (decode h t ws)
     unfolding startOf
     start-is =
         let D : List Entry = decode h t ws in
-        (λ q. getD (laid q) (2 + sym before q * width h t + h) 0)
+        (λ q. getD (laid q) (counters + sym before q * width h t + h) 0)
         ∙ start-at (length ws) h t (take i D) (drop (suc i) D) (nth i D) wide-before (wide-at .0 .0)
 
     -- A slot's count is the length of its entry's body.
-    pub slot-count-is : getD ws (2 + i * width h t + h + 1) 0 ≡ length (nth i (decode h t ws) .body)
+    pub slot-count-is : getD ws (counters + i * width h t + h + 1) 0 ≡ length (nth i (decode h t ws) .body)
     slot-count-is =
         let D : List Entry = decode h t ws in
-        (λ q. getD (laid q) (2 + sym before q * width h t + h + 1) 0)
+        (λ q. getD (laid q) (counters + sym before q * width h t + h + 1) 0)
         ∙ count-at (length ws) h t (take i D) (drop (suc i) D) (nth i D) wide-before (wide-at .0 .0)
 
     -- Word j of a slot is word j of its entry's head.
-    pub head-is : (j : ℕ) → j < h → getD ws (2 + i * width h t + j) 0 ≡ getD (nth i (decode h t ws) .head) j 0
+    pub head-is : (j : ℕ) → j < h → getD ws (counters + i * width h t + j) 0 ≡ getD (nth i (decode h t ws) .head) j 0
     head-is j jh =
         let D : List Entry = decode h t ws in
-        (λ q. getD (laid q) (2 + sym before q * width h t + j) 0)
+        (λ q. getD (laid q) (counters + sym before q * width h t + j) 0)
         ∙ head-at (length ws) h t (take i D) (drop (suc i) D) (nth i D) wide-before (wide-at .0 .0) j jh
 
     -- Word j behind a slot's count is word j of its entry's tail.
-    pub tail-is : (j : ℕ) → j < t → getD ws (2 + i * width h t + h + 2 + j) 0 ≡ getD (nth i (decode h t ws) .tail) j 0
+    pub tail-is : (j : ℕ) → j < t → getD ws (counters + i * width h t + h + span + j) 0 ≡ getD (nth i (decode h t ws) .tail) j 0
     tail-is j jt =
         let D : List Entry = decode h t ws in
         let u : j < length (nth i D .tail) = omega (arith, wide-at .0 .1) in
-        (λ q. getD (laid q) (2 + sym before q * width h t + h + 2 + j) 0)
+        (λ q. getD (laid q) (counters + sym before q * width h t + h + span + j) 0)
         ∙ tail-at (length ws) h t (take i D) (drop (suc i) D) (nth i D) wide-before (wide-at .0 .0) j u
 
     -- The body words of an entry.
-    pub part-is : take (length (nth i (decode h t ws) .body)) (drop (2 + length (decode h t ws) * width h t + startOf i (decode h t ws)) ws)
+    pub part-is : take (length (nth i (decode h t ws) .body)) (drop (counters + length (decode h t ws) * width h t + startOf i (decode h t ws)) ws)
         ≡ nth i (decode h t ws) .body
     unfolding startOf
     part-is =
         let D : List Entry = decode h t ws in
-        (λ q. take (length (nth i D .body)) (drop (2 + length (cut i D l q) * width h t + length (bodies (take i D))) (laid q)))
+        (λ q. take (length (nth i D .body)) (drop (counters + length (cut i D l q) * width h t + length (bodies (take i D))) (laid q)))
         ∙ body-at (length ws) h t (take i D) (drop (suc i) D) (nth i D) wides
 
     -- The head words of an entry.
-    pub head-part-is : take h (drop (2 + i * width h t) ws) ≡ nth i (decode h t ws) .head
+    pub head-part-is : take h (drop (counters + i * width h t) ws) ≡ nth i (decode h t ws) .head
     head-part-is =
         let D : List Entry = decode h t ws in
-        (λ q. take h (drop (2 + sym before q * width h t) (laid q)))
+        (λ q. take h (drop (counters + sym before q * width h t) (laid q)))
         ∙ head-part (length ws) h t (take i D) (drop (suc i) D) (nth i D) wide-before (wide-at .0 .0)

@@ -11,7 +11,7 @@ use lib.Seq.{drop-cons, take-suc, getD-take, drop-drop}
 use borrow.Author.Tests.{eq-eqb, ne-eqb}
 use Rattle.runs.specs.Words.{pasted}
 use Rattle.runs.proofs.Laws.{length-pasted, paste-none, paste-paste, take-pasted, drop-pasted}
-use Rattle.table.specs.Table.{Entry, width, bodies, Wide, decode, startOf, stayingEntries, Clearable}
+use Rattle.table.specs.Table.{counters, Entry, width, bodies, Wide, decode, startOf, stayingEntries, goneEntries, Clearable}
 use Rattle.table.proofs.Tables.{bodies-append}
 use Rattle.table.proofs.Sounds.{nth, blank, count-is, start-under, less-mul, slot-count-is, head-is, part-is}
 
@@ -39,6 +39,22 @@ module _ (column value : ℕ) where
       with-it : (b : Bool) (ks : List Entry) → Wide h t ks → Wide h t (cond b ks (e ∷ ks))
       with-it true ks v = v
       with-it false ks v = (w .0, v)
+
+  -- Those that go and those that stay are all.
+  pub gone-staying : (es : List Entry) → goneEntries column value es + length (stayingEntries column value es) ≡ length es
+  unfolding goneEntries stayingEntries
+  gone-staying [] = refl
+  gone-staying (e ∷ es) =
+      with-it (eqb (getD (e .head) column 0) value) (goneEntries column value es) (stayingEntries column value es) (gone-staying es)
+    where
+      -- With the first entry or without it.
+      with-it : (b : Bool) (n : ℕ) (ks : List Entry) → n + length ks ≡ length es → cond b (suc n) n + length (cond b ks (e ∷ ks)) ≡ suc (length es)
+      with-it true n ks v = omega arith
+      with-it false n ks v = omega arith
+
+  -- So many went that those that stay and they are all.
+  pub went : (es : List Entry) {n : ℕ} → n ≡ goneEntries column value es → n + length (stayingEntries column value es) ≡ length es
+  went es e = omega (arith, e, gone-staying es)
 
   -- There are not more entries.
   pub staying-length : (es : List Entry) → length (stayingEntries column value es) ≤ length es
@@ -98,7 +114,7 @@ pub record Packed (ws : List ℕ) (h t column value n end : ℕ) (s : List ℕ) 
   pub may : Clearable h t ws column
   pub some : 0 < n
   pub many : n ≡ length (decode h t ws)
-  pub slots-end : end ≡ 2 + n * width h t
+  pub slots-end : end ≡ counters + n * width h t
   pub long : length s ≡ length ws
   pub turn : i ≤ n
   pub above : end ≤ to
@@ -111,7 +127,7 @@ pub record Packed (ws : List ℕ) (h t column value n end : ℕ) (s : List ℕ) 
 
 -- It holds at the start.
 abbrev pub packed : (ws : List ℕ) (h t column value n : ℕ) → Clearable h t ws column × (0 < length (decode h t ws)) → n ≡ getD ws 0 0
-    → Packed ws h t column value n (2 + n * width h t) ws (2 + n * width h t) (2 + n * width h t) 0
+    → Packed ws h t column value n (counters + n * width h t) ws (counters + n * width h t) (counters + n * width h t) 0
 unfolding startOf bodies
 packed ws h t column value n may read =
     record {
@@ -147,12 +163,12 @@ module _ {ws : List ℕ} {h t column value n end : ℕ} {s : List ℕ} {from to 
 
   -- Where no entry is left, all is done.
   pub pack-done : n ≤ i
-      → (s ≡ pasted ws (2 + length D * width h t) (bodies (stayingEntries column value D))) × (to - end ≡ length (bodies (stayingEntries column value D)))
+      → (s ≡ pasted ws (counters + length D * width h t) (bodies (stayingEntries column value D))) × (to - end ≡ length (bodies (stayingEntries column value D)))
   unfolding stayingEntries bodies
   pack-done l =
       let past : length D ≤ i = omega (arith, P .many) in
       let none : drop i D ≡ [] = drop-of-length-le D past in
-      let e : end ≡ 2 + length D * width h t = P .slots-end ∙ ap (λ (k : ℕ). 2 + k * width h t) (P .many) in
+      let e : end ≡ counters + length D * width h t = P .slots-end ∙ ap (λ (k : ℕ). counters + k * width h t) (P .many) in
       let z : length (bodies (stayingEntries column value (drop i D))) ≡ 0 = ap (λ (d : List Entry). length (bodies (stayingEntries column value d))) none in (
         sym (paste-none s to) ∙ ap (λ (d : List Entry). pasted s to (bodies (stayingEntries column value d))) (sym none)
             ∙ P .left ∙ ap (λ (k : ℕ). pasted ws k (bodies (stayingEntries column value D))) e,
@@ -165,7 +181,7 @@ module _ {ws : List ℕ} {h t column value n end : ℕ} {s : List ℕ} {from to 
     is-in = omega (arith, P .many)
 
     -- Its slot lies within the slots.
-    pub pack-slot : 2 + i * width h t + width h t ≤ end
+    pub pack-slot : counters + i * width h t + width h t ≤ end
     pack-slot = omega (arith, P .slots-end, less-mul i n (width h t) l)
 
     -- A word of the slots is as it was.
@@ -173,15 +189,15 @@ module _ {ws : List ℕ} {h t column value n end : ℕ} {s : List ℕ} {from to 
     same-word j u = sym (getD-take end s j 0 u) ∙ ap (λ (r : List ℕ). getD r j 0) (P .same-slots) ∙ getD-take end ws j 0 u
 
     -- The word read in the column is that of the entry's head.
-    pub pack-column : getD s (2 + i * width h t + column) 0 ≡ getD (nth i D .head) column 0
+    pub pack-column : getD s (counters + i * width h t + column) 0 ≡ getD (nth i D .head) column 0
     pack-column =
-        same-word (2 + i * width h t + column) (omega (arith, pack-slot, P .may .within))
+        same-word (counters + i * width h t + column) (omega (arith, pack-slot, P .may .within))
         ∙ head-is h t ws (P .may .sound) i is-in column (P .may .within)
 
-    module _ (count : ℕ) (read : count ≡ getD s (2 + i * width h t + h + 1) 0) where
+    module _ (count : ℕ) (read : count ≡ getD s (counters + i * width h t + h + 1) 0) where
       -- The count read is the length of the entry's body.
       pack-count : length (nth i D .body) ≡ count
-      pack-count = sym (read ∙ same-word (2 + i * width h t + h + 1) (omega (arith, pack-slot)) ∙ slot-count-is h t ws (P .may .sound) i is-in)
+      pack-count = sym (read ∙ same-word (counters + i * width h t + h + 1) (omega (arith, pack-slot)) ∙ slot-count-is h t ws (P .may .sound) i is-in)
 
       -- The next body starts where this one ends.
       pack-next : from + count ≡ end + startOf (i + 1) D
@@ -198,12 +214,12 @@ module _ {ws : List ℕ} {h t column value n end : ℕ} {s : List ℕ} {from to 
       -- The words read are the entry's body.
       pack-body : take count (drop from s) ≡ nth i D .body
       pack-body =
-          let e : from ≡ 2 + length D * width h t + startOf i D =
+          let e : from ≡ counters + length D * width h t + startOf i D =
           omega (arith, P .start, P .slots-end, ap (λ (k : ℕ). k * width h t) (P .many)) in
           ap (take count) (P .same-bodies) ∙ (λ j. take (sym pack-count j) (drop (e j) ws)) ∙ part-is h t ws (P .may .sound) i is-in
 
       -- A turn in which the entry goes out.
-      pub pack-out : getD s (2 + i * width h t + column) 0 ≡ value → Packed ws h t column value n end s (from + count) to (i + 1)
+      pub pack-out : getD s (counters + i * width h t + column) 0 ≡ value → Packed ws h t column value n end s (from + count) to (i + 1)
       pack-out q =
           let e = bodies-out column value i D is-in (sym pack-column ∙ q) in
           record {
@@ -223,7 +239,7 @@ module _ {ws : List ℕ} {h t column value n end : ℕ} {s : List ℕ} {from to 
           }
 
       -- A turn in which it stays.
-      pub pack-in : (getD s (2 + i * width h t + column) 0 ≡ value → ⊥) → (u : List ℕ) → u ≡ pasted s to (take count (drop from s))
+      pub pack-in : (getD s (counters + i * width h t + column) 0 ≡ value → ⊥) → (u : List ℕ) → u ≡ pasted s to (take count (drop from s))
           → Packed ws h t column value n end u (from + count) (to + count) (i + 1)
       pack-in q u made =
           let x : List ℕ = nth i D .body in

@@ -7,7 +7,7 @@ use native.Mathlib.Nat.{add-zero, zero-add, add-assoc, suc-mul, zero-mul}
 use lib.ListN.{length, take, drop, getD, replicate, length-append, length-replicate, replicate-append-replicate, List·getD-append}
 use lib.Seq.{take-at, drop-at, drop-drop, drop-append-add, getD-append-add, getD-at, take-append-seam}
 use Rattle.runs.specs.Words.{spliced, closed}
-use Rattle.table.specs.Table.{Entry, width, slots, bodies, pad, encode, Wide, restarted, counts}
+use Rattle.table.specs.Table.{counters, span, Entry, width, slots, bodies, pad, encode, Wide, restarted, counts}
 
 -- ---- slots and bodies
 
@@ -114,8 +114,8 @@ pad-close size p x q at k used lp lx lq room =
 
 module _ (p q u : List ℕ) (a k h t : ℕ) (lp : length p ≡ h) (lq : length q ≡ t) where
   -- What stands behind the count.
-  slot-on : drop (h + 2) (p ++ (a ∷ (k ∷ (q ++ u)))) ≡ q ++ u
-  slot-on = ap (λ (n : ℕ). drop (n + 2) (p ++ (a ∷ (k ∷ (q ++ u))))) (sym lp) ∙ drop-append-add p (a ∷ (k ∷ (q ++ u))) 2
+  slot-on : drop (h + span) (p ++ (a ∷ (k ∷ (q ++ u)))) ≡ q ++ u
+  slot-on = ap (λ (n : ℕ). drop (n + span) (p ++ (a ∷ (k ∷ (q ++ u))))) (sym lp) ∙ drop-append-add p (a ∷ (k ∷ (q ++ u))) span
 
   -- The slot's head.
   pub slot-head : take h (p ++ (a ∷ (k ∷ (q ++ u)))) ≡ p
@@ -130,12 +130,12 @@ module _ (p q u : List ℕ) (a k h t : ℕ) (lp : length p ≡ h) (lq : length q
   slot-count = ap (λ (n : ℕ). getD (p ++ (a ∷ (k ∷ (q ++ u)))) (n + 1) 0) (sym lp) ∙ getD-append-add p (a ∷ (k ∷ (q ++ u))) 1 0
 
   -- The slot's tail.
-  pub slot-tail : take t (drop (h + 2) (p ++ (a ∷ (k ∷ (q ++ u))))) ≡ q
+  pub slot-tail : take t (drop (h + span) (p ++ (a ∷ (k ∷ (q ++ u))))) ≡ q
   slot-tail = ap (take t) slot-on ∙ take-at q u t lq
 
   -- What stands behind the slot.
   pub slot-rest : drop (width h t) (p ++ (a ∷ (k ∷ (q ++ u)))) ≡ u
-  slot-rest = sym (drop-drop t (h + 2) (p ++ (a ∷ (k ∷ (q ++ u))))) ∙ ap (drop t) slot-on ∙ drop-at q u t lq
+  slot-rest = sym (drop-drop t (h + span) (p ++ (a ∷ (k ∷ (q ++ u))))) ∙ ap (drop t) slot-on ∙ drop-at q u t lq
 
   -- One slot with its start counted anew.
   restarted-slot : (m o : ℕ) → restarted h t (suc m) o (p ++ (a ∷ (k ∷ (q ++ u)))) ≡ p ++ (o ∷ (k ∷ (q ++ restarted h t m (o + k) u)))
@@ -184,36 +184,36 @@ encode-split size es fs = rw (slots-append, bodies-append es fs, zero-add, appen
 
 -- A padded table in three parts, with the number of its zeros.
 pub pad-form : (size n b : ℕ) (x y z : List ℕ)
-    → pad size (n ∷ (b ∷ (x ++ (y ++ z)))) ≡ (n ∷ (b ∷ x)) ++ (y ++ (z ++ replicate (size - (2 + length x + length y + length z)) 0))
+    → pad size (n ∷ (b ∷ (x ++ (y ++ z)))) ≡ (n ∷ (b ∷ x)) ++ (y ++ (z ++ replicate (size - (counters + length x + length y + length z)) 0))
 unfolding pad
 pad-form size n b x y z =
-    let e : suc (suc (length (x ++ (y ++ z)))) ≡ 2 + length x + length y + length z = simp length-append (omega arith) in
+    let e : suc (suc (length (x ++ (y ++ z)))) ≡ counters + length x + length y + length z = simp length-append (omega arith) in
     rw (append-assoc, append-assoc y z, e)
 
 -- What `restart` makes of a table from the slot behind x on.
-pub restart-pad : (size n b h t q o at : ℕ) (x z : List ℕ) (es : List Entry) → Wide h t es → 2 + length x ≡ at
+pub restart-pad : (size n b h t q o at : ℕ) (x z : List ℕ) (es : List Entry) → Wide h t es → counters + length x ≡ at
     → take at (pad size (n ∷ (b ∷ (x ++ (slots q es ++ z)))))
     ++ restarted h t (length es) o (drop at (pad size (n ∷ (b ∷ (x ++ (slots q es ++ z))))))
     ≡ pad size (n ∷ (b ∷ (x ++ (slots o es ++ z))))
 restart-pad size n b h t q o at x z es w l =
     let p : List ℕ = n ∷ (b ∷ x) in
     let lp : length p ≡ at = omega arith in
-    let zeros : List ℕ = replicate (size - (2 + length x + length (slots q es) + length z)) 0 in
+    let zeros : List ℕ = replicate (size - (counters + length x + length (slots q es) + length z)) 0 in
     let u : List ℕ = slots q es ++ (z ++ zeros) in
     let same : length (slots q es) ≡ length (slots o es) = length-slots h t q es w ∙ sym (length-slots h t o es w) in
     (λ i. take at (pad-form size n b x (slots q es) z i) ++ restarted h t (length es) o (drop at (pad-form size n b x (slots q es) z i)))
     ∙ (λ i. take-at p u at lp i ++ restarted h t (length es) o (drop-at p u at lp i))
     ∙ ap (λ (r : List ℕ). p ++ r) (restarted-slots h t o q es (z ++ zeros) w)
-    ∙ ap (λ (m : ℕ). p ++ (slots o es ++ (z ++ replicate (size - (2 + length x + m + length z)) 0))) same
+    ∙ ap (λ (m : ℕ). p ++ (slots o es ++ (z ++ replicate (size - (counters + length x + m + length z)) 0))) same
     ∙ sym (pad-form size n b x (slots o es) z)
 
 -- The counts that `restart` reads there.
-pub counts-pad : (size n b h t q at : ℕ) (x z : List ℕ) (es : List Entry) → Wide h t es → 2 + length x ≡ at
+pub counts-pad : (size n b h t q at : ℕ) (x z : List ℕ) (es : List Entry) → Wide h t es → counters + length x ≡ at
     → counts h t (length es) (drop at (pad size (n ∷ (b ∷ (x ++ (slots q es ++ z)))))) ≡ length (bodies es)
 counts-pad size n b h t q at x z es w l =
     let p : List ℕ = n ∷ (b ∷ x) in
     let lp : length p ≡ at = omega arith in
-    let u : List ℕ = z ++ replicate (size - (2 + length x + length (slots q es) + length z)) 0 in
+    let u : List ℕ = z ++ replicate (size - (counters + length x + length (slots q es) + length z)) 0 in
     rw (pad-form size n b x (slots q es) z, drop-at p (slots q es ++ u) at lp, counts-slots h t q es u w)
 
 -- ---- one entry's words
@@ -244,26 +244,26 @@ module _ (size h t : ℕ) (es fs : List Entry) (e : Entry) (w : Wide h t es) (l 
   behind = length (bodies es) ∷ (length (e .body) ∷ (e .tail ++ encode-at size es fs e .0))
 
   -- Where the start of entry e stands.
-  before-slot : length (front es fs e) ≡ 2 + length es * width h t + h
+  before-slot : length (front es fs e) ≡ counters + length es * width h t + h
   before-slot = omega (arith, length-append (slots 0 es) (e .head), length-slots h t 0 es w)
 
   -- The start.
-  pub start-at : getD (encode size (es ++ (e ∷ fs))) (2 + length es * width h t + h) 0 ≡ length (bodies es)
+  pub start-at : getD (encode size (es ++ (e ∷ fs))) (counters + length es * width h t + h) 0 ≡ length (bodies es)
   start-at =
-      ap (λ (x : List ℕ). getD x (2 + length es * width h t + h) 0) (encode-at size es fs e .1)
-      ∙ getD-at (front es fs e) (length (bodies es)) (length (e .body) ∷ (e .tail ++ encode-at size es fs e .0)) 0 (2 + length es * width h t + h) before-slot
+      ap (λ (x : List ℕ). getD x (counters + length es * width h t + h) 0) (encode-at size es fs e .1)
+      ∙ getD-at (front es fs e) (length (bodies es)) (length (e .body) ∷ (e .tail ++ encode-at size es fs e .0)) 0 (counters + length es * width h t + h) before-slot
 
   -- The count.
-  pub count-at : getD (encode size (es ++ (e ∷ fs))) (2 + length es * width h t + h + 1) 0 ≡ length (e .body)
+  pub count-at : getD (encode size (es ++ (e ∷ fs))) (counters + length es * width h t + h + 1) 0 ≡ length (e .body)
   count-at =
-      ap (λ (x : List ℕ). getD x (2 + length es * width h t + h + 1) 0) (encode-at size es fs e .1)
+      ap (λ (x : List ℕ). getD x (counters + length es * width h t + h + 1) 0) (encode-at size es fs e .1)
       ∙ ap (λ (n : ℕ). getD (front es fs e ++ behind) (n + 1) 0) (sym before-slot)
       ∙ getD-append-add (front es fs e) behind 1 0
 
   -- Word j of the tail.
-  pub tail-at : (j : ℕ) → j < length (e .tail) → getD (encode size (es ++ (e ∷ fs))) (2 + length es * width h t + h + 2 + j) 0 ≡ getD (e .tail) j 0
+  pub tail-at : (j : ℕ) → j < length (e .tail) → getD (encode size (es ++ (e ∷ fs))) (counters + length es * width h t + h + span + j) 0 ≡ getD (e .tail) j 0
   tail-at j jt =
-      let n : 2 + length es * width h t + h + 2 + j ≡ length (front es fs e) + suc (suc j) = omega (arith, before-slot) in
+      let n : counters + length es * width h t + h + span + j ≡ length (front es fs e) + suc (suc j) = omega (arith, before-slot) in
       (λ i. getD (encode-at size es fs e .1 i) (n i) 0)
       ∙ getD-append-add (front es fs e) behind (suc (suc j)) 0
       ∙ List·getD-append (e .tail) (encode-at size es fs e .0) 0 j jt
@@ -273,7 +273,7 @@ module _ (size h t : ℕ) (es fs : List Entry) (e : Entry) (w : Wide h t es) (l 
   above = length (es ++ (e ∷ fs)) ∷ (length (bodies (es ++ (e ∷ fs))) ∷ slots 0 es)
 
   -- Where the slot of entry e stands.
-  above-slot : length above ≡ 2 + length es * width h t
+  above-slot : length above ≡ counters + length es * width h t
   above-slot = omega (arith, length-slots h t 0 es w)
 
   -- A table from the slot of entry e on.
@@ -281,35 +281,35 @@ module _ (size h t : ℕ) (es fs : List Entry) (e : Entry) (w : Wide h t es) (l 
   encode-slot = encode-at size es fs e .1 ∙ append-assoc above (e .head) behind
 
   -- Word j of the head.
-  pub head-at : (j : ℕ) → j < h → getD (encode size (es ++ (e ∷ fs))) (2 + length es * width h t + j) 0 ≡ getD (e .head) j 0
+  pub head-at : (j : ℕ) → j < h → getD (encode size (es ++ (e ∷ fs))) (counters + length es * width h t + j) 0 ≡ getD (e .head) j 0
   head-at j jh =
       (λ i. getD (encode-slot i) (sym above-slot i + j) 0)
       ∙ getD-append-add above (e .head ++ behind) j 0
       ∙ List·getD-append (e .head) behind 0 j (omega arith)
 
   -- The head itself.
-  pub head-part : take h (drop (2 + length es * width h t) (encode size (es ++ (e ∷ fs)))) ≡ e .head
+  pub head-part : take h (drop (counters + length es * width h t) (encode size (es ++ (e ∷ fs)))) ≡ e .head
   head-part =
-      ap (λ (x : List ℕ). take h (drop (2 + length es * width h t) x)) encode-slot
-      ∙ ap (take h) (drop-at above (e .head ++ behind) (2 + length es * width h t) above-slot)
+      ap (λ (x : List ℕ). take h (drop (counters + length es * width h t) x)) encode-slot
+      ∙ ap (take h) (drop-at above (e .head ++ behind) (counters + length es * width h t) above-slot)
       ∙ take-at (e .head) behind h l
 
 -- The body of entry e.
 pub body-at : (size h t : ℕ) (es fs : List Entry) (e : Entry) → Wide h t (es ++ (e ∷ fs))
-    → take (length (e .body)) (drop (2 + length (es ++ (e ∷ fs)) * width h t + length (bodies es)) (encode size (es ++ (e ∷ fs)))) ≡ e .body
+    → take (length (e .body)) (drop (counters + length (es ++ (e ∷ fs)) * width h t + length (bodies es)) (encode size (es ++ (e ∷ fs)))) ≡ e .body
 unfolding bodies encode
 body-at size h t es fs e w =
     let all : List Entry = es ++ (e ∷ fs) in
     let x : List ℕ = slots 0 all ++ bodies es in
     let p : List ℕ = length all ∷ (length (bodies all) ∷ x) in
-    let z : List ℕ = bodies fs ++ replicate (size - (2 + length x + length (e .body) + length (bodies fs))) 0 in
-    let lp : length p ≡ 2 + length all * width h t + length (bodies es) = omega (arith, length-append (slots 0 all) (bodies es), length-slots h t 0 all w) in
+    let z : List ℕ = bodies fs ++ replicate (size - (counters + length x + length (e .body) + length (bodies fs))) 0 in
+    let lp : length p ≡ counters + length all * width h t + length (bodies es) = omega (arith, length-append (slots 0 all) (bodies es), length-slots h t 0 all w) in
     let a : slots 0 all ++ bodies all ≡ x ++ (e .body ++ bodies fs) =
     ap (λ (l : List ℕ). slots 0 all ++ l) (bodies-append es (e ∷ fs)) ∙ sym (append-assoc (slots 0 all) (bodies es) (e .body ++ bodies fs)) in
     let f : encode size all ≡ p ++ (e .body ++ z) =
     open-up all ∙ ap (λ (l : List ℕ). pad size (length all ∷ (length (bodies all) ∷ l))) a
     ∙ pad-form size (length all) (length (bodies all)) x (e .body) (bodies fs) in
-    rw (f, drop-at p (e .body ++ z) (2 + length all * width h t + length (bodies es)) lp) (take-append-seam (e .body) z)
+    rw (f, drop-at p (e .body ++ z) (counters + length all * width h t + length (bodies es)) lp) (take-append-seam (e .body) z)
   where
     open-up : (all : List Entry) → encode size all ≡ pad size (length all ∷ (length (bodies all) ∷ (slots 0 all ++ bodies all)))
     open-up all = refl

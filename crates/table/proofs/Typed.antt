@@ -6,7 +6,7 @@ use Prim.Native.Nat.{ℕ, zero, suc, _+_, _*_, _≤_, _<_}
 use native.Mathlib.Omega.{arith}
 use native.Mathlib.Nat.{add-zero}
 use lib.ListN.{length, take, drop, getD, length-append, length-map, List·getD-map}
-use Rattle.table.specs.Table.{Entry, width, bodies, encode, decode, insertAt, removeAt, Wide, Sound, startOf, wellFormed}
+use Rattle.table.specs.Table.{counters, Entry, width, bodies, encode, decode, insertAt, removeAt, Wide, Sound, startOf, wellFormed}
 use Rattle.table.proofs.Sounds.{blank, nth, count-is, body-is, in-slot, wide-at, start-is, slot-count-is, head-is, part-is}
 use Rattle.table.proofs.Exact.{decode-encode, length-encode, encode-passes}
 
@@ -115,9 +115,9 @@ module _ {R : Type 0} {h t : ℕ} {toEntry : R → Entry} {ofEntry : Entry → R
   entries-wide [] = tt
   entries-wide (r ∷ rs) = (T .wide r, entries-wide rs)
 
-  module _ (size : ℕ) (rs : List R) (fits : 2 + length rs * width h t + bodied toEntry rs ≤ size) where
+  module _ (size : ℕ) (rs : List R) (fits : counters + length rs * width h t + bodied toEntry rs ≤ size) where
     -- Entries of records that fit, fit.
-    entries-fit : 2 + length (map toEntry rs) * width h t + length (bodies (map toEntry rs)) ≤ size
+    entries-fit : counters + length (map toEntry rs) * width h t + length (bodies (map toEntry rs)) ≤ size
     entries-fit = rw (length-map rs toEntry) fits
 
     -- What is written is read back.
@@ -177,41 +177,41 @@ module _ {R : Type 0} {h t : ℕ} {toEntry : R → Entry} {ofEntry : Entry → R
           ap (λ es. length (bodies (take i es))) decoded ∙ ap (λ es. length (bodies es)) (take-map toEntry i (map ofEntry (decode h t ws)))
 
       -- Slot i lies within the words.
-      pub slot-within : 2 + i * width h t + width h t ≤ length ws
+      pub slot-within : counters + i * width h t + width h t ≤ length ws
       slot-within = in-slot h t ws s i within
 
       -- Word j of slot i is head word j of record i.
       pub head-word : (j : ℕ) → j < h
-          → getD ws (2 + i * width h t + j) 0 ≡ getD (toEntry (getD (map ofEntry (decode h t ws)) i (ofEntry blank)) .head) j 0
+          → getD ws (counters + i * width h t + j) 0 ≡ getD (toEntry (getD (map ofEntry (decode h t ws)) i (ofEntry blank)) .head) j 0
       head-word j k = head-is h t ws s i within j k ∙ ap (λ e. getD (e .head) j 0) entry-is
 
       -- The first word of slot i is the first head word of record i.
-      pub first-word : 0 < h → getD ws (2 + i * width h t) 0 ≡ getD (toEntry (getD (map ofEntry (decode h t ws)) i (ofEntry blank)) .head) 0 0
-      first-word k = ap (λ (m : ℕ). getD ws m 0) (sym (add-zero (2 + i * width h t))) ∙ head-word 0 k
+      pub first-word : 0 < h → getD ws (counters + i * width h t) 0 ≡ getD (toEntry (getD (map ofEntry (decode h t ws)) i (ofEntry blank)) .head) 0 0
+      first-word k = ap (λ (m : ℕ). getD ws m 0) (sym (add-zero (counters + i * width h t))) ∙ head-word 0 k
 
       -- Behind the head words of slot i: where its body starts.
-      pub start-word : getD ws (2 + i * width h t + h) 0 ≡ bodied toEntry (take i (map ofEntry (decode h t ws)))
+      pub start-word : getD ws (counters + i * width h t + h) 0 ≡ bodied toEntry (take i (map ofEntry (decode h t ws)))
       start-word = start-is h t ws s i within ∙ start-of
 
       -- Behind the start: how many words its body has.
-      pub length-word : getD ws (2 + i * width h t + h + 1) 0 ≡ length (toEntry (getD (map ofEntry (decode h t ws)) i (ofEntry blank)) .body)
+      pub length-word : getD ws (counters + i * width h t + h + 1) 0 ≡ length (toEntry (getD (map ofEntry (decode h t ws)) i (ofEntry blank)) .body)
       length-word = slot-count-is h t ws s i within ∙ ap (λ e. length (e .body)) entry-is
 
       -- The body of record i, as the part of the words that it is.
       pub body-part :
           take (length (toEntry (getD (map ofEntry (decode h t ws)) i (ofEntry blank)) .body))
-          (drop (2 + length (map ofEntry (decode h t ws)) * width h t + bodied toEntry (take i (map ofEntry (decode h t ws)))) ws)
+          (drop (counters + length (map ofEntry (decode h t ws)) * width h t + bodied toEntry (take i (map ofEntry (decode h t ws)))) ws)
           ≡ toEntry (getD (map ofEntry (decode h t ws)) i (ofEntry blank)) .body
       body-part =
-          (λ q. take (length (sym entry-is q .body)) (drop (2 + length-records q * width h t + sym start-of q) ws))
+          (λ q. take (length (sym entry-is q .body)) (drop (counters + length-records q * width h t + sym start-of q) ws))
           ∙ part-is h t ws s i within
           ∙ ap (λ e. e .body) entry-is
 
       -- It ends within the words.
-      pub body-within : 2 + length (map ofEntry (decode h t ws)) * width h t + bodied toEntry (take i (map ofEntry (decode h t ws)))
+      pub body-within : counters + length (map ofEntry (decode h t ws)) * width h t + bodied toEntry (take i (map ofEntry (decode h t ws)))
           + length (toEntry (getD (map ofEntry (decode h t ws)) i (ofEntry blank)) .body) ≤ length ws
       body-within =
           let rs : List R = map ofEntry (decode h t ws) in
-          let f : 2 + length rs * width h t + bodied toEntry rs ≤ length ws =
+          let f : counters + length rs * width h t + bodied toEntry rs ≤ length ws =
           rw (length-records, ← bodies-word, body-is h t ws s) (s .fits) in
           omega (arith, f, bodied-next toEntry rs (ofEntry blank) i l, bodied-take toEntry rs (suc i))

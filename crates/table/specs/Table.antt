@@ -12,9 +12,24 @@ pub record Entry : Type 0 where
   pub body : List ℕ
   pub tail : List ℕ
 
+abbrev pub entry : List ℕ → List ℕ → List ℕ → Entry
+entry head body tail = record { head = head; body = body; tail = tail }
+
+-- The entry at i; past the end, an empty one.
+abbrev pub entryAt : List Entry → ℕ → Entry
+entryAt es i = getD es i (entry [] [] [])
+
+-- The words before the slots: the two numbers.
+abbrev pub counters : ℕ
+counters = 2
+
+-- The words of a slot between head and tail: start and length of the body.
+abbrev pub span : ℕ
+span = 2
+
 -- The words of a slot.
 abbrev pub width : ℕ → ℕ → ℕ
-width h t = h + 2 + t
+width h t = h + span + t
 
 -- The slots of entries, where the bodies before them take o words.
 unfoldable pub slots : ℕ → List Entry → List ℕ
@@ -39,11 +54,11 @@ decodeSlots h t zero xs ys = []
 decodeSlots h t (suc m) xs ys =
     let c = getD xs (h + 1) 0 in
     let es = decodeSlots h t m (drop (width h t) xs) (drop c ys) in
-    record { head = take h xs; body = take c ys; tail = take t (drop (h + 2) xs) } ∷ es
+    record { head = take h xs; body = take c ys; tail = take t (drop (h + span) xs) } ∷ es
 
 -- The entries that a table holds.
 unfoldable pub decode : ℕ → ℕ → List ℕ → List Entry
-decode h t ws = decodeSlots h t (getD ws 0 0) (drop 2 ws) (drop (2 + getD ws 0 0 * width h t) ws)
+decode h t ws = decodeSlots h t (getD ws 0 0) (drop counters ws) (drop (counters + getD ws 0 0 * width h t) ws)
 
 -- ---- the word rules
 
@@ -63,8 +78,8 @@ unfoldable pub wellFormed : ℕ → ℕ → List ℕ → Bool
 wellFormed h t ws =
     let n = getD ws 0 0 in
     let b = getD ws 1 0 in
-    let end = 2 + n * width h t + b in
-    leb 2 (length ws) && (leb end (length ws) && (slotsOk h t n 0 b (drop 2 ws) && allZero (drop end ws)))
+    let end = counters + n * width h t + b in
+    leb counters (length ws) && (leb end (length ws) && (slotsOk h t n 0 b (drop counters ws) && allZero (drop end ws)))
 
 -- Each head has h words and each tail t.
 unfoldable pub Wide : ℕ → ℕ → List Entry → Type 0
@@ -75,7 +90,7 @@ Wide h t (e ∷ es) = ((length (e .head) ≡ h) × (length (e .tail) ≡ t)) × 
 pub record Sound (h t : ℕ) (ws : List ℕ) : Type 0 where
   pub wide : Wide h t (decode h t ws)
   pub same : ws ≡ encode (length ws) (decode h t ws)
-  pub fits : 2 + length (decode h t ws) * width h t + length (bodies (decode h t ws)) ≤ length ws
+  pub fits : counters + length (decode h t ws) * width h t + length (bodies (decode h t ws)) ≤ length ws
 
 -- ---- changes
 
@@ -85,13 +100,21 @@ insertAt i e es = take i es ++ (e ∷ drop i es)
 unfoldable pub removeAt : ℕ → List Entry → List Entry
 removeAt i es = take i es ++ drop (suc i) es
 
+-- The table with an entry in at i.
+abbrev pub inserted : ℕ → ℕ → List ℕ → ℕ → Entry → List ℕ
+inserted h t ws i e = encode (length ws) (insertAt i e (decode h t ws))
+
+-- The table without the entry at i.
+abbrev pub removed : ℕ → ℕ → List ℕ → ℕ → List ℕ
+removed h t ws i = encode (length ws) (removeAt i (decode h t ws))
+
 -- An entry may go in at i.
 pub record Insertable (h t : ℕ) (ws : List ℕ) (i : ℕ) (e : Entry) : Type 0 where
   pub sound : Sound h t ws
   pub within : i ≤ length (decode h t ws)
   pub head : length (e .head) ≡ h
   pub tail : length (e .tail) ≡ t
-  pub room : 2 + (length (decode h t ws) + 1) * width h t + length (bodies (decode h t ws)) + length (e .body) ≤ length ws
+  pub room : counters + (length (decode h t ws) + 1) * width h t + length (bodies (decode h t ws)) + length (e .body) ≤ length ws
   pub small : length ws < 2 ^ 32
 
 -- The entry at i may go out.
@@ -105,7 +128,7 @@ unfoldable pub restarted : ℕ → ℕ → ℕ → ℕ → List ℕ → List ℕ
 restarted h t zero o xs = xs
 restarted h t (suc m) o xs =
     let c = getD xs (h + 1) 0 in
-    take h xs ++ (o ∷ (c ∷ (take t (drop (h + 2) xs) ++ restarted h t m (o + c) (drop (width h t) xs))))
+    take h xs ++ (o ∷ (c ∷ (take t (drop (h + span) xs) ++ restarted h t m (o + c) (drop (width h t) xs))))
 
 -- The sum of the counts of the m slots that begin xs.
 unfoldable pub counts : ℕ → ℕ → ℕ → List ℕ → ℕ
@@ -116,20 +139,38 @@ counts h t (suc m) xs = getD xs (h + 1) 0 + counts h t m (drop (width h t) xs)
 unfoldable pub startOf : ℕ → List Entry → ℕ
 startOf i es = length (bodies (take i es))
 
--- ---- the entries whose head word at a column is not a value
+-- ---- the entries whose head word at a column is a value go out
 
+-- Those that stay.
 unfoldable pub stayingEntries : ℕ → ℕ → List Entry → List Entry
 stayingEntries column value [] = []
 stayingEntries column value (e ∷ es) =
     cond (eqb (getD (e .head) column 0) value) (stayingEntries column value es) (e ∷ stayingEntries column value es)
 
--- The same on words: of the m slots that begin xs, those kept, with their starts counted anew from o.
+-- How many go.
+unfoldable pub goneEntries : ℕ → ℕ → List Entry → ℕ
+goneEntries column value [] = 0
+goneEntries column value (e ∷ es) =
+    cond (eqb (getD (e .head) column 0) value) (suc (goneEntries column value es)) (goneEntries column value es)
+
+-- The table of those that stay.
+abbrev pub cleared : ℕ → ℕ → List ℕ → ℕ → ℕ → List ℕ
+cleared h t ws column value = encode (length ws) (stayingEntries column value (decode h t ws))
+
+-- Those that stay on words: of the m slots that begin xs, the slots kept, with their starts counted anew from o.
 unfoldable pub stayingSlots : ℕ → ℕ → ℕ → ℕ → ℕ → ℕ → List ℕ → List ℕ
 stayingSlots h t column value zero o xs = []
 stayingSlots h t column value (suc m) o xs =
     let c = getD xs (h + 1) 0 in
     cond (eqb (getD xs column 0) value) (stayingSlots h t column value m o (drop (width h t) xs))
-    (take h xs ++ (o ∷ (c ∷ (take t (drop (h + 2) xs) ++ stayingSlots h t column value m (o + c) (drop (width h t) xs)))))
+    (take h xs ++ (o ∷ (c ∷ (take t (drop (h + span) xs) ++ stayingSlots h t column value m (o + c) (drop (width h t) xs)))))
+
+-- The bodies and the slots that stay, of a table's words.
+abbrev pub bodiesLeft : ℕ → ℕ → List ℕ → ℕ → ℕ → List ℕ
+bodiesLeft h t ws column value = bodies (stayingEntries column value (decode h t ws))
+
+abbrev pub slotsLeft : ℕ → ℕ → List ℕ → ℕ → ℕ → List ℕ
+slotsLeft h t ws column value = stayingSlots h t column value (getD ws 0 0) 0 (drop counters ws)
 
 -- The entries with a value in a column may go out.
 pub record Clearable (h t : ℕ) (ws : List ℕ) (column : ℕ) : Type 0 where

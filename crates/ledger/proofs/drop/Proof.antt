@@ -1,14 +1,13 @@
 -- `routes::drop` meets its contract. Assumes nothing.
 use mathlib.Core.Path.{sym, _∙_}
 use borrow.Author.Tests.{not-true, not-false}
-use Rattle.types.proofs.Refusing.{parts}
 use Rattle.ledger.proofs.Storing.{drop-length, drop-malformed, drop-none, drop-goes, drop-done}
 use borrow.Author.Needs.{needs}
 use Rattle.ledger.proofs.drop.Statement.{statement}
 use Rattle.ledger.proofs.drop.Tie as tie
 
 returns : tie.Need-returns
-returns c = parts (drop-length _ _ (c .if1 .taken))
+returns c = sym (drop-length _ _ (c .if1 .taken))
 
 is-ledger-requires : tie.Need-is-ledger-requires
 is-ledger-requires c κs = search needs
@@ -17,7 +16,7 @@ same-length : tie.Need-same-length
 same-length c = search needs
 
 returns-2 : tie.Need-returns-2
-returns-2 c = parts (drop-malformed _ _ (c .before .before .before .if1 .left) (sym (c .before .is-ledger .ensures) ∙ not-true _ (c .if2 .taken)))
+returns-2 c = sym (drop-malformed _ _ (c .before .before .before .if1 .left) (sym (c .before .is-ledger .ensures) ∙ not-true _ (c .if2 .taken)))
 
 find-requires : tie.Need-find-requires
 find-requires c κs = sym (c .before .before .is-ledger .ensures) ∙ not-false _ (c .before .if2 .left)
@@ -31,7 +30,7 @@ same-length-2 c = search needs
 
 returns-3 : tie.Need-returns-3
 returns-3 c = let w = c .before .before .before .before .before in
-    parts (drop-none _ _ (w .before .before .before .if1 .left) (sym (w .before .is-ledger .ensures) ∙ not-false _ (w .if2 .left))
+    sym (drop-none _ _ (w .before .before .before .if1 .left) (sym (w .before .is-ledger .ensures) ∙ not-false _ (w .if2 .left))
     (sym (c .before .is-at .ensures) ∙ not-true _ (c .if3 .taken)))
 
 remove-requires : tie.Need-remove-requires

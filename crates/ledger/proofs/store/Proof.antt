@@ -1,6 +1,5 @@
 -- `routes::store` meets its contract. Assumes nothing.
 use mathlib.Core.Path.{sym, _∙_}
-use Rattle.types.proofs.Refusing.{parts}
 use Rattle.ledger.specs.Calls.{routeFor}
 use Rattle.types.specs.Numbers.{roleNumber}
 use Rattle.ledger.proofs.Storing.{entry-is, store-taken, paths-short, full-routes, full-paths, storable, store-fits, store-done}
@@ -18,7 +17,7 @@ same-length : tie.Need-same-length
 same-length c = search needs
 
 returns : tie.Need-returns
-returns c = parts (store-taken _ _ (sym (c .before .is-at .ensures) ∙ c .if1 .taken))
+returns c = sym (store-taken _ _ (sym (c .before .is-at .ensures) ∙ c .if1 .taken))
 
 word-requires : tie.Need-word-requires
 word-requires c κs = search needs
@@ -28,7 +27,7 @@ same-length-2 c = search needs
 
 returns-2 : tie.Need-returns-2
 returns-2 c = let w = c .before .before .before in
-    parts (full-routes _ _ (w .before .before .before .before .before .before .before .pre .1)
+    sym (full-routes _ _ (w .before .before .before .before .before .before .before .pre .1)
     (sym (w .before .is-at .ensures) ∙ w .if1 .left) (c .before .word .ensures .0) (c .if2 .taken))
 
 word-requires-2 : tie.Need-word-requires-2
@@ -42,7 +41,7 @@ same-length-3 c = search needs
 
 returns-3 : tie.Need-returns-3
 returns-3 c = let w = c .before .before .before .before .before .before in
-    parts (full-paths _ _ (w .before .before .before .before .before .before .before .pre .1)
+    sym (full-paths _ _ (w .before .before .before .before .before .before .before .pre .1)
     (sym (w .before .is-at .ensures) ∙ w .if1 .left) (c .before .word2 .ensures .0) (c .if3 .taken))
 
 number-requires : tie.Need-number-requires

@@ -2,12 +2,14 @@
 use borrow.Author.Needs.{needs}
 use native.Mathlib.Omega.{arith}
 use Prim.Native.Nat.{_-_}
+use Rattle.rules.specs.Records.{hopOf}
+use Rattle.register.specs.Register.{recordsOf}
 use Rattle.rejudge.proofs.Turns.{Turned, turns, same-size, turned-all, may-turn, turns-changed, turns-same}
 use Rattle.rejudge.proofs.rejudge_routes.Statement.{statement}
 use Rattle.rejudge.proofs.rejudge_routes.Tie as tie
 
 abbrev Inv-loop : tie.InvT-loop
-Inv-loop reg hints led₀ n changed₀ i₀ led changed i = Turned reg led₀ n led changed i
+Inv-loop reg hints led₀ n changed₀ i₀ led changed i = Turned (hopOf (recordsOf reg)) led₀ n led changed i
 
 abbrev μ-loop : tie.MeasureT-loop
 μ-loop reg hints led₀ n changed₀ i₀ led changed i = n - i
@@ -16,10 +18,10 @@ word-requires : tie.Need-word-requires Inv-loop μ-loop
 word-requires c κs = omega (arith, c .before .before .before .before .pre .1)
 
 loop-holds : tie.Need-loop-holds Inv-loop μ-loop
-loop-holds c = turns _ _ (c .before .before .before .before .before .pre) (c .word .ensures .0)
+loop-holds c = turns _ _ (c .before .before .before .before .before .pre .1) (c .before .before .before .before .before .pre .2) (c .word .ensures .0)
 
 rejudge-route-requires : tie.Need-rejudge-route-requires Inv-loop μ-loop
-rejudge-route-requires c κs = may-turn (c .before .before .loop .inv) (c .before .loop-test .taken)
+rejudge-route-requires c κs = (c .before .before .before .before .before .before .before .before .pre .0, may-turn (c .before .before .loop .inv) (c .before .loop-test .taken))
 
 add-i : tie.Need-add-i Inv-loop μ-loop
 add-i c = search needs

@@ -1,7 +1,7 @@
 -- `rejudge::restamp` meets its contract. Assumes nothing.
 use lib.ListN.{length-set}
 use native.Mathlib.Omega.{arith}
-use Rattle.rejudge.proofs.Stores.{slot-in, stamped-words, stamped-differs}
+use Rattle.rejudge.proofs.Stores.{slot-in, stamped-effect}
 use borrow.Author.Needs.{needs}
 use Rattle.rejudge.proofs.restamp.Statement.{statement}
 use Rattle.rejudge.proofs.restamp.Tie as tie
@@ -84,7 +84,7 @@ returns c = let p = c .before .before .before .before .before .before .before .p
     let e = c .before .before .before .before .before .number .ensures in
     let f = c .before .before .before .before .place-a .ensures in
     let g = c .before .before .before .place-b .ensures in
-    (stamped-words p v e f g, stamped-differs p v e f g)
+    stamped-effect p v e f g
 
 pub restamp-spec : {M : Type 1} → statement M
 restamp-spec =

@@ -1,6 +1,6 @@
 -- `table::pack_bodies` meets its contract. The invariant is `Packed`: the entries from i on are left to do. Assumes nothing.
 use Prim.Native.Nat.{_+_, _-_, _*_, _≤_, _<_, _^_}
-use Rattle.table.specs.Table.{width}
+use Rattle.table.specs.Table.{counters, width}
 use native.Mathlib.Omega.{arith}
 use Rattle.table.proofs.Staying.{Packed, packed, pack-room, pack-slot, pack-fits, pack-in, pack-out, pack-done}
 use Rattle.table.proofs.pack_bodies.Statement.{statement}
@@ -19,7 +19,7 @@ word-requires c κs = omega (arith, c .before .before .pre .0 .sound .fits)
 abbrev begun : (c : tie.After-word Inv-loop μ-loop) →
     (width (c .before .before .before .args .h) (c .before .before .before .args .t)
     ≤ c .word .result * width (c .before .before .before .args .h) (c .before .before .before .args .t))
-    × (2 + c .word .result * width (c .before .before .before .args .h) (c .before .before .before .args .t) < 2 ^ 32)
+    × (counters + c .word .result * width (c .before .before .before .args .h) (c .before .before .before .args .t) < 2 ^ 32)
 begun c =
     let P = packed _ _ _ _ (c .before .before .before .args .value) _ (c .before .before .before .pre) (c .word .ensures .0) in
     (omega (arith, pack-room P), omega (arith, pack-room P))

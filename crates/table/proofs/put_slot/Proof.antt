@@ -8,6 +8,7 @@ use Rattle.runs.specs.Words.{pasted}
 use Rattle.table.proofs.Laws.{put-slot-done}
 use borrow.Author.Needs.{needs}
 use Rattle.table.proofs.put_slot.Statement.{statement}
+use Rattle.table.specs.Table.{span}
 use Rattle.table.proofs.put_slot.Tie as tie
 
 add-open-room : tie.Need-add-open-room
@@ -62,7 +63,7 @@ returns c =
     let opened = c .before .before .before .before .before .before .before .before .before .before .open-room in
     let paste = c .before .before .before .before .before .before .paste in
     c .before .before .paste2 .ensures
-    ∙ ap (λ (l : List ℕ). pasted (set (set l (a .at + h) (a .start)) (a .at + h + 1) (a .count)) (a .at + h + 2) (a .tail .now))
+    ∙ ap (λ (l : List ℕ). pasted (set (set l (a .at + h) (a .start)) (a .at + h + 1) (a .count)) (a .at + h + span) (a .tail .now))
     (paste .ensures ∙ ap (λ (l : List ℕ). pasted l (a .at) (a .head .now)) (opened .ensures))
     ∙ put-slot-done (a .s .now) (a .head .now) (a .tail .now) (a .at) (a .used) (a .start) (a .count) (omega arith)
 

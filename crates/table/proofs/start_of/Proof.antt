@@ -3,7 +3,7 @@ use mathlib.Core.Path.{_∙_}
 use Prim.Native.Nat.{_+_, _*_, _≤_, _<_}
 use native.Mathlib.Omega.{arith}
 use lib.ListN.{length}
-use Rattle.table.specs.Table.{width, decode}
+use Rattle.table.specs.Table.{counters, width, decode}
 use Rattle.table.proofs.Sounds.{count-is, in-slot, start-is, start-last}
 use borrow.Author.Needs.{needs}
 use Rattle.table.proofs.start_of.Statement.{statement}
@@ -22,7 +22,7 @@ less c = omega (arith, count-is (start c .args .h) (start c .args .t) (start c .
 
 -- So is its slot.
 slot : (c : tie.Then1)
-    → 2 + start c .args .i * width (start c .args .h) (start c .args .t) + width (start c .args .h) (start c .args .t) ≤ length (start c .args .s .now)
+    → counters + start c .args .i * width (start c .args .h) (start c .args .t) + width (start c .args .h) (start c .args .t) ≤ length (start c .args .s .now)
 slot c = in-slot (start c .args .h) (start c .args .t) (start c .args .s .now) (start c .pre .0) (start c .args .i) (less c)
 
 add-word : tie.Need-add-word
