@@ -1,9 +1,9 @@
 -- The laws of verdicts, gathered. Assumes nothing.
-use Prim.Native.Nat.{ℕ, _+_, _-_, _≤_, _<_}
+use Prim.Native.Nat.{ℕ, _-_, _≤_, _<_}
 use mathlib.Core.Path.{_≡_, refl, sym, _∙_, ap}
 use mathlib.Core.Bool.{Bool, true, false, not, cond}
 use mathlib.Core.List.{List, [], _∷_}
-use mathlib.Core.Option.{Option, none, some}
+use mathlib.Core.Option.{some}
 use native.Mathlib.Omega.{arith}
 use borrow.Author.Tests.{ltb-false}
 use lib.Dec.{ltb, eqb}
@@ -11,7 +11,6 @@ use lib.IntN.{ℤ, pos, _-ℤ_}
 use lib.Signed.{_≤ℤ_}
 use lib.ListN.{length}
 use Rattle.as_path.specs.Segments.{numberBytes}
-use Rattle.types.specs.declared.Fault.{Fault}
 use Rattle.types.specs.declared.Ground.{Ground}
 use Rattle.types.specs.declared.Cause.the-variants.{ByGround}
 use Rattle.types.specs.declared.Verdict.the-variants.{Invalid}
@@ -32,7 +31,7 @@ use Rattle.as_path.proofs.Contents.{merged-means, content-fault}
 use Rattle.as_path.proofs.MergedPaths.{merged-first}
 use Rattle.rules.specs.Hops.{HopFunction}
 use Rattle.rules.specs.Verdicts.{gapOf, upstream, downstream, judged}
-use Rattle.rules.specs.Judging.{mostBytes, argumentRows, judgeRows, answerTo, unlessGiven, judgedRoute}
+use Rattle.rules.specs.Judging.{mostBytes, judgeRows, answerTo, unlessGiven, judgedRoute}
 use Rattle.rules.specs.Laws.{Within, PlaceLaws, GapLaws, AnswerLaws, DraftLaws}
 use Rattle.rules.proofs.Searching.{lowest-is, highest-is, lowest-only, highest-only}
 use Rattle.rules.proofs.Ramps.{ramp-up-is, ramp-up-only, ramp-down-is, ramp-down-only}
