@@ -102,7 +102,7 @@ module _ (ws : List ℕ) (s : Sound routeHead routeTail ws) where
   route-is = Typed.record-is typing ws s
 
   module _ (i : ℕ) (h : i < length (routesOf ws)) where
-    -- Row i lies within the words.
+    -- Slot i lies within the words.
     pub slot-within : slotAt i + routeWidth ≤ length ws
     unfolding routesOf
     slot-within = Typed.slot-within typing ws s i h

@@ -16,12 +16,12 @@ use Rattle.ledger.specs.Routes.{mostRoutes, mostPathWords, Route, routes
 use Rattle.ledger.proofs.Entries.{routes-of-words, words-formed}
 
 module _ (rs : List Route) where
-  -- Room for them: at most 512 routes.
+  -- Room for them: not too many routes.
   pub room-routes : roomFor rs ≡ true → length rs ≤ mostRoutes
   unfolding roomFor
   room-routes e = leb-true _ _ (both-left _ _ e)
 
-  -- And at most 8192 numbers in their paths.
+  -- And not too many numbers in their paths.
   pub room-paths : roomFor rs ≡ true → pathWords rs ≤ mostPathWords
   unfolding roomFor
   room-paths e = leb-true _ _ (both-right (leb (length rs) mostRoutes) _ e)

@@ -27,11 +27,11 @@ module _ (ws : List ℕ) (e : ledgerOk ws ≡ true) where
   pub count-is : getD ws 0 0 ≡ length (routesOf ws)
   count-is = route-count ws (sound ws e)
 
-  -- There are at most 512 routes.
+  -- There are not too many routes.
   pub few : length (routesOf ws) ≤ mostRoutes
   few = room-routes (routesOf ws) (has-room (routesOf ws) (routes-ok ws e))
 
-  -- Row i is within the words.
+  -- Slot i is within the words.
   pub slot-in : (i : ℕ) → i < length (routesOf ws) → slotAt i + routeWidth ≤ length ws
   slot-in i h = slot-within ws (sound ws e) i h
 

@@ -64,7 +64,7 @@ module _ (role neighbour : ℕ) (l : List ℕ) (e : pathOk role neighbour l ≡ 
   unfolding pathOk
   path-some = leb-true _ _ (both-left (leb 1 (length l)) _ e)
 
-  -- And at most 64.
+  -- And not too many.
   pub path-few : length l ≤ mostNumbers
   unfolding pathOk
   path-few = leb-true _ _ (both-left (leb (length l) mostNumbers) _ (both-right (leb 1 (length l)) _ e))

@@ -36,7 +36,7 @@ pub store-taken : (ws : List ℕ) (r : Route) → holdsRoute (r .number) (routes
 unfolding storeEffect firstGiven
 store-taken ws r e = rw e
 
--- The second count of a well-formed ledger is at most 8192.
+-- The second count of a well-formed ledger keeps its limit.
 pub paths-short : (ws : List ℕ) → ledgerOk ws ≡ true → {n : ℕ} → n ≡ getD ws 1 0 → n ≤ mostPathWords
 paths-short ws ok e = omega (arith, path-count ws (sound ws ok), room-paths (routesOf ws) (has-room (routesOf ws) (routes-ok ws ok)))
 
@@ -46,7 +46,7 @@ module _ (ws : List ℕ) (r : Route) (ok : ledgerOk ws ≡ true) (free : holdsRo
   unfolding storeEffect firstGiven
   store-full e = rw (free, e)
 
-  -- 512 routes are kept.
+  -- As many routes as may be are kept.
   pub full-routes : {n : ℕ} → n ≡ getD ws 0 0 → mostRoutes ≤ n → storeEffect ws r ≡ record { answer = kept.Refused RoutesFull; words = ws }
   unfolding roomFor
   full-routes e h =

@@ -36,9 +36,7 @@ pub const WORDS: usize = table::COUNTERS + MOST_ROUTES * WIDTH + MOST_PATH_WORDS
 
 const NO_TAIL: [u32; TAIL] = [0u32; TAIL];
 
-// The words of a slot, counted from its first.
-const NUMBER: usize = 0;
-
+// The words of a slot, counted from its first, which is the route's number.
 const ROLE: usize = 1;
 
 const NEIGHBOUR: usize = 2;
