@@ -4,7 +4,7 @@
  * The caller lends two tables of 32-bit words, in memory of its own:
  *   - the register, of ASPA_REGISTER_WORDS words: provider records from up to eight sources;
  *   - the ledger, of ASPA_LEDGER_WORDS words: kept routes with their verdicts.
- * A table of zeros is empty and sound. The library allocates nothing, keeps nothing between calls, and calls
+ * A table of zeros is empty and well formed. The library allocates nothing, keeps nothing between calls, and calls
  * nothing but memset. A table may be copied, stored and loaded word by word.
  *
  * Every call returns 0, or the number of the refusal (ASPA_REFUSED_..). Each call tests the rows that concern its own
@@ -20,7 +20,7 @@
  *     same call: not the other table, not a provider list or an attribute, not another answer;
  *   - no other thread writes what a call reads, or touches what it writes, until it returns. Calls on different tables
  *     may run at the same time.
- * A wrong table length, a damaged table and every other value of an argument are no such break: they are refused.
+ * A wrong table length, a malformed table and every other value of an argument are no such break: they are refused.
  */
 #ifndef ASPA_FILTER_H
 #define ASPA_FILTER_H
@@ -32,13 +32,18 @@
 extern "C" {
 #endif
 
-/* The words of each table, and what they hold at most. */
-#define ASPA_REGISTER_WORDS 12290
-#define ASPA_LEDGER_WORDS 12802
+/* What the tables hold at most: records and the provider numbers of all lists together, routes and the numbers of all paths. */
 #define ASPA_MOST_RECORDS 1024
 #define ASPA_MOST_PROVIDER_WORDS 8192
 #define ASPA_MOST_ROUTES 512
 #define ASPA_MOST_PATH_WORDS 8192
+
+/* The words of a table before its entries, of a record and of a route, and of each whole table. */
+#define ASPA_COUNT_WORDS 2
+#define ASPA_RECORD_WORDS 4
+#define ASPA_ROUTE_WORDS 9
+#define ASPA_REGISTER_WORDS (ASPA_COUNT_WORDS + ASPA_MOST_RECORDS * ASPA_RECORD_WORDS + ASPA_MOST_PROVIDER_WORDS)
+#define ASPA_LEDGER_WORDS (ASPA_COUNT_WORDS + ASPA_MOST_ROUTES * ASPA_ROUTE_WORDS + ASPA_MOST_PATH_WORDS)
 
 /* Sources are numbered from 0 to this. */
 #define ASPA_GREATEST_SOURCE 7
@@ -69,25 +74,25 @@ extern "C" {
 /* What a call returns. */
 #define ASPA_OK 0
 #define ASPA_REFUSED_TABLE_LENGTH 1       /* a lent table has the wrong length */
-#define ASPA_REFUSED_REGISTER_DAMAGED 2   /* the register breaks its word rules */
-#define ASPA_REFUSED_LEDGER_DAMAGED 3     /* the ledger breaks its word rules */
-#define ASPA_REFUSED_SOURCE 4             /* the source is above 7 */
+#define ASPA_REFUSED_REGISTER_MALFORMED 2   /* the register breaks its word rules */
+#define ASPA_REFUSED_LEDGER_MALFORMED 3     /* the ledger breaks its word rules */
+#define ASPA_REFUSED_SOURCE 4             /* the source is above ASPA_GREATEST_SOURCE */
 #define ASPA_REFUSED_CUSTOMER 5           /* the customer is 0 */
-#define ASPA_REFUSED_PROVIDERS 6          /* the list is empty, over 256, or not strictly ascending */
+#define ASPA_REFUSED_PROVIDERS 6          /* the list is empty, over ASPA_MOST_PROVIDERS, or not strictly ascending */
 #define ASPA_REFUSED_NO_RECORD 7          /* withdraw: no such record */
-#define ASPA_REFUSED_REGISTER_FULL 8      /* file: over 1,024 records or 8,192 provider words afterwards */
+#define ASPA_REFUSED_REGISTER_FULL 8      /* file: the register would pass one of its two limits */
 #define ASPA_REFUSED_ROLE 9               /* the role is outside 1 to 6 */
 #define ASPA_REFUSED_NEIGHBOUR 10         /* the neighbour is 0 */
-#define ASPA_REFUSED_ATTRIBUTE_LENGTH 11  /* the attribute is over 1,024 bytes */
+#define ASPA_REFUSED_ATTRIBUTE_LENGTH 11  /* the attribute is over ASPA_MOST_ATTRIBUTE_BYTES */
 #define ASPA_REFUSED_CUT_SHORT 12         /* a segment is cut short; with a place */
 #define ASPA_REFUSED_SEGMENT_TYPE 13      /* a segment's type is 0 or above 4; with a place */
 #define ASPA_REFUSED_CONFEDERATION 14     /* a segment's type is 3 or 4; with a place */
 #define ASPA_REFUSED_SEGMENT_EMPTY 15     /* a segment's count is 0; with a place */
 #define ASPA_REFUSED_AS_ZERO 16           /* an AS number is 0; with a place */
-#define ASPA_REFUSED_PATH_LENGTH 17       /* the merged path has over 64 numbers */
+#define ASPA_REFUSED_PATH_LENGTH 17       /* the merged path has over ASPA_MOST_PATH numbers */
 #define ASPA_REFUSED_ROUTE_TAKEN 18       /* keep: the route number is taken */
 #define ASPA_REFUSED_NO_ROUTE 19          /* drop: no such route */
-#define ASPA_REFUSED_LEDGER_FULL 20       /* keep: over 512 routes or 8,192 path words afterwards */
+#define ASPA_REFUSED_LEDGER_FULL 20       /* keep: the ledger would pass one of its two limits */
 
 /* The words of an answer of aspa_judge and aspa_keep. */
 #define ASPA_ANSWER_WORDS 6
@@ -129,11 +134,11 @@ uint32_t aspa_clear(uint32_t *reg, size_t reg_len, uint32_t source, uint32_t out
  *   out[4]  1 if a gap is given, else 0. Every downstream answer without a ground gives one.
  *   out[5]  the place of a refusal by 12 to 16, as an index into the attribute's bytes: the first byte of the segment,
  *           or for 16 of the number. Otherwise 0.
- *   *gap    L - K, from -63 to 63; 0 where none is given. A negative gap is an answer, not an error.
+ *   *gap    L - K, from 1 - ASPA_MOST_PATH to ASPA_MOST_PATH - 1; 0 where none is given. A negative gap is an answer, not an error.
  * On a refusal out[0] to out[4] and *gap are 0; only the returned number tells it from a Valid.
  */
 uint32_t aspa_judge(const uint32_t *reg, size_t reg_len, uint32_t role, uint32_t neighbour,
-                    const uint8_t *attribute, size_t attribute_len, uint32_t out[6], int32_t *gap);
+                    const uint8_t *attribute, size_t attribute_len, uint32_t out[ASPA_ANSWER_WORDS], int32_t *gap);
 
 /*
  * Judges a route as aspa_judge does, and keeps it in the ledger under a route number of the caller's, with the ground,
@@ -142,7 +147,7 @@ uint32_t aspa_judge(const uint32_t *reg, size_t reg_len, uint32_t role, uint32_t
  */
 uint32_t aspa_keep(const uint32_t *reg, size_t reg_len, uint32_t *ledger, size_t ledger_len,
                    uint32_t route, uint32_t role, uint32_t neighbour,
-                   const uint8_t *attribute, size_t attribute_len, uint32_t out[6], int32_t *gap);
+                   const uint8_t *attribute, size_t attribute_len, uint32_t out[ASPA_ANSWER_WORDS], int32_t *gap);
 
 /* Takes the route with this number out of the ledger. Rows 1, 3, 19. */
 uint32_t aspa_drop(uint32_t *ledger, size_t ledger_len, uint32_t route);

@@ -4,7 +4,7 @@ mod plain;
 mod work;
 
 use library::{libraries, Library};
-use plain::{LEDGER_WORDS, REGISTER_WORDS};
+use plain::{LEDGER_WORDS, MOST_PROVIDER_WORDS, MOST_RECORDS, REGISTER_WORDS, ROUTE};
 use std::hint::black_box;
 use std::time::Instant;
 use work::{attribute, role_of, Numbers, Random, Work, PATH, ROUTES};
@@ -234,18 +234,18 @@ fn main() {
         .map_or(500, |n| n.parse().expect("a number of rounds"));
     let mut random = Random(0x9E37_79B9_7F4A_7C15);
     let (libraries, ways) = (libraries(), rejudges());
-    let work = work::make(&mut random, &work::ALL, 1024, 8);
+    let work = work::make(&mut random, &work::ALL, MOST_RECORDS, 8);
     let (reg, stale) = tables(&libraries[0], &work);
     compare(&mut random, &ways, &reg, &stale);
 
     let mut now = stale.clone();
     let changed = ways[0].1(&reg, &mut now).expect("judged anew");
     let mut verdicts = [0; 3];
-    for entry in now[2..2 + 9 * ROUTES].chunks_exact(9) {
+    for entry in now[2..2 + ROUTE * ROUTES].chunks_exact(ROUTE) {
         verdicts[entry[4] as usize] += 1;
     }
     let [valid, invalid, unknown] = verdicts;
-    println!("{ROUTES} routes of {PATH}, 1024 records of 8, {rounds} rounds: {changed} change; then Valid {valid}, Invalid {invalid}, Unknown {unknown}");
+    println!("{ROUTES} routes of {PATH}, {MOST_RECORDS} records of 8, {rounds} rounds: {changed} change; then Valid {valid}, Invalid {invalid}, Unknown {unknown}");
     let mut times = time_rejudges(&ways, rounds, &reg, &stale);
     for i in 1..ways.len() {
         print(
@@ -273,10 +273,10 @@ fn main() {
         println!();
     };
     for numbers in std::iter::once(&work::ALL).chain(&work::OTHERS) {
-        line(numbers.name, numbers, 1024, 8);
+        line(numbers.name, numbers, MOST_RECORDS, 8);
     }
     for providers in [1, 16, 64, 256] {
-        let records = (8192 / providers).min(1024);
+        let records = (MOST_PROVIDER_WORDS / providers).min(MOST_RECORDS);
         line(
             &format!("{records} records of {providers}"),
             &work::ALL,

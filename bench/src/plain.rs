@@ -1,7 +1,17 @@
 //! Re-judging in plain Rust on the same tables: what the proved library is measured against.
 
-pub const REGISTER_WORDS: usize = 12290;
-pub const LEDGER_WORDS: usize = 12802;
+pub const MOST_RECORDS: usize = 1024;
+pub const MOST_PROVIDER_WORDS: usize = 8192;
+const MOST_PROVIDERS: usize = 256;
+const GREATEST_SOURCE: u32 = 7;
+pub const MOST_ROUTES: usize = 512;
+const MOST_PATH_WORDS: usize = 8192;
+const MOST_PATH: usize = 64;
+/// The words of a record and of a route.
+const RECORD: usize = 4;
+pub const ROUTE: usize = 9;
+pub const REGISTER_WORDS: usize = 2 + MOST_RECORDS * RECORD + MOST_PROVIDER_WORDS;
+pub const LEDGER_WORDS: usize = 2 + MOST_ROUTES * ROUTE + MOST_PATH_WORDS;
 
 #[derive(Clone, Copy, PartialEq)]
 enum Hop {
@@ -32,14 +42,19 @@ fn bodies(words: &[u32], width: usize, most: usize, most_body: usize) -> Option<
 }
 
 pub fn is_register(reg: &[u32]) -> bool {
-    let Some(mut at) = bodies(reg, 4, 1024, 8192) else {
+    let Some(mut at) = bodies(reg, RECORD, MOST_RECORDS, MOST_PROVIDER_WORDS) else {
         return false;
     };
     let mut last = (0, 0);
-    for entry in reg[2..at].chunks_exact(4) {
+    for entry in reg[2..at].chunks_exact(RECORD) {
         let key = (entry[0], entry[1]);
         let count = entry[3] as usize;
-        if key <= last || key.0 == 0 || key.1 > 7 || count == 0 || count > 256 {
+        if key <= last
+            || key.0 == 0
+            || key.1 > GREATEST_SOURCE
+            || count == 0
+            || count > MOST_PROVIDERS
+        {
             return false;
         }
         let list = &reg[at..at + count];
@@ -53,11 +68,11 @@ pub fn is_register(reg: &[u32]) -> bool {
 }
 
 pub fn is_ledger(ledger: &[u32]) -> bool {
-    let Some(mut at) = bodies(ledger, 9, 512, 8192) else {
+    let Some(mut at) = bodies(ledger, ROUTE, MOST_ROUTES, MOST_PATH_WORDS) else {
         return false;
     };
     let mut last = None;
-    for entry in ledger[2..at].chunks_exact(9) {
+    for entry in ledger[2..at].chunks_exact(ROUTE) {
         let [route, role, neighbour, ground, verdict, a, b, _, count] = *entry else {
             return false;
         };
@@ -67,14 +82,14 @@ pub fn is_ledger(ledger: &[u32]) -> bool {
             || neighbour == 0
             || ground > 3
             || verdict > 2
-            || a > 64
-            || b > 64
+            || a as usize > MOST_PATH
+            || b as usize > MOST_PATH
         {
             return false;
         }
         let path = &ledger[at..at + count];
         let sound = if ground == 0 {
-            (1..=64).contains(&count)
+            (1..=MOST_PATH).contains(&count)
                 && path.iter().all(|&x| x != 0)
                 && (role == 4 || path[0] == neighbour)
         } else {
@@ -96,7 +111,7 @@ pub trait Find {
 }
 
 fn customer_at(reg: &[u32], i: usize) -> u32 {
-    reg[2 + i * 4]
+    reg[2 + i * RECORD]
 }
 
 /// The place of a customer that is known to be from low to high, by a loop that halves.
@@ -136,7 +151,7 @@ impl Find for Standard {
 
     #[inline(always)]
     fn find(&self, reg: &[u32], customer: u32) -> usize {
-        let (entries, _) = reg[2..2 + 4 * reg[0] as usize].as_chunks::<4>();
+        let (entries, _) = reg[2..2 + RECORD * reg[0] as usize].as_chunks::<RECORD>();
         entries.partition_point(|entry| entry[0] < customer)
     }
 }
@@ -237,9 +252,9 @@ impl Find for Hinted {
 /// The hop from x to y, over every record of x; the first stands at `place`.
 fn hop(reg: &[u32], place: usize, x: u32, y: u32) -> Hop {
     let n = reg[0] as usize;
-    let begin = 2 + n * 4;
+    let begin = 2 + n * RECORD;
     let mut seen = Hop::NoAttestation;
-    for entry in reg[2 + place * 4..begin].chunks_exact(4) {
+    for entry in reg[2 + place * RECORD..begin].chunks_exact(RECORD) {
         if entry[0] != x {
             break;
         }
@@ -309,10 +324,10 @@ pub fn rejudge<F: Find>(reg: &[u32], ledger: &mut [u32]) -> Result<u32, u32> {
         return Err(3);
     }
     let by = F::over(reg);
-    let begin = 2 + ledger[0] as usize * 9;
+    let begin = 2 + ledger[0] as usize * ROUTE;
     let (entries, paths) = ledger.split_at_mut(begin);
     let mut changed = 0;
-    for entry in entries[2..].chunks_exact_mut(9) {
+    for entry in entries[2..].chunks_exact_mut(ROUTE) {
         if entry[3] != 0 {
             continue;
         }

@@ -117,7 +117,7 @@ impl Numbers {
     }
 }
 
-pub const ROUTES: usize = 512;
+pub const ROUTES: usize = crate::plain::MOST_ROUTES;
 pub const PATH: usize = 16;
 
 pub struct Work {

@@ -14,6 +14,8 @@
 use std::fmt;
 
 mod ffi {
+    use super::ANSWER_WORDS;
+
     // A slice passes as a pointer and its length. include/aspa_filter.h says what each call asks of its pointers.
     extern "C" {
         pub fn aspa_file(
@@ -34,7 +36,7 @@ mod ffi {
             neighbour: u32,
             attribute: *const u8,
             attribute_len: usize,
-            out: *mut [u32; 6],
+            out: *mut [u32; ANSWER_WORDS],
             gap: *mut i32,
         ) -> u32;
         pub fn aspa_keep(
@@ -47,7 +49,7 @@ mod ffi {
             neighbour: u32,
             attribute: *const u8,
             attribute_len: usize,
-            out: *mut [u32; 6],
+            out: *mut [u32; ANSWER_WORDS],
             gap: *mut i32,
         ) -> u32;
         pub fn aspa_drop(ledger: *mut u32, ledger_len: usize, route: u32) -> u32;
@@ -61,10 +63,35 @@ mod ffi {
     }
 }
 
+/// The most records of a register.
+pub const MOST_RECORDS: usize = 1024;
+/// The most provider numbers of all lists of a register together.
+pub const MOST_PROVIDER_WORDS: usize = 8192;
+/// The most providers of one list.
+pub const MOST_PROVIDERS: usize = 256;
+/// Sources are numbered from 0 to this.
+pub const GREATEST_SOURCE: u32 = 7;
+/// The most routes of a ledger.
+pub const MOST_ROUTES: usize = 512;
+/// The most numbers of all paths of a ledger together.
+pub const MOST_PATH_WORDS: usize = 8192;
+/// The most bytes of an attribute.
+pub const MOST_ATTRIBUTE_BYTES: usize = 1024;
+/// The most numbers of a merged path.
+pub const MOST_PATH: usize = 64;
+
+/// The words of a table before its entries, of a record and of a route.
+const COUNT_WORDS: usize = 2;
+const RECORD_WORDS: usize = 4;
+const ROUTE_WORDS: usize = 9;
+
 /// The words of a register.
-pub const REGISTER_WORDS: usize = 12290;
+pub const REGISTER_WORDS: usize = COUNT_WORDS + MOST_RECORDS * RECORD_WORDS + MOST_PROVIDER_WORDS;
 /// The words of a ledger.
-pub const LEDGER_WORDS: usize = 12802;
+pub const LEDGER_WORDS: usize = COUNT_WORDS + MOST_ROUTES * ROUTE_WORDS + MOST_PATH_WORDS;
+
+/// The words of an answer of Judge and Keep.
+const ANSWER_WORDS: usize = 6;
 
 /// The number of an autonomous system.
 #[repr(transparent)]
@@ -131,7 +158,7 @@ pub enum Verdict {
     Unknown(u32, u32),
 }
 
-/// What a judging answers. Every downstream answer without a ground gives the gap L - K, from -63 to 63.
+/// What a judging answers. Every downstream answer without a ground gives the gap L - K, of absolute value below [`MOST_PATH`].
 #[derive(Clone, Copy, Debug, PartialEq, Eq, Hash)]
 pub struct Answer {
     pub verdict: Verdict,
@@ -213,7 +240,7 @@ fn done(number: u32) -> Result<(), Refusal> {
     }
 }
 
-fn answer(number: u32, out: [u32; 6], gap: i32) -> Result<Answer, Refusal> {
+fn answer(number: u32, out: [u32; ANSWER_WORDS], gap: i32) -> Result<Answer, Refusal> {
     match number {
         0 => {}
         12..=16 => {
@@ -333,7 +360,7 @@ impl Register {
         neighbour: AsNumber,
         attribute: &[u8],
     ) -> Result<Answer, Refusal> {
-        let (mut out, mut gap) = ([0; 6], 0);
+        let (mut out, mut gap) = ([0; ANSWER_WORDS], 0);
         let number = unsafe {
             ffi::aspa_judge(
                 self.0.as_ptr(),
@@ -360,7 +387,7 @@ impl Ledger {
         neighbour: AsNumber,
         attribute: &[u8],
     ) -> Result<Answer, Refusal> {
-        let (mut out, mut gap) = ([0; 6], 0);
+        let (mut out, mut gap) = ([0; ANSWER_WORDS], 0);
         let number = unsafe {
             ffi::aspa_keep(
                 register.0.as_ptr(),

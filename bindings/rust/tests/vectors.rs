@@ -1,7 +1,7 @@
 //! The worked vectors A to O, the limits, and the calls on whole tables.
 use aspa_filter::{
     Answer, AsNumber, Cause, Filed, Ground, Ledger, Refusal, Register, Role, RouteNumber, Verdict,
-    LEDGER_WORDS, REGISTER_WORDS,
+    LEDGER_WORDS, MOST_ATTRIBUTE_BYTES, MOST_PATH, MOST_RECORDS, REGISTER_WORDS,
 };
 
 fn numbers(list: &[u32]) -> Vec<AsNumber> {
@@ -149,12 +149,12 @@ fn grounds_and_limits() {
         ground(Ground::AsSet)
     );
 
-    let path: Vec<u32> = (0..65).map(|i| 1000 + i).collect();
-    assert_eq!(judge(&d, 1, &path[..64]), unknown(2, 0, None));
+    let path: Vec<u32> = (0..=MOST_PATH as u32).map(|i| 1000 + i).collect();
+    assert_eq!(judge(&d, 1, &path[..MOST_PATH]), unknown(2, 0, None));
     assert_eq!(refused(judge(&d, 1, &path)), (17, None));
 
     let mut bytes = [sequence(&[20; 200]), sequence(&[10; 55])].concat();
-    assert_eq!(bytes.len(), 1024);
+    assert_eq!(bytes.len(), MOST_ATTRIBUTE_BYTES);
     assert_eq!(judge_bytes(&bytes), valid(None));
     bytes.push(2);
     assert_eq!(refused(judge_bytes(&bytes)), (11, None));
@@ -181,15 +181,19 @@ fn grounds_and_limits() {
 
 #[test]
 fn gap_at_both_ends() {
-    let path: Vec<u32> = (0..64).map(|i| 1000 + i).collect();
+    let path: Vec<u32> = (0..MOST_PATH as u32).map(|i| 1000 + i).collect();
+    let widest = MOST_PATH as i32 - 1;
     let mut register = Register::new();
-    assert_eq!(judge(&register, 3, &path), unknown(1, 64, Some(63)));
+    assert_eq!(
+        judge(&register, 3, &path),
+        unknown(1, MOST_PATH as u32, Some(widest))
+    );
     for x in &path {
         register
             .file(0, AsNumber(*x), &numbers(&[x - 1, x + 1]))
             .unwrap();
     }
-    assert_eq!(judge(&register, 3, &path), valid(Some(-63)));
+    assert_eq!(judge(&register, 3, &path), valid(Some(-widest)));
 }
 
 #[test]
@@ -238,7 +242,7 @@ fn refused_filings_change_nothing() {
     assert_eq!(register, before);
 
     let mut full = Register::new();
-    for x in 1..=1024 {
+    for x in 1..=MOST_RECORDS as u32 {
         full.file(0, AsNumber(x), &numbers(&[x])).unwrap();
     }
     let before = full.clone();

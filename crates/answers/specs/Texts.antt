@@ -8,7 +8,8 @@ use Rattle.types.specs.declared.Cause.the-variants.{ByGround, ByHops}
 use Rattle.types.specs.declared.Verdict.{Verdict}
 use Rattle.types.specs.declared.Verdict.the-variants.{Valid, Invalid, Unknown}
 use Rattle.types.specs.declared.Refusal.{Refusal}
-use Rattle.types.specs.declared.Refusal.the-variants.{TableLength, RegisterMalformed, RoutesMalformed, SourceNumber, CustomerZero, ProviderList, NoRecord, RegisterFull, RoleNumber, NeighbourZero, AttributeLength, Attribute, PathLength, RouteTaken, NoRoute, RoutesFull}
+use Rattle.types.specs.declared.Place.{Place}
+use Rattle.types.specs.declared.Place.the-variants.{Nowhere, Byte}
 use Rattle.types.specs.declared.Filed.{Filed}
 use Rattle.types.specs.declared.Filed.the-variants as filed
 use Rattle.types.specs.declared.Removal.{Removal}
@@ -19,7 +20,7 @@ use Rattle.types.specs.declared.Judged.{Judged}
 use Rattle.types.specs.declared.Judged.the-variants as judged
 use Rattle.types.specs.declared.Rejudged.{Rejudged}
 use Rattle.types.specs.declared.Rejudged.the-variants as rejudged
-use Rattle.types.specs.Numbers.{groundNumber, refusalNumber}
+use Rattle.types.specs.Numbers.{groundNumber, refusalNumber, refusalPlace}
 use Rattle.text.specs.Ascii.{ascii}
 use Rattle.text.specs.Numbers.{decimalOf, signedOf}
 
@@ -43,26 +44,12 @@ answerText (WithGap v g) = verdictText v ++ (ascii " gap " ++ signedOf g)
 
 -- ---- refusals: rows 12 to 16 have a place
 
-abbrev pub placeText : Refusal → List ℕ
-placeText TableLength = []
-placeText RegisterMalformed = []
-placeText RoutesMalformed = []
-placeText SourceNumber = []
-placeText CustomerZero = []
-placeText ProviderList = []
-placeText NoRecord = []
-placeText RegisterFull = []
-placeText RoleNumber = []
-placeText NeighbourZero = []
-placeText AttributeLength = []
-placeText (Attribute f p) = ascii " at " ++ decimalOf p
-placeText PathLength = []
-placeText RouteTaken = []
-placeText NoRoute = []
-placeText RoutesFull = []
+abbrev pub placeText : Place → List ℕ
+placeText Nowhere = []
+placeText (Byte p) = ascii " at " ++ decimalOf p
 
 abbrev pub refusalText : Refusal → List ℕ
-refusalText r = (ascii "refused " ++ decimalOf (refusalNumber r)) ++ placeText r
+refusalText r = (ascii "refused " ++ decimalOf (refusalNumber r)) ++ placeText (refusalPlace r)
 
 -- ---- the answers of the calls
 

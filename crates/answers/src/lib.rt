@@ -4,6 +4,7 @@ use types::Cause;
 use types::Cleared;
 use types::Filed;
 use types::Judged;
+use types::Place;
 use types::Refusal;
 use types::Rejudged;
 use types::Removal;
@@ -14,12 +15,14 @@ ghost use Prim.Native.Nat.{_+_, _*_, _≤_, _<_, _^_};
 ghost use lib.ListN.{length};
 ghost use lib.Seq.{sets};
 ghost use Rattle.text.specs.Numbers.{decimalOf};
-ghost use Rattle.answers.specs.Texts.{placesText, causeText, verdictText, answerText, refusalText, judgedText, filedText, removalText, clearedText, rejudgedText, eachText};
+ghost use Rattle.answers.specs.Texts.{placesText, causeText, verdictText, answerText, refusalText, judgedText, filedText, removalText, clearedText};
+ghost use Rattle.answers.specs.Texts.{rejudgedText, eachText};
 
 // A word and the number after it.
 fn put_with(out: &mut [u8], at: usize, word: &[u8], n: u64) -> usize
     requires { ⌜ at + length (now word) + 20 ≤ length (now out) ⌝ }
-    ensures { λ r. ⌜ (r ≡ at + length (now (word .entry) ++ decimalOf n)) × (now (out .exit) ≡ sets (now (out .entry)) at (now (word .entry) ++ decimalOf n)) × (r ≤ at + length (now (word .entry)) + 20) ⌝ }
+    ensures { λ r. ⌜ (r ≡ at + length (now (word .entry) ++ decimalOf n))
+        × (now (out .exit) ≡ sets (now (out .entry)) at (now (word .entry) ++ decimalOf n)) × (r ≤ at + length (now (word .entry)) + 20) ⌝ }
 {
     let next = text::put(word, out, at);
     text::put_decimal(n, out, next)
@@ -28,7 +31,8 @@ fn put_with(out: &mut [u8], at: usize, word: &[u8], n: u64) -> usize
 // A word and the two places after it.
 fn put_places(out: &mut [u8], at: usize, word: &[u8], a: u32, b: u32) -> usize
     requires { ⌜ at + length (now word) + 41 ≤ length (now out) ⌝ }
-    ensures { λ r. ⌜ (r ≡ at + length (now (word .entry) ++ placesText a b)) × (now (out .exit) ≡ sets (now (out .entry)) at (now (word .entry) ++ placesText a b)) × (r ≤ at + length (now (word .entry)) + 41) ⌝ }
+    ensures { λ r. ⌜ (r ≡ at + length (now (word .entry) ++ placesText a b))
+        × (now (out .exit) ≡ sets (now (out .entry)) at (now (word .entry) ++ placesText a b)) × (r ≤ at + length (now (word .entry)) + 41) ⌝ }
 {
     let next = put_with(out, at, word, a as u64);
     put_with(out, next, b" ", b as u64)
@@ -46,7 +50,8 @@ fn put_cause(out: &mut [u8], at: usize, cause: Cause) -> usize
 
 fn put_verdict(out: &mut [u8], at: usize, verdict: Verdict) -> usize
     requires { ⌜ at + 64 ≤ length (now out) ⌝ }
-    ensures { λ r. ⌜ (r ≡ at + length (verdictText verdict)) × (now (out .exit) ≡ sets (now (out .entry)) at (verdictText verdict)) × (r ≤ at + 64) ⌝ }
+    ensures { λ r. ⌜ (r ≡ at + length (verdictText verdict)) × (now (out .exit) ≡ sets (now (out .entry)) at (verdictText verdict))
+        × (r ≤ at + 64) ⌝ }
 {
     match verdict {
         Verdict::Valid => text::put(b"Valid", out, at),
@@ -57,7 +62,8 @@ fn put_verdict(out: &mut [u8], at: usize, verdict: Verdict) -> usize
 
 fn put_answer(out: &mut [u8], at: usize, answer: Answer) -> usize
     requires { ⌜ at + 128 ≤ length (now out) ⌝ }
-    ensures { λ r. ⌜ (r ≡ at + length (answerText answer)) × (now (out .exit) ≡ sets (now (out .entry)) at (answerText answer)) × (r ≤ at + 128) ⌝ }
+    ensures { λ r. ⌜ (r ≡ at + length (answerText answer)) × (now (out .exit) ≡ sets (now (out .entry)) at (answerText answer))
+        × (r ≤ at + 128) ⌝ }
 {
     match answer {
         Answer::Plain(v) => put_verdict(out, at, v),
@@ -71,18 +77,20 @@ fn put_answer(out: &mut [u8], at: usize, answer: Answer) -> usize
 
 fn put_refusal(out: &mut [u8], at: usize, refusal: Refusal) -> usize
     requires { ⌜ at + 128 ≤ length (now out) ⌝ }
-    ensures { λ r. ⌜ (r ≡ at + length (refusalText refusal)) × (now (out .exit) ≡ sets (now (out .entry)) at (refusalText refusal)) × (r ≤ at + 128) ⌝ }
+    ensures { λ r. ⌜ (r ≡ at + length (refusalText refusal)) × (now (out .exit) ≡ sets (now (out .entry)) at (refusalText refusal))
+        × (r ≤ at + 128) ⌝ }
 {
     let next = put_with(out, at, b"refused ", refusal.number() as u64);
-    let Refusal::Attribute(_, place) = refusal else {
-        return next;
-    };
-    put_with(out, next, b" at ", place as u64)
+    match refusal.place() {
+        Place::Nowhere => next,
+        Place::Byte(place) => put_with(out, next, b" at ", place as u64),
+    }
 }
 
 pub fn put_judged(out: &mut [u8], at: usize, judged: Judged) -> usize
     requires { ⌜ at + 128 ≤ length (now out) ⌝ }
-    ensures { λ r. ⌜ (r ≡ at + length (judgedText judged)) × (now (out .exit) ≡ sets (now (out .entry)) at (judgedText judged)) × (r ≤ at + 128) ⌝ }
+    ensures { λ r. ⌜ (r ≡ at + length (judgedText judged)) × (now (out .exit) ≡ sets (now (out .entry)) at (judgedText judged))
+        × (r ≤ at + 128) ⌝ }
 {
     match judged {
         Judged::Answered(a) => put_answer(out, at, a),
@@ -103,7 +111,8 @@ pub fn put_filed(out: &mut [u8], at: usize, filed: Filed) -> usize
 
 pub fn put_removal(out: &mut [u8], at: usize, removal: Removal) -> usize
     requires { ⌜ at + 128 ≤ length (now out) ⌝ }
-    ensures { λ r. ⌜ (r ≡ at + length (removalText removal)) × (now (out .exit) ≡ sets (now (out .entry)) at (removalText removal)) × (r ≤ at + 128) ⌝ }
+    ensures { λ r. ⌜ (r ≡ at + length (removalText removal)) × (now (out .exit) ≡ sets (now (out .entry)) at (removalText removal))
+        × (r ≤ at + 128) ⌝ }
 {
     match removal {
         Removal::Done => text::put(b"done", out, at),
@@ -113,7 +122,8 @@ pub fn put_removal(out: &mut [u8], at: usize, removal: Removal) -> usize
 
 pub fn put_cleared(out: &mut [u8], at: usize, cleared: Cleared) -> usize
     requires { ⌜ at + 128 ≤ length (now out) ⌝ }
-    ensures { λ r. ⌜ (r ≡ at + length (clearedText cleared)) × (now (out .exit) ≡ sets (now (out .entry)) at (clearedText cleared)) × (r ≤ at + 128) ⌝ }
+    ensures { λ r. ⌜ (r ≡ at + length (clearedText cleared)) × (now (out .exit) ≡ sets (now (out .entry)) at (clearedText cleared))
+        × (r ≤ at + 128) ⌝ }
 {
     match cleared {
         Cleared::Gone(n) => put_with(out, at, b"cleared ", n as u64),
@@ -123,7 +133,8 @@ pub fn put_cleared(out: &mut [u8], at: usize, cleared: Cleared) -> usize
 
 pub fn put_rejudged(out: &mut [u8], at: usize, rejudged: Rejudged) -> usize
     requires { ⌜ at + 128 ≤ length (now out) ⌝ }
-    ensures { λ r. ⌜ (r ≡ at + length (rejudgedText rejudged)) × (now (out .exit) ≡ sets (now (out .entry)) at (rejudgedText rejudged)) × (r ≤ at + 128) ⌝ }
+    ensures { λ r. ⌜ (r ≡ at + length (rejudgedText rejudged)) × (now (out .exit) ≡ sets (now (out .entry)) at (rejudgedText rejudged))
+        × (r ≤ at + 128) ⌝ }
 {
     match rejudged {
         Rejudged::Changed(n) => put_with(out, at, b"changed ", n as u64),
@@ -140,7 +151,8 @@ fn wide(x: u32) -> u64
 // Words of a table, a space before each: at most ten digits, and the last is put where there is room for any number.
 pub fn put_each(out: &mut [u8], at: usize, words: &[u32]) -> usize
     requires { ⌜ at + 11 * length (now words) + 10 ≤ length (now out) ⌝ }
-    ensures { λ r. ⌜ (r ≡ at + length (eachText (now (words .entry)))) × (now (out .exit) ≡ sets (now (out .entry)) at (eachText (now (words .entry)))) × (r ≤ at + 11 * length (now (words .entry))) ⌝ }
+    ensures { λ r. ⌜ (r ≡ at + length (eachText (now (words .entry))))
+        × (now (out .exit) ≡ sets (now (out .entry)) at (eachText (now (words .entry)))) × (r ≤ at + 11 * length (now (words .entry))) ⌝ }
 {
     let mut next = at;
     let mut i = 0;

@@ -7,3 +7,4 @@ pub mod Scanning
 pub mod Grounding
 pub mod Storing
 pub mod Contents
+pub mod Laws

@@ -14,14 +14,7 @@ use Rattle.as_path.specs.declared.Scan.{Scan}
 use Rattle.as_path.specs.declared.Scan.the-variants.{Faulty}
 use Rattle.as_path.specs.Segments.{numberAt, typeAt, countAt, endOf, startsFrom, starts}
 use Rattle.as_path.specs.Faults.{numbersFault, segmentFault, faultAmong, firstFault}
-
--- What holds of the bytes where a fault is: rows 12 to 16.
-abbrev pub Meaning : ℕ → List ℕ → Fault → ℕ → Type 0
-Meaning w a CutShort p = (p < length a) × ((length a < p + 2) ⊎ (length a < endOf w a p))
-Meaning w a UnknownType p = (p + 2 ≤ length a) × ((typeAt a p ≡ 0) ⊎ (4 < typeAt a p))
-Meaning w a Confederation p = (p + 2 ≤ length a) × (2 < typeAt a p) × (typeAt a p ≤ 4)
-Meaning w a NoNumbers p = (p + 2 ≤ length a) × (countAt a p ≡ 0)
-Meaning w a ZeroNumber p = (p + w ≤ length a) × (numberAt w a p ≡ 0)
+use Rattle.as_path.specs.Laws.{Meaning}
 
 -- A fault found by a test is that test's, or it is found further on.
 pub by-test : (P : Fault → ℕ → Type 0) (t : Bool) (f : Fault) (p : ℕ) (x : Scan) {g : Fault} {q : ℕ} → cond t (Faulty f p) x ≡ Faulty g q

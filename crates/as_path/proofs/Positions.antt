@@ -13,14 +13,10 @@ use Rattle.as_path.specs.declared.Scan.{Scan}
 use Rattle.as_path.specs.declared.Scan.the-variants.{Clean, Faulty}
 use Rattle.as_path.specs.Segments.{numberAt, numbersAt, typeAt, countAt, endOf, startsFrom, starts, segmentAt, segments}
 use Rattle.as_path.specs.Faults.{numbersFault, segmentFault, faultAmong, firstFault}
+use Rattle.as_path.specs.Laws.{moved}
 use Rattle.as_path.proofs.Walking.{Whole, clean-test, Stand, one-more}
 use Rattle.as_path.proofs.CleanWalks.{Walked, walked}
 use Rattle.as_path.proofs.CleanWalks.Walked.{done, step}
-
--- A result that names a offset q bytes further on.
-abbrev pub moved : ℕ → Scan → Scan
-moved q Clean = Clean
-moved q (Faulty f p) = Faulty f (q + p)
 
 -- Moving along goes into both arms of a test.
 pub moved-cond : (q : ℕ) (b : Bool) (x y : Scan) → moved q (cond b x y) ≡ cond b (moved q x) (moved q y)

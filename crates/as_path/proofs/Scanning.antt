@@ -12,7 +12,7 @@ use lib.Seq.{getD-take, getD-drop}
 use Rattle.types.specs.declared.Fault.the-variants.{CutShort, UnknownType, Confederation, NoNumbers, ZeroNumber}
 use Rattle.as_path.specs.declared.Scan.{Scan}
 use Rattle.as_path.specs.declared.Scan.the-variants.{Clean, Faulty}
-use Rattle.as_path.specs.Segments.{numberAt, numbersAt, typeAt, countAt, endOf, starts, startsFrom}
+use Rattle.as_path.specs.Segments.{numberBytes, numberAt, numbersAt, typeAt, countAt, endOf, starts, startsFrom}
 use Rattle.as_path.specs.Faults.{numbersFault, segmentFault, faultAmong, firstFault}
 use Rattle.as_path.proofs.Walking.{Stand, left, first, next, none-left, one-more}
 
@@ -185,7 +185,7 @@ module _ {w : ℕ} {xs : List ℕ} {from count to k : ℕ} {body : List ℕ} (b 
 
 -- The number reader's sum.
 pub four-bytes : (xs : List ℕ) (p : ℕ)
-    → getD xs p 0 * 16777216 + getD xs (p + 1) 0 * 65536 + getD xs (p + 2) 0 * 256 + getD xs (p + 3) 0 ≡ numberAt 4 xs p
+    → getD xs p 0 * 16777216 + getD xs (p + 1) 0 * 65536 + getD xs (p + 2) 0 * 256 + getD xs (p + 3) 0 ≡ numberAt numberBytes xs p
 unfolding numberAt
 four-bytes xs p =
     rw (add-assoc p 1 1, add-assoc p 2 1) (omega arith)

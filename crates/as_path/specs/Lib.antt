@@ -3,3 +3,5 @@ pub mod Faults
 pub mod Grounds
 pub mod Merging
 pub mod Reading
+pub mod Laws
+pub mod Helpers

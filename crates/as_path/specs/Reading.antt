@@ -1,5 +1,5 @@
 -- What an attribute is read as: its first fault, else its ground, else its merged path. Row 17 arises only of a merged path.
-use Prim.Native.Nat.{ℕ, _+_}
+use Prim.Native.Nat.{ℕ}
 use mathlib.Core.Path.{_≡_}
 use mathlib.Core.List.{List}
 use mathlib.Core.Bool.{cond}
@@ -15,7 +15,7 @@ use Rattle.as_path.specs.declared.Grounded.{Grounded}
 use Rattle.as_path.specs.declared.Grounded.the-variants.{By, Not}
 use Rattle.as_path.specs.declared.Reading as reading
 use Rattle.as_path.specs.declared.Reading.the-variants.{Path, OnGround, Refused}
-use Rattle.as_path.specs.Segments.{Segment, segments}
+use Rattle.as_path.specs.Segments.{numberBytes, Segment, segments}
 use Rattle.as_path.specs.Faults.{firstFault}
 use Rattle.as_path.specs.Grounds.{groundOf}
 use Rattle.as_path.specs.Merging.{mergedPath}
@@ -23,11 +23,6 @@ use Rattle.as_path.specs.Merging.{mergedPath}
 -- The most numbers of a merged path.
 abbrev pub mostNumbers : ℕ
 mostNumbers = 64
-
--- `list` is stored in a buffer from index `from` on, as far as the buffer goes, and `to` is the index after it.
-pub record Stored (before : List ℕ) (from : ℕ) (list after : List ℕ) (to : ℕ) : Type 0 where
-  pub buffer : after ≡ sets before from list
-  pub index : to ≡ from + length list
 
 pub data Content : Type 0 where
   faulty : Fault → ℕ → Content
@@ -44,7 +39,7 @@ afterScan (Faulty f p) c = faulty f p
 
 unfoldable pub contentOf : ℕ → ℕ → List ℕ → Content
 contentOf role neighbour xs =
-    afterScan (firstFault 4 xs) (afterGround (groundOf role neighbour (segments 4 xs)) (mergedPath (segments 4 xs)))
+    afterScan (firstFault numberBytes xs) (afterGround (groundOf role neighbour (segments numberBytes xs)) (mergedPath (segments numberBytes xs)))
 
 -- What the reader answers: the refusal, the ground, or how many numbers the merged path has.
 abbrev pub readingOf : Content → reading.Reading
@@ -57,3 +52,7 @@ abbrev pub bufferAfter : Content → List ℕ → List ℕ
 bufferAfter (faulty f p) buffer = buffer
 bufferAfter (grounded g) buffer = buffer
 bufferAfter (merged l) buffer = sets buffer 0 l
+
+-- The reader's answer to a content, and the buffer before and after it.
+abbrev pub ReadAs : Content → reading.Reading → List ℕ → List ℕ → Type 0
+ReadAs c r before after = (r ≡ readingOf c) × (after ≡ bufferAfter c before)

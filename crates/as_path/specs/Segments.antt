@@ -1,10 +1,14 @@
 -- An AS_PATH attribute value as a list of bytes, and the segments in it ("Reading the attribute"; RFC 4271, section 4.3 b).
--- w is the width of a number in bytes: 4 here (RFC 6793).
-use Prim.Native.Nat.{ℕ, zero, suc, _+_, _*_, _^_}
+-- w is the width of a number in bytes.
+use Prim.Native.Nat.{ℕ, zero, suc, _+_, _*_, _/_, _^_}
 use mathlib.Core.List.{List, [], _∷_, map}
 use mathlib.Core.Bool.{cond}
 use lib.ListN.{length, getD}
 use lib.Dec.{leb}
+
+-- A number has 4 bytes (RFC 6793).
+abbrev pub numberBytes : ℕ
+numberBytes = 4
 
 -- The number of w bytes at offset p, high byte first.
 unfoldable pub numberAt : ℕ → List ℕ → ℕ → ℕ
@@ -15,6 +19,10 @@ numberAt (suc w) xs p = getD xs p 0 * 256 ^ w + numberAt w xs (p + 1)
 unfoldable pub numbersAt : ℕ → ℕ → List ℕ → ℕ → List ℕ
 numbersAt w zero xs p = []
 numbersAt w (suc n) xs p = numberAt w xs p ∷ numbersAt w n xs (p + w)
+
+-- The numbers of a segment's body.
+abbrev pub bodyNumbers : List ℕ → List ℕ
+bodyNumbers body = numbersAt numberBytes (length body / numberBytes) body 0
 
 -- Of the segment at offset p: its type byte, its count byte, and where the next segment starts.
 abbrev pub typeAt : List ℕ → ℕ → ℕ

@@ -5,18 +5,22 @@ use types::Ground;
 use types::Refusal;
 use types::Role;
 ghost use mathlib.Core.Path.{_≡_};
-ghost use Prim.Native.Nat.{_+_, _*_, _/_, _^_, _≤_, _<_};
+ghost use Prim.Native.Nat.{_+_, _*_, _^_, _≤_, _<_};
 ghost use lib.ListN.{length, set};
 ghost use Rattle.types.specs.Numbers.{roleNumber};
 ghost use Rattle.as_path.specs.declared.Scan.the-variants.{Clean};
-ghost use Rattle.as_path.specs.Segments.{numberAt, numbersAt, segmentAt, segments};
+ghost use Rattle.as_path.specs.Segments.{numberBytes, numberAt, bodyNumbers, segmentAt, segments};
 ghost use Rattle.as_path.specs.Faults.{firstFault};
 ghost use Rattle.as_path.specs.Grounds.{hasSet, groundOf, isNotNeighbour};
 ghost use Rattle.as_path.specs.Merging.{mergeRuns, mergedPath};
-ghost use Rattle.as_path.specs.Reading.{Stored, contentOf, readingOf, bufferAfter};
+ghost use Rattle.as_path.specs.Reading.{contentOf, ReadAs};
+ghost use Rattle.as_path.specs.Helpers.{Stored};
 
 // The most numbers of a merged path.
 pub const MOST_NUMBERS: usize = 64;
+
+// The width of a number, in bytes.
+const NUMBER_BYTES: usize = 4;
 
 // The first fault of an attribute, with its offset.
 pub enum Scan {
@@ -51,10 +55,10 @@ fn size(x: u8) -> usize
 
 // Number k of a segment's body.
 fn number_at(body: &[u8], k: usize) -> u32
-    requires { ⌜ 4 * k + 4 ≤ length (now body) ⌝ }
-    ensures { λ r. ⌜ r ≡ numberAt 4 (now (body .entry)) (4 * k) ⌝ }
+    requires { ⌜ numberBytes * k + numberBytes ≤ length (now body) ⌝ }
+    ensures { λ r. ⌜ r ≡ numberAt numberBytes (now (body .entry)) (numberBytes * k) ⌝ }
 {
-    let i = 4 * k;
+    let i = NUMBER_BYTES * k;
     let a = wide(body[i]);
     let b = wide(body[i + 1]);
     let c = wide(body[i + 2]);
@@ -63,7 +67,7 @@ fn number_at(body: &[u8], k: usize) -> u32
 }
 
 fn first_fault(attr: &[u8]) -> Scan
-    ensures { λ r. ⌜ r ≡ firstFault 4 (now (attr .entry)) ⌝ }
+    ensures { λ r. ⌜ r ≡ firstFault numberBytes (now (attr .entry)) ⌝ }
 {
     let mut at: usize = 0;
     'segments: loop {
@@ -89,15 +93,15 @@ fn first_fault(attr: &[u8]) -> Scan
         if count == 0 {
             break 'segments Scan::Faulty(Fault::NoNumbers, at);
         }
-        if left - 2 < 4 * count {
+        if left - 2 < NUMBER_BYTES * count {
             break 'segments Scan::Faulty(Fault::CutShort, at);
         }
-        let to = from + 4 * count;
+        let to = from + NUMBER_BYTES * count;
         let body = &attr[from..to];
         let mut k: usize = 0;
         while k < count {
             if number_at(body, k) == 0 {
-                break 'segments Scan::Faulty(Fault::ZeroNumber, from + 4 * k);
+                break 'segments Scan::Faulty(Fault::ZeroNumber, from + NUMBER_BYTES * k);
             }
             k += 1;
         }
@@ -107,8 +111,8 @@ fn first_fault(attr: &[u8]) -> Scan
 
 // A segment of type 1 anywhere.
 fn has_set(attr: &[u8]) -> bool
-    requires { ⌜ firstFault 4 (now attr) ≡ Clean ⌝ }
-    ensures { λ r. ⌜ r ≡ hasSet (segments 4 (now (attr .entry))) ⌝ }
+    requires { ⌜ firstFault numberBytes (now attr) ≡ Clean ⌝ }
+    ensures { λ r. ⌜ r ≡ hasSet (segments numberBytes (now (attr .entry))) ⌝ }
 {
     let mut at: usize = 0;
     while at < attr.len() {
@@ -116,15 +120,15 @@ fn has_set(attr: &[u8]) -> bool
             return true;
         }
         let count = size(attr[at + 1]);
-        at = at + 2 + 4 * count;
+        at = at + 2 + NUMBER_BYTES * count;
     }
     false
 }
 
 // The first segment is a sequence, and its first number ought to be the neighbour and is not.
 fn is_not_neighbour(role: Role, neighbour: AsNumber, attr: &[u8]) -> bool
-    requires { ⌜ (0 < length (now attr)) × (firstFault 4 (now attr) ≡ Clean) ⌝ }
-    ensures { λ r. ⌜ r ≡ isNotNeighbour (roleNumber role) (neighbour .0) (segmentAt 4 (now (attr .entry)) 0) ⌝ }
+    requires { ⌜ (0 < length (now attr)) × (firstFault numberBytes (now attr) ≡ Clean) ⌝ }
+    ensures { λ r. ⌜ r ≡ isNotNeighbour (roleNumber role) (neighbour .0) (segmentAt numberBytes (now (attr .entry)) 0) ⌝ }
 {
     if attr[0] != 2 {
         return false;
@@ -138,8 +142,8 @@ fn is_not_neighbour(role: Role, neighbour: AsNumber, attr: &[u8]) -> bool
 }
 
 fn ground(role: Role, neighbour: AsNumber, attr: &[u8]) -> Grounded
-    requires { ⌜ firstFault 4 (now attr) ≡ Clean ⌝ }
-    ensures { λ r. ⌜ r ≡ groundOf (roleNumber role) (neighbour .0) (segments 4 (now (attr .entry))) ⌝ }
+    requires { ⌜ firstFault numberBytes (now attr) ≡ Clean ⌝ }
+    ensures { λ r. ⌜ r ≡ groundOf (roleNumber role) (neighbour .0) (segments numberBytes (now (attr .entry))) ⌝ }
 {
     if attr.len() == 0 {
         return Grounded::By(Ground::Empty);
@@ -164,10 +168,10 @@ fn put(path: &mut [u32], i: usize, x: u32)
 
 // Stores a segment's numbers from index n on, each run as one number; answers the index after them.
 fn merge_segment(body: &[u8], path: &mut [u32], n: usize) -> usize
-    requires { ⌜ (4 ≤ length (now body)) × (n + length (now body) < 2 ^ 64) ⌝ }
-    ensures { λ r. ⌜ Stored (now (path .entry)) n (mergeRuns (numbersAt 4 (length (now (body .entry)) / 4) (now (body .entry)) 0)) (now (path .exit)) r ⌝ }
+    requires { ⌜ (numberBytes ≤ length (now body)) × (n + length (now body) < 2 ^ 64) ⌝ }
+    ensures { λ r. ⌜ Stored (now (path .entry)) n (mergeRuns (bodyNumbers (now (body .entry)))) (now (path .exit)) r ⌝ }
 {
-    let count = body.len() / 4;
+    let count = body.len() / NUMBER_BYTES;
     let mut last = number_at(body, 0);
     put(path, n, last);
     let mut to = n + 1;
@@ -186,15 +190,15 @@ fn merge_segment(body: &[u8], path: &mut [u32], n: usize) -> usize
 
 // Stores the merged path; answers how many numbers it has.
 fn merge(attr: &[u8], path: &mut [u32]) -> usize
-    requires { ⌜ firstFault 4 (now attr) ≡ Clean ⌝ }
-    ensures { λ r. ⌜ Stored (now (path .entry)) 0 (mergedPath (segments 4 (now (attr .entry)))) (now (path .exit)) r ⌝ }
+    requires { ⌜ firstFault numberBytes (now attr) ≡ Clean ⌝ }
+    ensures { λ r. ⌜ Stored (now (path .entry)) 0 (mergedPath (segments numberBytes (now (attr .entry)))) (now (path .exit)) r ⌝ }
 {
     let mut n: usize = 0;
     let mut at: usize = 0;
     while at < attr.len() {
         let from = at + 2;
         let count = size(attr[at + 1]);
-        let to = from + 4 * count;
+        let to = from + NUMBER_BYTES * count;
         n = merge_segment(&attr[from..to], path, n);
         at = to;
     }
@@ -203,7 +207,7 @@ fn merge(attr: &[u8], path: &mut [u32]) -> usize
 
 // Reads an attribute. Of a merged path the buffer takes as much as it holds.
 pub fn read(role: Role, neighbour: AsNumber, attr: &[u8], path: &mut [u32]) -> Reading
-    ensures { λ r. ⌜ (r ≡ readingOf (contentOf (roleNumber role) (neighbour .0) (now (attr .entry)))) × (now (path .exit) ≡ bufferAfter (contentOf (roleNumber role) (neighbour .0) (now (attr .entry))) (now (path .entry))) ⌝ }
+    ensures { λ r. ⌜ ReadAs (contentOf (roleNumber role) (neighbour .0) (now (attr .entry))) r (now (path .entry)) (now (path .exit)) ⌝ }
 {
     match first_fault(attr) {
         Scan::Faulty(fault, at) => Reading::Refused(Refusal::Attribute(fault, at)),

@@ -1,6 +1,46 @@
 -- A call's answer, matched and told in words. Assumes nothing.
-use mathlib.Core.Path.{_≡_, sym, _∙_, ap}
+use Prim.Native.Nat.{ℕ, _<_}
+use mathlib.Core.Path.{_≡_, refl, sym, _∙_, ap}
+use mathlib.Core.List.{List}
+use mathlib.Core.Option.{Option, some}
+use native.Mathlib.Omega.{arith}
+use lib.IntN.{ℤ}
+use Rattle.types.specs.declared.Place.{Place}
+use Rattle.types.specs.declared.Place.the-variants.{Nowhere, Byte}
+use Rattle.types.specs.declared.Refusal.{Refusal}
+use Rattle.types.specs.declared.Judged.{Judged}
+use Rattle.types.specs.declared.Judged.the-variants.{Answered, Refused}
+use Rattle.types.specs.Numbers.{refusalPlace}
+use Rattle.types.specs.Rows.{Effect, effect}
+use Rattle.rules.specs.Judging.{mostBytes}
+use Rattle.filter.specs.Calls.{Keeping, refusalIn, judgeAnswer, keepEffect}
+use Rattle.filter.proofs.Places.{place-within, judge-placed, keep-placed}
+use Rattle.c_api.specs.Answers.{toldRoute, placeWord, telling}
+use Rattle.c_api.specs.Helpers.{placeIn}
 
 -- The answer a is what the step s answers, and it matched v: so what is told of v is told of s.
-pub told : {A X : Type 0} (tell : A → X) {a s v : A} → a ≡ s → a ≡ v → tell v ≡ tell s
-told tell e matched = ap tell (sym matched ∙ e)
+pub tells : {A X : Type 0} (tell : A → X) {a v : A} {s : Effect A} {ws : List ℕ} {x : X} → effect a ws ≡ s → a ≡ v → x ≡ tell v → effect x ws ≡ telling tell s
+tells tell {ws = ws} e matched t = ap (λ y. effect y ws) (t ∙ ap tell (sym matched)) ∙ ap (telling tell) e
+
+-- What is told of a judging, part by part.
+pub routed : {r r′ : ℕ} {ws ws′ : List ℕ} {g g′ : ℤ} → r ≡ r′ → ws ≡ ws′ → g ≡ g′ → toldRoute r ws g ≡ toldRoute r′ ws′ g′
+routed p q h = λ i. toldRoute (p i) (q i) (h i)
+
+-- A place that is told is below the most bytes, if every place of a refusal is.
+place-below : (j : Judged) → ((r : Refusal) → refusalIn j ≡ some r → (p : ℕ) → refusalPlace r ≡ Byte p → p < mostBytes) → placeIn j < mostBytes
+place-below (Answered a) h = omega arith
+place-below (Refused r) h = go (refusalPlace r) refl
+  where
+    go : (x : Place) → refusalPlace r ≡ x → placeWord x < mostBytes
+    go Nowhere e = omega arith
+    go (Byte p) e = h r refl p e
+
+-- So are those of Judge and Keep.
+pub judge-below : (reg : List ℕ) (role neighbour : ℕ) (attribute : List ℕ) → placeIn (judgeAnswer reg role neighbour attribute) < mostBytes
+judge-below reg role neighbour attribute =
+    place-below (judgeAnswer reg role neighbour attribute)
+    (λ r e p h. place-within attribute r p (judge-placed role neighbour attribute reg r e p h) .1)
+
+pub keep-below : (reg led : List ℕ) (k : Keeping) → placeIn (keepEffect reg led k .answer) < mostBytes
+keep-below reg led k =
+    place-below (keepEffect reg led k .answer) (λ r e p h. place-within (k .attribute) r p (keep-placed reg led k r e p h) .1)

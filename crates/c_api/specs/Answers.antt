@@ -1,12 +1,12 @@
 -- The answers as C gets them: the refusal's number as the result, 0 where there is none, and the rest in words.
-use Prim.Native.Nat.{ℕ, _%_, _^_}
+use Prim.Native.Nat.{ℕ}
 use mathlib.Core.List.{List, [], _∷_}
+use mathlib.Core.Option.{Option, none, some}
 use lib.IntN.{ℤ, pos}
 use Rattle.types.specs.declared.Answer.{Answer}
-use Rattle.types.specs.declared.Answer.the-variants.{Plain, WithGap}
 use Rattle.types.specs.declared.Verdict.{Verdict}
-use Rattle.types.specs.declared.Refusal.{Refusal}
-use Rattle.types.specs.declared.Refusal.the-variants.{TableLength, RegisterMalformed, RoutesMalformed, SourceNumber, CustomerZero, ProviderList, NoRecord, RegisterFull, RoleNumber, NeighbourZero, AttributeLength, Attribute, PathLength, RouteTaken, NoRoute, RoutesFull}
+use Rattle.types.specs.declared.Place.{Place}
+use Rattle.types.specs.declared.Place.the-variants.{Nowhere, Byte}
 use Rattle.types.specs.declared.Filed.{Filed}
 use Rattle.types.specs.declared.Filed.the-variants as filed
 use Rattle.types.specs.declared.Removal.{Removal}
@@ -17,81 +17,73 @@ use Rattle.types.specs.declared.Judged.{Judged}
 use Rattle.types.specs.declared.Judged.the-variants as judged
 use Rattle.types.specs.declared.Rejudged.{Rejudged}
 use Rattle.types.specs.declared.Rejudged.the-variants as rejudged
-use Rattle.types.specs.Numbers.{verdictNumber, verdictGround, placeA, placeB, refusalNumber}
+use Rattle.types.specs.Numbers.{verdictNumber, verdictGround, placeA, placeB, verdictOf, answerGap, refusalNumber, refusalPlace}
+use Rattle.types.specs.Rows.{Effect, effect}
 
--- The place of a refusal by rows 12 to 16; it is at most 1,024, so no word loses a bit of it.
-abbrev pub placeWord : Refusal → ℕ
-placeWord TableLength = 0
-placeWord RegisterMalformed = 0
-placeWord RoutesMalformed = 0
-placeWord SourceNumber = 0
-placeWord CustomerZero = 0
-placeWord ProviderList = 0
-placeWord NoRecord = 0
-placeWord RegisterFull = 0
-placeWord RoleNumber = 0
-placeWord NeighbourZero = 0
-placeWord AttributeLength = 0
-placeWord (Attribute f p) = p % 4294967296
-placeWord PathLength = 0
-placeWord RouteTaken = 0
-placeWord NoRoute = 0
-placeWord RoutesFull = 0
+-- What C gets of a call: its result, and the words that it writes.
+pub record Told : Type 0 where
+  pub result : ℕ
+  pub words : List ℕ
+
+abbrev pub told : ℕ → List ℕ → Told
+told result words = record { result = result; words = words }
+
+-- What C gets of a judging: the gap as well.
+pub record ToldRoute : Type 0 where
+  pub result : ℕ
+  pub words : List ℕ
+  pub gap : ℤ
+
+abbrev pub toldRoute : ℕ → List ℕ → ℤ → ToldRoute
+toldRoute result words gap = record { result = result; words = words; gap = gap }
+
+-- A call's effect with its answer as C gets it; the lent words stay the same.
+abbrev pub telling : {A B : Type 0} → (A → B) → Effect A → Effect B
+telling tell e = effect (tell (e .answer)) (e .words)
+
+-- ---- the calls on a table
 
 -- File: 0 new, 1 replaced.
-abbrev pub filedRow : Filed → ℕ
-filedRow filed.New = 0
-filedRow filed.Replaced = 0
-filedRow (filed.Refused r) = refusalNumber r
+abbrev pub filedTold : Filed → Told
+filedTold filed.New = told 0 (0 ∷ [])
+filedTold filed.Replaced = told 0 (1 ∷ [])
+filedTold (filed.Refused r) = told (refusalNumber r) (0 ∷ [])
 
-abbrev pub filedWords : Filed → List ℕ
-filedWords filed.New = 0 ∷ []
-filedWords filed.Replaced = 1 ∷ []
-filedWords (filed.Refused r) = 0 ∷ []
-
-abbrev pub removalRow : Removal → ℕ
-removalRow removal.Done = 0
-removalRow (removal.Refused r) = refusalNumber r
+-- Withdraw and Drop: the result alone.
+abbrev pub removalTold : Removal → ℕ
+removalTold removal.Done = 0
+removalTold (removal.Refused r) = refusalNumber r
 
 -- Clear: how many records went.
-abbrev pub clearedRow : Cleared → ℕ
-clearedRow (cleared.Gone n) = 0
-clearedRow (cleared.Refused r) = refusalNumber r
-
-abbrev pub clearedWords : Cleared → List ℕ
-clearedWords (cleared.Gone n) = n ∷ []
-clearedWords (cleared.Refused r) = 0 ∷ []
+abbrev pub clearedTold : Cleared → Told
+clearedTold (cleared.Gone n) = told 0 (n ∷ [])
+clearedTold (cleared.Refused r) = told (refusalNumber r) (0 ∷ [])
 
 -- Re-judge: how many routes changed.
-abbrev pub rejudgedRow : Rejudged → ℕ
-rejudgedRow (rejudged.Changed n) = 0
-rejudgedRow (rejudged.Refused r) = refusalNumber r
+abbrev pub rejudgedTold : Rejudged → Told
+rejudgedTold (rejudged.Changed n) = told 0 (n ∷ [])
+rejudgedTold (rejudged.Refused r) = told (refusalNumber r) (0 ∷ [])
 
-abbrev pub rejudgedWords : Rejudged → List ℕ
-rejudgedWords (rejudged.Changed n) = n ∷ []
-rejudgedWords (rejudged.Refused r) = 0 ∷ []
+-- ---- Judge and Keep
 
--- Judge and Keep: verdict, ground, place a, place b, whether a gap is given, and the place of a refusal.
+-- The place of a refusal; 0 where it has none.
+abbrev pub placeWord : Place → ℕ
+placeWord Nowhere = 0
+placeWord (Byte p) = p
+
+-- Whether a gap is given, and the gap; 0 where none is.
+abbrev pub gapGiven : Option ℤ → ℕ
+gapGiven none = 0
+gapGiven (some g) = 1
+
+abbrev pub gapTold : Option ℤ → ℤ
+gapTold none = pos 0
+gapTold (some g) = g
+
+-- Verdict, ground, place a, place b, whether a gap is given, and the place of a refusal.
 abbrev pub verdictWords : Verdict → ℕ → List ℕ
 verdictWords v given = verdictNumber v ∷ verdictGround v ∷ placeA v ∷ placeB v ∷ given ∷ 0 ∷ []
 
-abbrev pub answerWords : Answer → List ℕ
-answerWords (Plain v) = verdictWords v 0
-answerWords (WithGap v g) = verdictWords v 1
-
-abbrev pub judgedRow : Judged → ℕ
-judgedRow (judged.Answered a) = 0
-judgedRow (judged.Refused r) = refusalNumber r
-
-abbrev pub judgedWords : Judged → List ℕ
-judgedWords (judged.Answered a) = answerWords a
-judgedWords (judged.Refused r) = 0 ∷ 0 ∷ 0 ∷ 0 ∷ 0 ∷ placeWord r ∷ []
-
--- The gap; 0 where none is given.
-abbrev pub answerGap : Answer → ℤ
-answerGap (Plain v) = pos 0
-answerGap (WithGap v g) = g
-
-abbrev pub judgedGap : Judged → ℤ
-judgedGap (judged.Answered a) = answerGap a
-judgedGap (judged.Refused r) = pos 0
+abbrev pub judgedTold : Judged → ToldRoute
+judgedTold (judged.Answered a) = toldRoute 0 (verdictWords (verdictOf a) (gapGiven (answerGap a))) (gapTold (answerGap a))
+judgedTold (judged.Refused r) = toldRoute (refusalNumber r) (0 ∷ 0 ∷ 0 ∷ 0 ∷ 0 ∷ placeWord (refusalPlace r) ∷ []) (pos 0)

@@ -4,49 +4,48 @@ use types::AsNumber;
 use types::Cleared;
 use types::Filed;
 use types::Judged;
+use types::Place;
 use types::Refusal;
 use types::Rejudged;
 use types::Removal;
 use types::RouteNumber;
 use types::Verdict;
+ghost use Prim.Native.Nat.{_<_};
 ghost use mathlib.Core.Path.{_≡_};
+ghost use Rattle.types.specs.Numbers.{refusalPlace};
+ghost use Rattle.types.specs.Rows.{effect};
+ghost use Rattle.rules.specs.Judging.{mostBytes};
 ghost use Rattle.register.specs.Calls.{fileEffect, withdrawEffect, clearEffect};
 ghost use Rattle.ledger.specs.Calls.{dropEffect};
-ghost use Rattle.filter.specs.Calls.{judgeAnswer, keepEffect, rejudgeEffect};
-ghost use Rattle.c_api.specs.Answers.{placeWord, filedRow, filedWords, removalRow, clearedRow, clearedWords, rejudgedRow, rejudgedWords, verdictWords, judgedRow, judgedWords, judgedGap};
+ghost use Rattle.filter.specs.Calls.{judgeAnswer, keeping, keepEffect, rejudgeEffect};
+ghost use Rattle.c_api.specs.Answers.{told, toldRoute, telling, placeWord, filedTold, removalTold, clearedTold, rejudgedTold, verdictWords, judgedTold};
+ghost use Rattle.c_api.specs.Helpers.{placeIn};
 
+// The words of an answer to Judge or Keep: verdict, ground, place a, place b, whether a gap is given, the place of a refusal.
+pub const ANSWER_WORDS: usize = 6;
+
+// The place of a refusal, 0 if it has none. Every place is below the most bytes of an attribute, so the word holds it.
 fn place_word(r: Refusal) -> u32
-    ensures { λ p. ⌜ p ≡ placeWord r ⌝ }
+    requires { ⌜ placeWord (refusalPlace r) < mostBytes ⌝ }
+    ensures { λ p. ⌜ p ≡ placeWord (refusalPlace r) ⌝ }
 {
-    match r {
-        Refusal::TableLength => 0,
-        Refusal::RegisterMalformed => 0,
-        Refusal::RoutesMalformed => 0,
-        Refusal::SourceNumber => 0,
-        Refusal::CustomerZero => 0,
-        Refusal::ProviderList => 0,
-        Refusal::NoRecord => 0,
-        Refusal::RegisterFull => 0,
-        Refusal::RoleNumber => 0,
-        Refusal::NeighbourZero => 0,
-        Refusal::AttributeLength => 0,
-        Refusal::Attribute(_, p) => (p % 4294967296) as u32,
-        Refusal::PathLength => 0,
-        Refusal::RouteTaken => 0,
-        Refusal::NoRoute => 0,
-        Refusal::RoutesFull => 0,
+    match r.place() {
+        Place::Nowhere => 0,
+        Place::Byte(p) => p as u32,
     }
 }
 
-fn verdict_words(v: Verdict, given: u32, out: &mut [u32; 6])
+// The words of a verdict.
+fn verdict_words(v: Verdict, given: u32, out: &mut [u32; ANSWER_WORDS])
     ensures { λ _. ⌜ now (out .exit) ≡ verdictWords v given ⌝ }
 {
     *out = [v.number(), v.ground(), v.place_a(), v.place_b(), given, 0];
 }
 
 // A judging's answer, told in words.
-fn tell(j: Judged, out: &mut [u32; 6], gap: &mut i32) -> u32
-    ensures { λ r. ⌜ (r ≡ judgedRow j) × (now (out .exit) ≡ judgedWords j) × (now (gap .exit) ≡ judgedGap j) ⌝ }
+fn tell(j: Judged, out: &mut [u32; ANSWER_WORDS], gap: &mut i32) -> u32
+    requires { ⌜ placeIn j < mostBytes ⌝ }
+    ensures { λ r. ⌜ toldRoute r (now (out .exit)) (now (gap .exit)) ≡ judgedTold j ⌝ }
 {
     match j {
         Judged::Answered(a) => match a {
@@ -69,6 +68,7 @@ fn tell(j: Judged, out: &mut [u32; 6], gap: &mut i32) -> u32
     }
 }
 
+// File: out[0] is 0 for new, 1 for replaced. Rows 1, 2, 4, 5, 6, 8.
 #[no_mangle]
 pub extern "C" fn aspa_file(
     register: &mut [u32],
@@ -77,7 +77,8 @@ pub extern "C" fn aspa_file(
     providers: &[u32],
     out: &mut [u32; 1],
 ) -> u32
-    ensures { λ r. ⌜ (r ≡ filedRow (fileEffect (now (register .entry)) source customer (now (providers .entry)) .answer)) × (now (out .exit) ≡ filedWords (fileEffect (now (register .entry)) source customer (now (providers .entry)) .answer)) × (now (register .exit) ≡ fileEffect (now (register .entry)) source customer (now (providers .entry)) .words) ⌝ }
+    ensures { λ r. ⌜ effect (told r (now (out .exit))) (now (register .exit))
+        ≡ telling filedTold (fileEffect (now (register .entry)) source customer (now (providers .entry))) ⌝ }
 {
     match filter::file(register, source, AsNumber(customer), providers) {
         Filed::New => {
@@ -95,9 +96,10 @@ pub extern "C" fn aspa_file(
     }
 }
 
+// Withdraw. Rows 1, 2, 4, 5, 7.
 #[no_mangle]
 pub extern "C" fn aspa_withdraw(register: &mut [u32], source: u32, customer: u32) -> u32
-    ensures { λ r. ⌜ (r ≡ removalRow (withdrawEffect (now (register .entry)) source customer .answer)) × (now (register .exit) ≡ withdrawEffect (now (register .entry)) source customer .words) ⌝ }
+    ensures { λ r. ⌜ effect r (now (register .exit)) ≡ telling removalTold (withdrawEffect (now (register .entry)) source customer) ⌝ }
 {
     match filter::withdraw(register, source, AsNumber(customer)) {
         Removal::Done => 0,
@@ -105,9 +107,11 @@ pub extern "C" fn aspa_withdraw(register: &mut [u32], source: u32, customer: u32
     }
 }
 
+// Clear: out[0] is how many records went. Rows 1, 2, 4.
 #[no_mangle]
 pub extern "C" fn aspa_clear(register: &mut [u32], source: u32, out: &mut [u32; 1]) -> u32
-    ensures { λ r. ⌜ (r ≡ clearedRow (clearEffect (now (register .entry)) source .answer)) × (now (out .exit) ≡ clearedWords (clearEffect (now (register .entry)) source .answer)) × (now (register .exit) ≡ clearEffect (now (register .entry)) source .words) ⌝ }
+    ensures { λ r. ⌜ effect (told r (now (out .exit))) (now (register .exit))
+        ≡ telling clearedTold (clearEffect (now (register .entry)) source) ⌝ }
 {
     match filter::clear(register, source) {
         Cleared::Gone(n) => {
@@ -121,16 +125,18 @@ pub extern "C" fn aspa_clear(register: &mut [u32], source: u32, out: &mut [u32; 
     }
 }
 
+// Judge: the answer's words in out, the gap beside them. Rows 1, 2, 9, 10, 11, 12 to 16, 17.
 #[no_mangle]
 pub extern "C" fn aspa_judge(
     register: &[u32],
     role: u32,
     neighbour: u32,
     attribute: &[u8],
-    out: &mut [u32; 6],
+    out: &mut [u32; ANSWER_WORDS],
     gap: &mut i32,
 ) -> u32
-    ensures { λ r. ⌜ (r ≡ judgedRow (judgeAnswer (now (register .entry)) role neighbour (now (attribute .entry)))) × (now (out .exit) ≡ judgedWords (judgeAnswer (now (register .entry)) role neighbour (now (attribute .entry)))) × (now (gap .exit) ≡ judgedGap (judgeAnswer (now (register .entry)) role neighbour (now (attribute .entry)))) ⌝ }
+    ensures { λ r. ⌜ toldRoute r (now (out .exit)) (now (gap .exit))
+        ≡ judgedTold (judgeAnswer (now (register .entry)) role neighbour (now (attribute .entry))) ⌝ }
 {
     tell(
         filter::judge(register, role, AsNumber(neighbour), attribute),
@@ -139,6 +145,7 @@ pub extern "C" fn aspa_judge(
     )
 }
 
+// Keep: answers as Judge, and stores the route. Rows 1, 2, 3, 9, 10, 11, 12 to 16, 17, 18, 20.
 #[no_mangle]
 pub extern "C" fn aspa_keep(
     register: &[u32],
@@ -147,10 +154,11 @@ pub extern "C" fn aspa_keep(
     role: u32,
     neighbour: u32,
     attribute: &[u8],
-    out: &mut [u32; 6],
+    out: &mut [u32; ANSWER_WORDS],
     gap: &mut i32,
 ) -> u32
-    ensures { λ r. ⌜ (r ≡ judgedRow (keepEffect (now (register .entry)) (now (ledger .entry)) number role neighbour (now (attribute .entry)) .answer)) × (now (out .exit) ≡ judgedWords (keepEffect (now (register .entry)) (now (ledger .entry)) number role neighbour (now (attribute .entry)) .answer)) × (now (gap .exit) ≡ judgedGap (keepEffect (now (register .entry)) (now (ledger .entry)) number role neighbour (now (attribute .entry)) .answer)) × (now (ledger .exit) ≡ keepEffect (now (register .entry)) (now (ledger .entry)) number role neighbour (now (attribute .entry)) .words) ⌝ }
+    ensures { λ r. ⌜ effect (toldRoute r (now (out .exit)) (now (gap .exit))) (now (ledger .exit))
+        ≡ telling judgedTold (keepEffect (now (register .entry)) (now (ledger .entry)) (keeping number role neighbour (now (attribute .entry)))) ⌝ }
 {
     tell(
         filter::keep(
@@ -166,9 +174,10 @@ pub extern "C" fn aspa_keep(
     )
 }
 
+// Drop. Rows 1, 3, 19.
 #[no_mangle]
 pub extern "C" fn aspa_drop(ledger: &mut [u32], number: u32) -> u32
-    ensures { λ r. ⌜ (r ≡ removalRow (dropEffect (now (ledger .entry)) number .answer)) × (now (ledger .exit) ≡ dropEffect (now (ledger .entry)) number .words) ⌝ }
+    ensures { λ r. ⌜ effect r (now (ledger .exit)) ≡ telling removalTold (dropEffect (now (ledger .entry)) number) ⌝ }
 {
     match filter::drop(ledger, RouteNumber(number)) {
         Removal::Done => 0,
@@ -176,9 +185,11 @@ pub extern "C" fn aspa_drop(ledger: &mut [u32], number: u32) -> u32
     }
 }
 
+// Re-judge: out[0] is how many routes changed. Rows 1, 2, 3.
 #[no_mangle]
 pub extern "C" fn aspa_rejudge(register: &[u32], ledger: &mut [u32], out: &mut [u32; 1]) -> u32
-    ensures { λ r. ⌜ (r ≡ rejudgedRow (rejudgeEffect (now (register .entry)) (now (ledger .entry)) .answer)) × (now (out .exit) ≡ rejudgedWords (rejudgeEffect (now (register .entry)) (now (ledger .entry)) .answer)) × (now (ledger .exit) ≡ rejudgeEffect (now (register .entry)) (now (ledger .entry)) .words) ⌝ }
+    ensures { λ r. ⌜ effect (told r (now (out .exit))) (now (ledger .exit))
+        ≡ telling rejudgedTold (rejudgeEffect (now (register .entry)) (now (ledger .entry))) ⌝ }
 {
     match filter::rejudge(register, ledger) {
         Rejudged::Changed(n) => {

@@ -6,19 +6,20 @@ use native.Mathlib.Omega.{arith}
 use borrow.Author.Tests.{ne-eqb}
 use lib.ListN.{length, take, drop, length-drop, drop-of-length-le, replicate}
 use lib.Seq.{take-all, drop-drop}
+use Rattle.commands.specs.Commands.{mostLine}
 use Rattle.register.specs.Register.{registerWords}
 use Rattle.ledger.specs.Routes.{ledgerWords}
 use Rattle.protocol.specs.declared.State.{State}
 use Rattle.protocol.specs.declared.Lent.{Lent}
-use Rattle.protocol.specs.Commands.{mostWords}
-use Rattle.protocol.specs.Feeding.{Session, fed, fedBytes, HeldBoth, lentTables, lineIn, mostBytes, mostText, Ready}
+use Rattle.protocol.specs.Commands.{mostLent}
+use Rattle.protocol.specs.Feeding.{Session, fed, fedBytes, HeldBoth, lentTables, lineIn, mostText, Ready}
 use Rattle.protocol.specs.Sessions.{fedAll}
 use Rattle.protocol.proofs.Feedings.{some-used}
 use Rattle.protocol.proofs.Holding.{lends-zeros}
 
 -- The tables are held as they were, and there is room for an answer.
 pub ready :
-    (r : State) {lent : Lent} (line reg led out : List ℕ) → length line ≡ mostBytes → HeldBoth lent reg led → r .lent ≡ lent → r .out + mostText ≤ length out
+    (r : State) {lent : Lent} (line reg led out : List ℕ) → length line ≡ mostLine → HeldBoth lent reg led → r .lent ≡ lent → r .out + mostText ≤ length out
     → Ready r line reg led out
 ready r line reg led out l h e room = record { line-size = l; held = rw e h; room = room }
 
@@ -85,7 +86,7 @@ module _ {piece : List ℕ} {first now : Session} {from : ℕ} (g : Taking piece
 
 -- Both tables empty, of their full lengths.
 pub starts :
-    (line reg led out : List ℕ) → length line ≡ mostBytes → reg ≡ replicate mostWords 0 → led ≡ replicate mostWords 0 → mostText ≤ length out
+    (line reg led out : List ℕ) → length line ≡ mostLine → reg ≡ replicate mostLent 0 → led ≡ replicate mostLent 0 → mostText ≤ length out
     → Ready (record { lent = record { register = registerWords; ledger = ledgerWords }; line = 0; out = 0 }) line reg led out
 starts line reg led out l e f room =
     record {

@@ -73,7 +73,10 @@ fn serve_line(
     out: &mut [u8],
 ) -> Step
     requires { ⌜ (Ready s (now line) (now reg) (now led) (now out)) × (from < length (now piece)) ⌝ }
-    ensures { λ r. ⌜ (sessionIn (r .state) (now (line .exit)) (now (reg .exit)) (now (led .exit)) ≡ fed (sessionIn s (now (line .entry)) (now (reg .entry)) (now (led .entry))) (drop from (now (piece .entry)))) × (r .to ≡ from + fedBytes (drop from (now (piece .entry)))) × (Ready (r .state) (now (line .exit)) (now (reg .exit)) (now (led .exit)) (now (out .exit))) ⌝ }
+    ensures { λ r. ⌜ (sessionIn (r .state) (now (line .exit)) (now (reg .exit)) (now (led .exit))
+        ≡ fed (sessionIn s (now (line .entry)) (now (reg .entry)) (now (led .entry))) (drop from (now (piece .entry))))
+        × (r .to ≡ from + fedBytes (drop from (now (piece .entry))))
+        × (Ready (r .state) (now (line .exit)) (now (reg .exit)) (now (led .exit)) (now (out .exit))) ⌝ }
 {
     let fed = protocol::feed(&piece[from..], s, line, reg, led, out);
     let next = fed.state;
@@ -96,7 +99,9 @@ fn serve_piece(
     out: &mut [u8],
 ) -> Served
     requires { ⌜ Ready first (now line) (now reg) (now led) (now out) ⌝ }
-    ensures { λ r. ⌜ (r .more ≡ true → sessionIn (r .state) (now (line .exit)) (now (reg .exit)) (now (led .exit)) ≡ fedAll (length (now (piece .entry))) (sessionIn first (now (line .entry)) (now (reg .entry)) (now (led .entry))) (now (piece .entry))) × (Ready (r .state) (now (line .exit)) (now (reg .exit)) (now (led .exit)) (now (out .exit))) ⌝ }
+    ensures { λ r. ⌜ (r .more
+        ≡ true → sessionIn (r .state) (now (line .exit)) (now (reg .exit)) (now (led .exit)) ≡ fedAll (length (now (piece .entry))) (sessionIn first (now (line .entry)) (now (reg .entry)) (now (led .entry))) (now (piece .entry)))
+        × (Ready (r .state) (now (line .exit)) (now (reg .exit)) (now (led .exit)) (now (out .exit))) ⌝ }
 {
     let mut s = first;
     let mut from = 0;

@@ -14,9 +14,7 @@ use Rattle.types.specs.declared.Rejudged.{Rejudged}
 use Rattle.types.specs.declared.Rejudged.the-variants as rejudged
 use Rattle.types.specs.Numbers.{verdictNumber, verdictGround, placeA, placeB, verdictOf}
 use Rattle.types.specs.Rows.{firstGiven, Effect, unlessRefused}
-use Rattle.types.proofs.Refusing.{accepted-none}
 use Rattle.as_path.specs.Reading.{contentOf}
-use Rattle.rules.specs.Judging.{judgedRoute}
 use Rattle.ledger.specs.Routes.{Route, routesOf, ledgerOf, routeAt, routesOk}
 use Rattle.ledger.specs.Calls.{putRoute, differs, countDiffering}
 use Rattle.ledger.proofs.Entries.{routes-of-words}
@@ -27,7 +25,7 @@ use Rattle.register.proofs.Refusals.{Register}
 use Rattle.rejudge.specs.Rejudging.{rejudgedRoute}
 use Rattle.rejudge.proofs.Rejudgements.{rejudged-ok, ground-stays, all-once}
 use Rattle.rejudge.proofs.Differences.{countBelow, changed-is, second-none}
-use Rattle.filter.specs.Calls.{hopIn, refusalIn, pathIn, judgeAnswer, keptRoute, keepRows, keepEffect, rejudgeRows, rejudgeEffect}
+use Rattle.filter.specs.Calls.{Keeping, hopIn, refusalIn, pathIn, judgeAnswer, keptAnswer, keptRoute, keepRows, keepEffect, rejudgeRows, rejudgeEffect}
 use Rattle.filter.proofs.Judgings.{judge-answers}
 use Rattle.filter.proofs.Refusals.{keep-reads}
 use Rattle.filter.proofs.Tables.{Accepted, accepted, kept-routes-ok, passed-tables, rejudge-accepts, rejudge-preserves}
@@ -39,56 +37,50 @@ read-back rs e = let room = has-room rs e in routes-of-words rs (room-routes rs 
 -- ---- Keep
 
 -- What a route that is kept with an answer holds.
-pub record KeptWith (answer : Answer) (number role neighbour : ℕ) (attribute : List ℕ) (r : Route) : Type 0 where
-  pub number-is : r .number ≡ number
-  pub role-is : r .role ≡ role
-  pub neighbour-is : r .neighbour ≡ neighbour
+pub record KeptWith (answer : Answer) (k : Keeping) (r : Route) : Type 0 where
+  pub number-is : r .number ≡ k .number
+  pub role-is : r .role ≡ k .role
+  pub neighbour-is : r .neighbour ≡ k .neighbour
   pub ground-is : r .ground ≡ verdictGround (verdictOf answer)
   pub verdict-is : r .verdict ≡ verdictNumber (verdictOf answer)
   pub a-is : r .a ≡ placeA (verdictOf answer)
   pub b-is : r .b ≡ placeB (verdictOf answer)
-  pub path-is : r .path ≡ pathIn (contentOf role neighbour attribute)
+  pub path-is : r .path ≡ pathIn (contentOf (k .role) (k .neighbour) (k .attribute))
 
-module _ (reg led : List ℕ) (number role neighbour : ℕ) (attribute : List ℕ)
-    {answer : Answer} (h : keepEffect reg led number role neighbour attribute .answer ≡ Answered answer) where
+module _ (reg led : List ℕ) (k : Keeping) {answer : Answer} (h : keepEffect reg led k .answer ≡ Answered answer) where
   -- An accepted Keep is given no row.
-  pub keep-given : firstGiven (keepRows reg led number role neighbour attribute) ≡ none
-  keep-given = sym (keep-reads reg led number role neighbour attribute) ∙ ap refusalIn h
+  pub keep-given : firstGiven (keepRows reg led k) ≡ none
+  keep-given = sym (keep-reads reg led k) ∙ ap refusalIn h
 
   -- It had well-formed tables and room.
-  pub keep-accepted : Accepted reg led number role neighbour attribute
-  keep-accepted = accepted reg led number role neighbour attribute keep-given
+  pub keep-accepted : Accepted reg led k
+  keep-accepted = accepted reg led k keep-given
 
   -- It answers what its judging answers.
-  keep-judged : judgedRoute (hopIn reg) role neighbour attribute ≡ Answered answer
+  keep-judged : keptAnswer reg k ≡ Answered answer
   unfolding keepEffect
   keep-judged = rw keep-given at h
 
   -- An accepted Keep answers what Judge answers.
-  pub keep-answers : judgeAnswer reg role neighbour attribute ≡ Answered answer
+  pub keep-answers : judgeAnswer reg (k .role) (k .neighbour) (k .attribute) ≡ Answered answer
   keep-answers =
       let w = keep-accepted .register in
-      judge-answers reg role neighbour attribute (w .long) (w .ok) ∙ keep-judged
+      judge-answers reg (k .role) (k .neighbour) (k .attribute) (w .long) (w .ok) ∙ keep-judged
 
   -- It leaves the routes with the kept one.
-  pub keep-leaves-routes :
-      routesOf (keepEffect reg led number role neighbour attribute .words)
-      ≡ putRoute (keptRoute reg number role neighbour attribute) (routesOf led)
+  pub keep-leaves-routes : routesOf (keepEffect reg led k .words) ≡ putRoute (keptRoute reg k) (routesOf led)
   unfolding keepEffect
   keep-leaves-routes =
-      rw keep-given
-      (read-back (putRoute (keptRoute reg number role neighbour attribute) (routesOf led))
-      (kept-routes-ok reg led number role neighbour attribute keep-accepted))
+      rw keep-given (read-back (putRoute (keptRoute reg k) (routesOf led)) (kept-routes-ok reg led k keep-accepted))
 
   -- Under its own number the kept route is found, and under every other what was found before.
-  pub keep-stores : (k : ℕ)
-      → findRoute k (routesOf (keepEffect reg led number role neighbour attribute .words))
-      ≡ cond (eqb k number) (some (keptRoute reg number role neighbour attribute)) (findRoute k (routesOf led))
-  keep-stores k =
-      ap (findRoute k) keep-leaves-routes ∙ stored-finds k (keptRoute reg number role neighbour attribute) (routesOf led)
+  pub keep-stores : (number : ℕ)
+      → findRoute number (routesOf (keepEffect reg led k .words))
+      ≡ cond (eqb number (k .number)) (some (keptRoute reg k)) (findRoute number (routesOf led))
+  keep-stores number = ap (findRoute number) keep-leaves-routes ∙ stored-finds number (keptRoute reg k) (routesOf led)
 
   -- The kept route has the answer's ground, verdict and places, its role and neighbour, and the merged path.
-  pub keep-holds : KeptWith answer number role neighbour attribute (keptRoute reg number role neighbour attribute)
+  pub keep-holds : KeptWith answer k (keptRoute reg k)
   keep-holds =
       rw keep-judged
       (record {
@@ -146,9 +138,7 @@ rejudge-accepted reg led {n} = go (firstGiven (rejudgeRows reg led)) refl
           words = ledgerOf (map (rejudgedRoute (hopIn reg)) (routesOf led));
         }) .answer ≡ rejudged.Changed n → Register reg × Ledger led
     go (some r) e h = let z : _≡_ {A = ℕ} 0 1 = cc in absurd (omega arith)
-    go none e h =
-        let given = accepted-none (rejudgeRows reg led) e in
-        passed-tables reg led (given 0) (given 1) (given 2)
+    go none e h = passed-tables reg led e
 
 -- An element of a mapped list.
 at-map : {A : Type 0} (f : A → A) (xs : List A) (i : ℕ) (d : A) → i < length xs → getD (map f xs) i d ≡ f (getD xs i d)

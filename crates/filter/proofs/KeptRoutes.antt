@@ -39,7 +39,7 @@ use Rattle.rules.proofs.Judges.{Judgement, on-ground, on-path, judgement, judge
 use Rattle.ledger.specs.Routes.{noZero, pathOk, groundOk, routeOk}
 use Rattle.ledger.specs.Calls.{routeFor, stamped}
 use Rattle.rejudge.proofs.Rejudgements.{still-ok}
-use Rattle.filter.specs.Calls.{hopIn, keptRoute}
+use Rattle.filter.specs.Calls.{Keeping, hopIn, keptRoute}
 
 -- ---- what an attribute is read as
 
@@ -228,18 +228,20 @@ module _ (number role neighbour : ℕ) (path : List ℕ) where
         path = path;
       }
 
-module _ (reg : List ℕ) (number role neighbour : ℕ) (attribute : List ℕ) (e : firstGiven (judgeRows role neighbour attribute) ≡ none) where
-  positive : leb 1 neighbour ≡ true
-  positive = above-zero neighbour (judged-arguments (hopIn reg) role neighbour attribute e .1)
+module _ (reg : List ℕ) (k : Keeping) (e : firstGiven (judgeRows (k .role) (k .neighbour) (k .attribute)) ≡ none) where
+  positive : leb 1 (k .neighbour) ≡ true
+  positive = above-zero (k .neighbour) (judged-arguments (hopIn reg) (k .role) (k .neighbour) (k .attribute) e .1)
 
   -- The route that Keep stores keeps the rules.
-  pub kept-ok : routeOk (keptRoute reg number role neighbour attribute) ≡ true
-  kept-ok = go (judgement (hopIn reg) role neighbour attribute e)
+  pub kept-ok : routeOk (keptRoute reg k) ≡ true
+  kept-ok = go (judgement (hopIn reg) (k .role) (k .neighbour) (k .attribute) e)
     where
-      role-ok : isRole role ≡ true
-      role-ok = judged-arguments (hopIn reg) role neighbour attribute e .0
+      role-ok : isRole (k .role) ≡ true
+      role-ok = judged-arguments (hopIn reg) (k .role) (k .neighbour) (k .attribute) e .0
 
-      go : Judgement (hopIn reg) role neighbour attribute → routeOk (keptRoute reg number role neighbour attribute) ≡ true
-      go (on-ground g c j) = rw (j, c) (ground-route-ok number role neighbour g role-ok positive (ground-role role neighbour attribute g c))
+      go : Judgement (hopIn reg) (k .role) (k .neighbour) (k .attribute) → routeOk (keptRoute reg k) ≡ true
+      go (on-ground g c j) =
+          rw (j, c) (ground-route-ok (k .number) (k .role) (k .neighbour) g role-ok positive (ground-role (k .role) (k .neighbour) (k .attribute) g c))
       go (on-path path c short j) =
-          rw (j, c) (path-route-ok number role neighbour path (hopIn reg) role-ok positive (path-ok role neighbour attribute path c short))
+          rw (j, c)
+          (path-route-ok (k .number) (k .role) (k .neighbour) path (hopIn reg) role-ok positive (path-ok (k .role) (k .neighbour) (k .attribute) path c short))

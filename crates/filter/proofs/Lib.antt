@@ -5,3 +5,4 @@ pub mod KeptRoutes
 pub mod Refusals
 pub mod Tables
 pub mod Answers
+pub mod Places

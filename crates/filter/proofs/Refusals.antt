@@ -1,9 +1,9 @@
 -- Each call is refused by the first of its rows that is given, and by no other; a refusal leaves the ledger's words. Assumes nothing.
 use Prim.Native.Nat.{ℕ, zero, suc, _≤_}
 use mathlib.Core.Path.{_≡_, refl, sym, _∙_, ap}
-use mathlib.Core.Bool.{Bool, not, _&&_}
+use mathlib.Core.Bool.{Bool, not}
 use mathlib.Core.Logic.{_↔_}
-use mathlib.Core.List.{List, [], _∷_}
+use mathlib.Core.List.{List, [], _∷_, _++_}
 use mathlib.Core.Option.{Option, none, some}
 use native.Mathlib.Omega.{arith}
 use lib.Dec.{eqb, ltb}
@@ -17,21 +17,18 @@ use Rattle.types.specs.declared.Judged.the-variants.{Answered, Refused}
 use Rattle.types.specs.declared.Rejudged.the-variants as rejudged
 use Rattle.types.specs.Numbers.{refusalNumber, faultNumber}
 use Rattle.types.specs.Roles.{isRole}
-use Rattle.types.specs.Rows.{rowIf, orElse, firstGiven, unlessRefused, FirstAt, Numbered, Ranged}
+use Rattle.types.specs.Rows.{rowIf, orElse, firstGiven, effect, unlessRefused, FirstAt, Ranged}
 use Rattle.types.proofs.Clashes.{some-not-none}
-use Rattle.types.proofs.Refusing.{refused-first, first-refuses, accepted-none, answers-first, refusal-leaves, numbered}
+use Rattle.types.proofs.Refusing.{refused-first, first-refuses, answers-first, refusal-leaves, numbered}
 use Rattle.as_path.specs.Reading.{mostNumbers, Content, faulty, grounded, merged, contentOf}
 use Rattle.rules.specs.Judging.{mostBytes, contentRow, judgeRows, unlessGiven, judgedRoute}
-use Rattle.rules.proofs.Judges.{first-append, judged-reads}
+use Rattle.rules.proofs.Judges.{first-append}
 use Rattle.register.specs.Register.{registerWords, registerOk}
-use Rattle.register.specs.Calls.{tableRow, registerRow}
 use Rattle.ledger.specs.Routes.{ledgerWords, routesOf, ledgerOf, roomFor, ledgerOk}
-use Rattle.ledger.specs.Calls.{holdsRoute, putRoute}
-use Rattle.filter.specs.Calls.{hopIn, refusalIn, judgeAnswer, keptRoute, keepRows, keepEffect, rejudgeRows, rejudgeEffect}
-
--- The rows of Judge: 1, 2, 9 to 17.
-abbrev pub judgeRowsOver : List ℕ → ℕ → ℕ → List ℕ → List (Option Refusal)
-judgeRowsOver reg role neighbour attribute = tableRow reg ∷ registerRow reg ∷ judgeRows role neighbour attribute
+use Rattle.ledger.specs.Calls.{holdsRoute, putRoute, storeRows}
+use Rattle.filter.specs.Calls.{Keeping, hopIn, registerRows, tableRows, judgeRowsOver, rejudgeRows, refusalIn, judgeAnswer, keptAnswer, keptRoute, keepRows, keepEffect, rejudgeEffect}
+use Rattle.filter.proofs.Judgings.{judged-row}
+use Rattle.filter.proofs.Keepings.{keep-first}
 
 -- ---- exactly when a call is refused, and what a refusal leaves
 
@@ -52,53 +49,53 @@ refuses-first j rows e r = (
   λ p. refusal-is j r (e ∙ first-refuses rows (p .0) r (p .1)),
 )
 
-module _ (reg : List ℕ) (role neighbour : ℕ) (attribute : List ℕ) where
-  -- Rows 9 to 17 refuse as the first of them that is given does.
-  pub judged-row : refusalIn (judgedRoute (hopIn reg) role neighbour attribute) ≡ firstGiven (judgeRows role neighbour attribute)
-  judged-row = judged-reads (hopIn reg) role neighbour attribute refusalIn (λ r. refl) (λ a. refl)
+-- Of two choices that give no row neither gives one.
+pub neither : (o p : Option Refusal) → orElse o p ≡ none → (o ≡ none) × (p ≡ none)
+neither (some r) p e = some-not-none e
+neither none p e = (refl, e)
 
+module _ (reg : List ℕ) (role neighbour : ℕ) (attribute : List ℕ) where
   -- Judge is refused as its rows refuse it.
   pub judge-reads : refusalIn (judgeAnswer reg role neighbour attribute) ≡ firstGiven (judgeRowsOver reg role neighbour attribute)
   unfolding judgeAnswer
-  judge-reads =
-      by-table (firstGiven (tableRow reg ∷ registerRow reg ∷ []))
-      ∙ sym (first-append (tableRow reg ∷ registerRow reg ∷ []) (judgeRows role neighbour attribute))
+  judge-reads = by-table (firstGiven (registerRows reg)) ∙ sym (first-append (registerRows reg) (judgeRows role neighbour attribute))
     where
       by-table : (o : Option Refusal) → refusalIn (unlessGiven o (judgedRoute (hopIn reg) role neighbour attribute))
           ≡ orElse o (firstGiven (judgeRows role neighbour attribute))
       by-table (some r) = refl
-      by-table none = judged-row
+      by-table none = judged-row (hopIn reg) role neighbour attribute
 
   -- Judge answers a refusal exactly when that is the first of its rows that is given.
   pub judge-refuses : (r : Refusal)
       → (judgeAnswer reg role neighbour attribute ≡ Refused r) ↔ ((i : ℕ) × FirstAt (judgeRowsOver reg role neighbour attribute) i r)
   judge-refuses = refuses-first (judgeAnswer reg role neighbour attribute) (judgeRowsOver reg role neighbour attribute) judge-reads
 
-module _ (reg led : List ℕ) (number role neighbour : ℕ) (attribute : List ℕ) where
-  abbrev keeping : List (Option Refusal)
-  keeping = keepRows reg led number role neighbour attribute
+module _ (reg led : List ℕ) (k : Keeping) where
+  -- What no row of is given: the tables, the judging, the store.
+  pub keep-none : firstGiven (keepRows reg led k) ≡ none
+      → (firstGiven (tableRows reg led) ≡ none) × (firstGiven (judgeRows (k .role) (k .neighbour) (k .attribute)) ≡ none)
+      × (firstGiven (storeRows led (keptRoute reg k)) ≡ none)
+  keep-none e =
+      let t = neither (firstGiven (tableRows reg led)) _ (sym (keep-first reg led k) ∙ e) in
+      let j = neither (firstGiven (judgeRows (k .role) (k .neighbour) (k .attribute))) (firstGiven (storeRows led (keptRoute reg k))) (t .1) in
+      (t .0, j .0, j .1)
 
   -- Keep is refused as its rows refuse it.
-  pub keep-reads : refusalIn (keepEffect reg led number role neighbour attribute .answer) ≡ firstGiven keeping
+  pub keep-reads : refusalIn (keepEffect reg led k .answer) ≡ firstGiven (keepRows reg led k)
   unfolding keepEffect
-  keep-reads = go (firstGiven keeping) refl
+  keep-reads = go (firstGiven (keepRows reg led k)) refl
     where
-      go : (o : Option Refusal) → firstGiven keeping ≡ o
-          → refusalIn (unlessRefused o Refused led
-          (record {
-            answer = judgedRoute (hopIn reg) role neighbour attribute;
-            words = ledgerOf (putRoute (keptRoute reg number role neighbour attribute) (routesOf led));
-          }) .answer) ≡ o
+      go : (o : Option Refusal) → firstGiven (keepRows reg led k) ≡ o
+          → refusalIn (unlessRefused o Refused led (effect (keptAnswer reg k) (ledgerOf (putRoute (keptRoute reg k) (routesOf led)))) .answer) ≡ o
       go (some r) e = refl
-      go none e = accepted-none keeping e 3
+      go none e = judged-row (hopIn reg) (k .role) (k .neighbour) (k .attribute) ∙ keep-none e .1
 
   -- Keep answers a refusal exactly when that is the first of its rows that is given.
-  pub keep-refuses : (r : Refusal) → (keepEffect reg led number role neighbour attribute .answer ≡ Refused r) ↔ ((i : ℕ) × FirstAt keeping i r)
-  keep-refuses = refuses-first (keepEffect reg led number role neighbour attribute .answer) keeping keep-reads
+  pub keep-refuses : (r : Refusal) → (keepEffect reg led k .answer ≡ Refused r) ↔ ((i : ℕ) × FirstAt (keepRows reg led k) i r)
+  keep-refuses = refuses-first (keepEffect reg led k .answer) (keepRows reg led k) keep-reads
 
   -- Refused, it leaves the ledger's words.
-  pub keep-leaves : (r : Refusal) → keepEffect reg led number role neighbour attribute .answer ≡ Refused r
-      → keepEffect reg led number role neighbour attribute .words ≡ led
+  pub keep-leaves : (r : Refusal) → keepEffect reg led k .answer ≡ Refused r → keepEffect reg led k .words ≡ led
   unfolding keepEffect
   keep-leaves r h = rw (sym keep-reads ∙ ap refusalIn h)
 
@@ -143,64 +140,77 @@ content-number (merged path) r e =
     let n : refusalNumber r ≡ 17 = numbered (ltb mostNumbers (length path)) PathLength r e in
     (omega (arith, n), omega (arith, n))
 
-module _ (reg : List ℕ) (role neighbour : ℕ) (attribute : List ℕ) where
-  -- Rows 9, 10, 11, and one of 12 to 17.
-  pub route-numbers : Ranged (judgeRows role neighbour attribute) ((9, 9) ∷ (10, 10) ∷ (11, 11) ∷ (12, 17) ∷ [])
-  route-numbers = (
-    ranged (not (isRole role)) RoleNumber,
-    (
-      ranged (eqb neighbour 0) NeighbourZero,
-      (ranged (ltb mostBytes (length attribute)) AttributeLength, (content-number (contentOf role neighbour attribute), tt)),
-    ),
-  )
+-- Rows and their ranges, one list after another.
+ranged-append : (xs : List (Option Refusal)) (ns : List (ℕ × ℕ)) (ys : List (Option Refusal)) (ms : List (ℕ × ℕ))
+    → Ranged xs ns → Ranged ys ms → Ranged (xs ++ ys) (ns ++ ms)
+ranged-append [] [] ys ms p q = q
+ranged-append [] (n ∷ ns) ys ms p q = absurd p
+ranged-append (x ∷ xs) [] ys ms p q = absurd p
+ranged-append (x ∷ xs) (n ∷ ns) ys ms p q = (p .0, ranged-append xs ns ys ms (p .1) q)
 
-  -- Judge: rows 1, 2, 9, 10, 11, and one of 12 to 17.
-  pub judge-numbers : Ranged (judgeRowsOver reg role neighbour attribute) ((1, 1) ∷ (2, 2) ∷ (9, 9) ∷ (10, 10) ∷ (11, 11) ∷ (12, 17) ∷ [])
-  judge-numbers = (
-    ranged (not (eqb (length reg) registerWords)) TableLength,
-    (ranged (not (registerOk reg)) RegisterMalformed, route-numbers),
-  )
+-- No range begins below a number.
+abbrev pub From : ℕ → List (ℕ × ℕ) → Type 0
+From m [] = Unit
+From m (n ∷ ns) = (m ≤ n .0) × From m ns
 
-  -- A judging is refused by one of rows 9 to 17.
-  pub judged-number : (r : Refusal) → refusalIn (judgedRoute (hopIn reg) role neighbour attribute) ≡ some r
-      → (9 ≤ refusalNumber r) × (refusalNumber r ≤ 17)
-  judged-number r e =
-      let p = refused-first (judgeRows role neighbour attribute) r (sym (judged-row reg role neighbour attribute) ∙ e) in
-      go (p .0) (p .1)
-    where
-      wider : {n : ℕ} (a b : ℕ) → 9 ≤ a → b ≤ 17 → (a ≤ n) × (n ≤ b) → (9 ≤ n) × (n ≤ 17)
-      wider a b f g h = (omega (arith, h .0), omega (arith, h .1))
+-- Then no row does that refuses.
+pub refused-from : (m : ℕ) (rows : List (Option Refusal)) (ns : List (ℕ × ℕ)) → Ranged rows ns → From m ns → (r : Refusal)
+    → firstGiven rows ≡ some r → m ≤ refusalNumber r
+unfolding firstGiven
+refused-from m [] ns p f r e = some-not-none (sym e)
+refused-from m (row ∷ rows) [] p f r e = absurd p
+refused-from m (some s ∷ rows) (n ∷ ns) p f r e = omega (arith, p .0 r e .0, f .0)
+refused-from m (none ∷ rows) (n ∷ ns) p f r e = refused-from m rows ns (p .1) (f .1) r e
 
-      go : (i : ℕ) → FirstAt (judgeRows role neighbour attribute) i r → (9 ≤ refusalNumber r) × (refusalNumber r ≤ 17)
-      go zero f = wider 9 9 (omega arith) (omega arith) (route-numbers .0 r (f .given))
-      go (suc zero) f = wider 10 10 (omega arith) (omega arith) (route-numbers .1 .0 r (f .given))
-      go (suc (suc zero)) f = wider 11 11 (omega arith) (omega arith) (route-numbers .1 .1 .0 r (f .given))
-      go (suc (suc (suc zero))) f = wider 12 17 (omega arith) (omega arith) (route-numbers .1 .1 .1 .0 r (f .given))
-      go (suc (suc (suc (suc i)))) f = some-not-none (sym (f .given))
+-- Rows 9, 10, 11, and one of 12 to 17.
+abbrev pub routeRanges : List (ℕ × ℕ)
+routeRanges = (9, 9) ∷ (10, 10) ∷ (11, 11) ∷ (12, 17) ∷ []
 
-  -- Keep: rows 1, 2, 3, one of 9 to 17, which is the first of those that is given, then 18 and 20.
-  pub keep-numbers : (led : List ℕ) (number : ℕ)
-      → Ranged (keepRows reg led number role neighbour attribute) ((1, 1) ∷ (2, 2) ∷ (3, 3) ∷ (9, 17) ∷ (18, 18) ∷ (20, 20) ∷ [])
-  keep-numbers led number = (
-    ranged (not (eqb (length reg) registerWords && eqb (length led) ledgerWords)) TableLength,
-    (
-      ranged (not (registerOk reg)) RegisterMalformed,
-      (
-        ranged (not (ledgerOk led)) RoutesMalformed,
-        (
-          judged-number,
-          (
-            ranged (holdsRoute number (routesOf led)) RouteTaken,
-            (ranged (not (roomFor (putRoute (keptRoute reg number role neighbour attribute) (routesOf led)))) RoutesFull, tt),
-          ),
-        ),
-      ),
-    ),
-  )
-
--- Re-judge: rows 1, 2 and 3.
-pub rejudge-numbers : (reg led : List ℕ) → Numbered (rejudgeRows reg led) (1 ∷ 2 ∷ 3 ∷ [])
-rejudge-numbers reg led = (
-  numbered (not (eqb (length reg) registerWords && eqb (length led) ledgerWords)) TableLength,
-  (numbered (not (registerOk reg)) RegisterMalformed, (numbered (not (ledgerOk led)) RoutesMalformed, tt)),
+pub route-numbers : (role neighbour : ℕ) (attribute : List ℕ) → Ranged (judgeRows role neighbour attribute) routeRanges
+route-numbers role neighbour attribute = (
+  ranged (not (isRole role)) RoleNumber,
+  (
+    ranged (eqb neighbour 0) NeighbourZero,
+    (ranged (ltb mostBytes (length attribute)) AttributeLength, (content-number (contentOf role neighbour attribute), tt)),
+  ),
 )
+
+-- Judge: rows 1, 2, 9, 10, 11, and one of 12 to 17.
+pub judge-numbers : (reg : List ℕ) (role neighbour : ℕ) (attribute : List ℕ)
+    → Ranged (judgeRowsOver reg role neighbour attribute) ((1, 1) ∷ (2, 2) ∷ routeRanges)
+judge-numbers reg role neighbour attribute = (
+  ranged (not (eqb (length reg) registerWords)) TableLength,
+  (ranged (not (registerOk reg)) RegisterMalformed, route-numbers role neighbour attribute),
+)
+
+-- Re-judge: rows 1, 1, 2, 3.
+pub rejudge-numbers : (reg led : List ℕ) → Ranged (rejudgeRows reg led) ((1, 1) ∷ (1, 1) ∷ (2, 2) ∷ (3, 3) ∷ [])
+rejudge-numbers reg led = (
+  ranged (not (eqb (length reg) registerWords)) TableLength,
+  (
+    ranged (not (eqb (length led) ledgerWords)) TableLength,
+    (ranged (not (registerOk reg)) RegisterMalformed, (ranged (not (ledgerOk led)) RoutesMalformed, tt)),
+  ),
+)
+
+module _ (reg led : List ℕ) (k : Keeping) where
+  -- The rows of the store: 18, 20.
+  pub store-ranges : Ranged (storeRows led (keptRoute reg k)) ((18, 18) ∷ (20, 20) ∷ [])
+  store-ranges = (
+    ranged (holdsRoute (k .number) (routesOf led)) RouteTaken,
+    (ranged (not (roomFor (putRoute (keptRoute reg k) (routesOf led)))) RoutesFull, tt),
+  )
+
+  -- The rows of the judging and of the store: 9, 10, 11, one of 12 to 17, 18, 20.
+  pub stored-numbers :
+      Ranged (judgeRows (k .role) (k .neighbour) (k .attribute) ++ storeRows led (keptRoute reg k)) (routeRanges ++ ((18, 18) ∷ (20, 20) ∷ []))
+  stored-numbers =
+      ranged-append (judgeRows (k .role) (k .neighbour) (k .attribute)) routeRanges (storeRows led (keptRoute reg k)) ((18, 18) ∷ (20, 20) ∷ [])
+      (route-numbers (k .role) (k .neighbour) (k .attribute)) store-ranges
+
+  -- Keep: rows 1, 1, 2, 3, then these.
+  pub keep-numbers : Ranged (keepRows reg led k) ((1, 1) ∷ (1, 1) ∷ (2, 2) ∷ (3, 3) ∷ (routeRanges ++ ((18, 18) ∷ (20, 20) ∷ [])))
+  keep-numbers =
+      ranged-append (tableRows reg led) ((1, 1) ∷ (1, 1) ∷ (2, 2) ∷ (3, 3) ∷ [])
+      (judgeRows (k .role) (k .neighbour) (k .attribute) ++ storeRows led (keptRoute reg k)) (routeRanges ++ ((18, 18) ∷ (20, 20) ∷ []))
+      (rejudge-numbers reg led) stored-numbers

@@ -1,3 +1,3 @@
 pub mod Calls
-pub mod Known
+pub mod Helpers
 pub mod Vectors

@@ -13,8 +13,8 @@ use Rattle.rules.specs.Vectors.{registerD, sequence, Vector, vectors, wanted}
 use Rattle.table.specs.Table.{slots, bodies, pad, encode, decodeSlots, decode, slotsOk, allZero, wellFormed}
 use Rattle.keyed.specs.Keyed.{ascendsFrom, ascends, holds, put, every}
 use Rattle.register.specs.Register.{registerWords, recordsOf, registerOf, listed, risesFrom, rises, listOk, recordOk, roomFor, recordsOk, registerOk}
-use Rattle.register.specs.Calls.{tableRow, registerRow, fileEffect}
-use Rattle.filter.specs.Calls.{judgeAnswer}
+use Rattle.register.specs.Calls.{fileEffect}
+use Rattle.filter.specs.Calls.{registerRows, judgeAnswer}
 
 -- The words that a filing of source 0 leaves.
 abbrev filed : ℕ → List ℕ → List ℕ → List ℕ
@@ -92,7 +92,7 @@ whole-register =
     ∙ step₆
 
 -- Neither row 1 nor row 2 is given to them.
-passed : firstGiven (tableRow packedD ∷ registerRow packedD ∷ []) ≡ none
+passed : firstGiven (registerRows packedD) ≡ none
 unfolding firstGiven decodeSlots decode slotsOk allZero wellFormed ascendsFrom ascends every recordsOf listed risesFrom rises listOk recordOk roomFor recordsOk registerOk
 passed = refl
 

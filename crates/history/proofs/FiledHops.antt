@@ -17,8 +17,8 @@ use Rattle.rules.specs.Records.{Record, isIn, attested, united, hopOf}
 use Rattle.register.specs.Register.{lastSource, keyOf, recordOk, recordsOk}
 use Rattle.register.proofs.Holding.{each-ok, in-order}
 use Rattle.register.proofs.Uniting.{in-append}
+use Rattle.history.specs.Calls.{findRecord, providersOf}
 use Rattle.history.specs.Filings.{isFiled, isListed, hopFiled}
-use Rattle.history.specs.Demands.{findRecord, providersOf}
 
 -- ---- tests over a range
 

@@ -6,18 +6,19 @@ use mathlib.Core.List.{List}
 use mathlib.Core.Option.{Option, none, some}
 use lib.Dec.{eqb, ltb}
 use Rattle.types.specs.declared.Refusal.{Refusal}
-use Rattle.keyed.specs.Keyed.{samePair, beforePair, find}
+use Rattle.keyed.specs.Keyed.{samePair, beforePair}
 use Rattle.keyed.proofs.Orders.{ordered-pairs, ordered-ℕ, same-flip}
 use Rattle.keyed.proofs.Finds.{find-put, find-without}
+use Rattle.keyed.proofs.Mapping.{find-map}
 use Rattle.rules.specs.Records.{Record}
 use Rattle.register.specs.Register.{keyOf}
 use Rattle.register.specs.Calls.{recordFor, holdsRecord, ofSource}
-use Rattle.history.specs.Calls.{Call, file, withdraw, clear, keep, drop, rejudge, callAt, said, KeptRoute, routeRead}
+use Rattle.ledger.specs.Routes.{routesOf}
+use Rattle.ledger.specs.Routes as routes
+use Rattle.history.specs.Calls.{Call, file, withdraw, clear, keep, drop, rejudge, Tables, Formed, callAt, said, KeptRoute, routeRead, findRecord, providersOf, known}
 use Rattle.history.specs.Replies.{new, replaced, shown, accepted}
-use Rattle.history.specs.Model.{Model, numberOf, refusal, answer, change, replyUnless, changeUnless, after}
+use Rattle.history.specs.Model.{Model, numberOf, findKept, refusal, answer, change, replyUnless, changeUnless, after}
 use Rattle.history.specs.Filings.{filedBy, filedList, keptBy, keptRouteAt}
-use Rattle.history.specs.Demands.{findRecord, providersOf}
-use Rattle.history.proofs.Keys.{findKept}
 use Rattle.history.proofs.Simulating.{history-replies}
 
 -- A call that is not refused is accepted.
@@ -29,7 +30,7 @@ answer-accepted m (file s c list) = go (holdsRecord c s (m .lists))
     go false = refl
 answer-accepted m (withdraw s c) = refl
 answer-accepted m (clear s) = refl
-answer-accepted m (keep n role neighbour attribute) = refl
+answer-accepted m (keep k) = refl
 answer-accepted m (drop n) = refl
 answer-accepted m rejudge = refl
 
@@ -54,28 +55,28 @@ module _ (source customer : ℕ) where
       ap providersOf (find-without keyOf samePair beforePair ordered-pairs (customer, source) (ofSource s) (m .lists))
       ∙ through (eqb source s) none (findRecord (customer, source) (m .lists))
       ∙ ap (λ b. cond b none (providersOf (findRecord (customer, source) (m .lists)))) (same-flip eqb ltb ordered-ℕ source s)
-  changed-list m (keep n role neighbour attribute) = refl
+  changed-list m (keep k) = refl
   changed-list m (drop n) = refl
   changed-list m rejudge = refl
 
   -- The model's list of a pair is the one that is filed.
-  pub filed-list : (l : List Call) (i : ℕ) → providersOf (findRecord (customer, source) (after l i .lists)) ≡ filedList l i source customer
-  unfolding after filedList find
-  filed-list l zero = refl
-  filed-list l (suc i) =
-      go (refusal (after l i) (callAt l i))
-      ∙ ap (λ r. cond (accepted r) (filedBy source customer (callAt l i) (held i)) (held i)) (sym (history-replies l i))
-      ∙ ap (λ v. cond (accepted (shown (said l i))) (filedBy source customer (callAt l i) v) v) (filed-list l i)
+  pub filed-list : (t : Tables) → Formed t → (l : List Call) (i : ℕ) → providersOf (findRecord (customer, source) (after t l i .lists)) ≡ filedList t l i source customer
+  unfolding after filedList
+  filed-list t f l zero = refl
+  filed-list t f l (suc i) =
+      go (refusal (after t l i) (callAt l i))
+      ∙ ap (λ r. cond (accepted r) (filedBy source customer (callAt l i) (held i)) (held i)) (sym (history-replies t f l i))
+      ∙ ap (λ v. cond (accepted (shown (said t l i))) (filedBy source customer (callAt l i) v) v) (filed-list t f l i)
     where
       held : ℕ → Option (List ℕ)
-      held j = providersOf (findRecord (customer, source) (after l j .lists))
+      held j = providersOf (findRecord (customer, source) (after t l j .lists))
 
       go : (o : Option Refusal)
-          → providersOf (findRecord (customer, source) (changeUnless o (after l i) (change (after l i) (callAt l i)) .lists))
-          ≡ cond (accepted (replyUnless o (answer (after l i) (callAt l i)))) (filedBy source customer (callAt l i) (held i)) (held i)
+          → providersOf (findRecord (customer, source) (changeUnless o (after t l i) (change (after t l i) (callAt l i)) .lists))
+          ≡ cond (accepted (replyUnless o (answer (after t l i) (callAt l i)))) (filedBy source customer (callAt l i) (held i)) (held i)
       go (some r) = refl
-      go none = changed-list (after l i) (callAt l i)
-          ∙ ap (λ b. cond b (filedBy source customer (callAt l i) (held i)) (held i)) (sym (answer-accepted (after l i) (callAt l i)))
+      go none = changed-list (after t l i) (callAt l i)
+          ∙ ap (λ b. cond b (filedBy source customer (callAt l i) (held i)) (held i)) (sym (answer-accepted (after t l i) (callAt l i)))
 
 module _ (number : ℕ) where
   -- An accepted call changes the route under a number as demand 2 says.
@@ -83,27 +84,27 @@ module _ (number : ℕ) where
   changed-route m (file s c list) = refl
   changed-route m (withdraw s c) = refl
   changed-route m (clear s) = refl
-  changed-route m (keep n role neighbour attribute) =
-      find-put numberOf eqb ltb ordered-ℕ number (routeRead n role neighbour attribute) (m .routes)
-      ∙ ap (λ b. cond b (some (routeRead n role neighbour attribute)) (findKept number (m .routes))) (same-flip eqb ltb ordered-ℕ number n)
+  changed-route m (keep k) =
+      find-put numberOf eqb ltb ordered-ℕ number (routeRead k) (m .routes)
+      ∙ ap (λ b. cond b (some (routeRead k)) (findKept number (m .routes))) (same-flip eqb ltb ordered-ℕ number (k .number))
   changed-route m (drop n) = find-without numberOf eqb ltb ordered-ℕ number (eqb n) (m .routes)
   changed-route m rejudge = refl
 
   -- The model's route under a number is the one that is kept.
-  pub kept-route : (l : List Call) (i : ℕ) → findKept number (after l i .routes) ≡ keptRouteAt l i number
-  unfolding after keptRouteAt find
-  kept-route l zero = refl
-  kept-route l (suc i) =
-      go (refusal (after l i) (callAt l i))
-      ∙ ap (λ r. cond (accepted r) (keptBy number (callAt l i) (held i)) (held i)) (sym (history-replies l i))
-      ∙ ap (λ v. cond (accepted (shown (said l i))) (keptBy number (callAt l i) v) v) (kept-route l i)
+  pub kept-route : (t : Tables) → Formed t → (l : List Call) (i : ℕ) → findKept number (after t l i .routes) ≡ keptRouteAt t l i number
+  unfolding after keptRouteAt
+  kept-route t f l zero = find-map routes.keyOf numberOf eqb ltb known (λ r. refl) number (routesOf (t .ledger))
+  kept-route t f l (suc i) =
+      go (refusal (after t l i) (callAt l i))
+      ∙ ap (λ r. cond (accepted r) (keptBy number (callAt l i) (held i)) (held i)) (sym (history-replies t f l i))
+      ∙ ap (λ v. cond (accepted (shown (said t l i))) (keptBy number (callAt l i) v) v) (kept-route t f l i)
     where
       held : ℕ → Option KeptRoute
-      held j = findKept number (after l j .routes)
+      held j = findKept number (after t l j .routes)
 
       go : (o : Option Refusal)
-          → findKept number (changeUnless o (after l i) (change (after l i) (callAt l i)) .routes)
-          ≡ cond (accepted (replyUnless o (answer (after l i) (callAt l i)))) (keptBy number (callAt l i) (held i)) (held i)
+          → findKept number (changeUnless o (after t l i) (change (after t l i) (callAt l i)) .routes)
+          ≡ cond (accepted (replyUnless o (answer (after t l i) (callAt l i)))) (keptBy number (callAt l i) (held i)) (held i)
       go (some r) = refl
-      go none = changed-route (after l i) (callAt l i)
-          ∙ ap (λ b. cond b (keptBy number (callAt l i) (held i)) (held i)) (sym (answer-accepted (after l i) (callAt l i)))
+      go none = changed-route (after t l i) (callAt l i)
+          ∙ ap (λ b. cond b (keptBy number (callAt l i) (held i)) (held i)) (sym (answer-accepted (after t l i) (callAt l i)))

@@ -5,8 +5,8 @@ use mathlib.Core.List.{List, [], _∷_, map}
 use lib.ListN.{length, length-append, length-map}
 use Rattle.table.specs.Table.{bodies}
 use Rattle.ledger.specs.Routes.{Route, entryOf, pathWords, roomFor}
+use Rattle.history.specs.Calls.{known}
 use Rattle.history.specs.Model.{pathNumbers, roomForRoutes}
-use Rattle.history.specs.Demands.{known}
 
 -- The numbers in the paths are those that the model counts.
 path-words : (rs : List Route) → pathWords rs ≡ pathNumbers (map known rs)

@@ -5,7 +5,9 @@ pub mod KeptRoutes
 pub mod Simulating
 pub mod FiledLists
 pub mod FiledHops
+pub mod Entries
 pub mod Theorems
 pub mod Reordered
 pub mod Scans
 pub mod Examples
+pub mod Refused

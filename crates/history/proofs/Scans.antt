@@ -1,98 +1,107 @@
 -- The scans of demand 2 find exactly the last accepted filing, and the last accepted keeping. Assumes nothing.
-use Prim.Native.Nat.{ℕ, zero, suc, _<_}
+use Prim.Native.Nat.{ℕ, zero, suc, _<_, _≤_}
 use mathlib.Core.Path.{_≡_, refl, sym, ap, _∙_}
 use mathlib.Core.Bool.{Bool, true, false, cond, _&&_}
 use mathlib.Core.List.{List}
 use mathlib.Core.Logic.{_↔_, _⊎_, inl, inr}
-use mathlib.Core.Option.{Option, none, some}
+use mathlib.Core.Option.{Option, none, some, Option·map}
 use native.Mathlib.Omega.{arith}
 use native.Mathlib.Decide.{decLt}
 use borrow.Author.Tests.{eqb-true, eqb-false, eq-eqb}
 use lib.Dec.{eqb}
 use Rattle.types.proofs.Clashes.{not-both}
 use Rattle.keyed.proofs.Orders.{both-left, both-right, both-intro}
-use Rattle.history.specs.Calls.{Call, file, withdraw, clear, keep, drop, rejudge, callAt, said, KeptRoute, routeRead}
+use Rattle.register.specs.Register.{recordsOf}
+use Rattle.ledger.specs.Routes.{routesOf}
+use Rattle.history.specs.Calls.{Call, file, withdraw, clear, keep, drop, rejudge, Scope, scope, Tables, callAt, scopeAt, said, KeptRoute, routeRead, findRecord, findRoute, providersOf, known}
 use Rattle.history.specs.Replies.{shown, accepted}
 use Rattle.history.specs.Filings.{filedBy, filedList, keptBy, keptRouteAt}
 use Rattle.history.specs.Reorderings.{OnPair, Clears, OnRoute}
-use Rattle.history.specs.Sanity.{LastFiled, LastKept}
+use Rattle.history.specs.Sanity.{LastFiled, by-filing, list-held-first, KeepsAs, LastKept, by-keeping, route-held-first}
 
 -- ---- any scan
 
 -- What an accepted call does to the value that is looked for: it gives one, it ends it, or it leaves it.
-data Effect {X : Type 0} (by : Call → Option X → Option X) (Gives : Call → X → Type 0) (Touches : Call → Type 0) (c : Call) : Type 0 where
-  gives : (x : X) → Gives c x → Touches c → ((v : Option X) → by c v ≡ some x) → Effect by Gives Touches c
-  ends : Touches c → ((v : Option X) → by c v ≡ none) → Effect by Gives Touches c
-  misses : (Touches c → ⊥) → ((v : Option X) → by c v ≡ v) → Effect by Gives Touches c
+data Effect {X : Type 0} (by : Call → Option X → Option X) (Gives : Call → X → Type 0) (Touches : Scope → Type 0) (c : Call) : Type 0 where
+  gives : (x : X) → Gives c x → Touches (scope c) → ((v : Option X) → by c v ≡ some x) → Effect by Gives Touches c
+  ends : Touches (scope c) → ((v : Option X) → by c v ≡ none) → Effect by Gives Touches c
+  misses : (Touches (scope c) → ⊥) → ((v : Option X) → by c v ≡ v) → Effect by Gives Touches c
 
-module _ {X : Type 0} (by : Call → Option X → Option X) (Gives : Call → X → Type 0) (Touches : Call → Type 0)
-    (effect : (c : Call) → Effect by Gives Touches c) (given : (c : Call) (x : X) (v : Option X) → Gives c x → by c v ≡ some x) (l : List Call) where
-  -- The value after i calls.
+module _ {X : Type 0} (by : Call → Option X → Option X) (Gives : Call → X → Type 0) (Touches : Scope → Type 0)
+    (effect : (c : Call) → Effect by Gives Touches c) (given : (c : Call) (x : X) (v : Option X) → Gives c x → by c v ≡ some x)
+    (first : Option X) (t : Tables) (l : List Call) where
+  -- The value after i calls, from the first one on.
   unfoldable scan : ℕ → Option X
-  scan zero = none
-  scan (suc i) = cond (accepted (shown (said l i))) (by (callAt l i) (scan i)) (scan i)
+  scan zero = first
+  scan (suc i) = cond (accepted (shown (said t l i))) (by (callAt l i) (scan i)) (scan i)
 
-  -- The last accepted call before place i that touches the value gives it.
-  record Last (i : ℕ) (x : X) : Type 0 where
-    place : ℕ
-    before : place < i
-    made : Gives (callAt l place) x
-    accepts : accepted (shown (said l place)) ≡ true
-    since : (j : ℕ) → place < j → j < i → accepted (shown (said l j)) ≡ true → Touches (callAt l j) → ⊥
+  -- No accepted call from one index to before another touches the value.
+  abbrev Stands : ℕ → ℕ → Type 0
+  Stands from i = (j : ℕ) → from ≤ j → j < i → accepted (shown (said t l j)) ≡ true → Touches (scopeAt l j) → ⊥
+
+  -- The last accepted call before index i that touches the value gives it, or there is none and it is the first one.
+  data Last (i : ℕ) (x : X) : Type 0 where
+    by-call : (index : ℕ) → index < i → Gives (callAt l index) x → accepted (shown (said t l index)) ≡ true → Stands (suc index) i → Last i x
+    held-first : first ≡ some x → Stands 0 i → Last i x
 
   -- One call more that does not touch it, or is not accepted.
-  later : (i : ℕ) (x : X) → Last i x → (accepted (shown (said l i)) ≡ true → Touches (callAt l i) → ⊥) → Last (suc i) x
-  later i x p n = record { place = p .place; before = omega (arith, p .before); made = p .made; accepts = p .accepts; since = rest }
+  stands : (from i : ℕ) → Stands from i → (accepted (shown (said t l i)) ≡ true → Touches (scopeAt l i) → ⊥) → Stands from (suc i)
+  stands from i s n j a b = go (decLt j i)
     where
-      rest : (j : ℕ) → p .place < j → j < suc i → accepted (shown (said l j)) ≡ true → Touches (callAt l j) → ⊥
-      rest j a b = go (decLt j i)
-        where
-          go : Dec (j < i) → accepted (shown (said l j)) ≡ true → Touches (callAt l j) → ⊥
-          go (yes c) = p .since j a c
-          go (no c) = let e : j ≡ i = omega arith in rw e n
+      go : Dec (j < i) → accepted (shown (said t l j)) ≡ true → Touches (scopeAt l j) → ⊥
+      go (yes c) = s j a c
+      go (no c) = let e : j ≡ i = omega arith in rw e n
+
+  later : (i : ℕ) (x : X) → Last i x → (accepted (shown (said t l i)) ≡ true → Touches (scopeAt l i) → ⊥) → Last (suc i) x
+  later i x (by-call index b g a s) n = by-call index (omega arith) g a (stands (suc index) i s n)
+  later i x (held-first e s) n = held-first e (stands 0 i s n)
 
   -- What the scan finds is given by the last accepted call that touches the value,
   scan-finds : (i : ℕ) (x : X) → scan i ≡ some x → Last i x
   unfolding scan
-  scan-finds zero x e = let z : _≡_ {A = ℕ} 0 1 = cc in absurd (omega arith)
-  scan-finds (suc i) x e = go (accepted (shown (said l i))) refl e (scan-finds i x)
+  scan-finds zero x e = held-first e (λ j a b. absurd (omega arith))
+  scan-finds (suc i) x e = go (accepted (shown (said t l i))) refl e (scan-finds i x)
     where
-      touched : Effect by Gives Touches (callAt l i) → accepted (shown (said l i)) ≡ true → by (callAt l i) (scan i) ≡ some x
+      touched : Effect by Gives Touches (callAt l i) → accepted (shown (said t l i)) ≡ true → by (callAt l i) (scan i) ≡ some x
           → (scan i ≡ some x → Last i x) → Last (suc i) x
-      touched (gives y g t q) p f ih =
+      touched (gives y g d q) p f ih =
           let z : some y ≡ some x = sym (q (scan i)) ∙ f in
           let w : y ≡ x = cc in
-          record { place = i; before = omega arith; made = rw (← w) g; accepts = p; since = λ j a b. absurd (omega arith) }
-      touched (ends t q) p f ih = let z : none ≡ some x = sym (q (scan i)) ∙ f in let y : _≡_ {A = ℕ} 0 1 = cc in absurd (omega arith)
+          by-call i (omega arith) (rw (← w) g) p (λ j a b. absurd (omega arith))
+      touched (ends d q) p f ih = let z : none ≡ some x = sym (q (scan i)) ∙ f in let y : _≡_ {A = ℕ} 0 1 = cc in absurd (omega arith)
       touched (misses n q) p f ih = later i x (ih (sym (q (scan i)) ∙ f)) (λ a. n)
 
-      go : (b : Bool) → accepted (shown (said l i)) ≡ b → cond b (by (callAt l i) (scan i)) (scan i) ≡ some x → (scan i ≡ some x → Last i x) → Last (suc i) x
+      go : (b : Bool) → accepted (shown (said t l i)) ≡ b → cond b (by (callAt l i) (scan i)) (scan i) ≡ some x → (scan i ≡ some x → Last i x) → Last (suc i) x
       go true p f ih = touched (effect (callAt l i)) p f ih
       go false p f ih = later i x (ih f) (λ a. not-both p a)
 
-  -- and what that call gives the scan finds.
+  -- A value that stands over one call more.
+  over : (i from : ℕ) (x : X) → from ≤ i → Stands from (suc i) → scan i ≡ some x → scan (suc i) ≡ some x
+  unfolding scan
+  over i from x h s e = go (accepted (shown (said t l i))) refl
+    where
+      touched : accepted (shown (said t l i)) ≡ true → Effect by Gives Touches (callAt l i) → by (callAt l i) (scan i) ≡ some x
+      touched a (gives y g d q) = absurd (s i h (omega arith) a d)
+      touched a (ends d q) = absurd (s i h (omega arith) a d)
+      touched a (misses n q) = q (scan i) ∙ e
+
+      go : (b : Bool) → accepted (shown (said t l i)) ≡ b → cond b (by (callAt l i) (scan i)) (scan i) ≡ some x
+      go true a = touched a (effect (callAt l i))
+      go false a = e
+
+  -- and what that call gives the scan finds, or else the first value.
   found-scan : (i : ℕ) (x : X) → Last i x → scan i ≡ some x
   unfolding scan
-  found-scan zero x p = absurd (omega (arith, p .before))
-  found-scan (suc i) x p = go (decLt (p .place) i) (found-scan i x)
+  found-scan zero x (by-call index b g a s) = absurd (omega arith)
+  found-scan zero x (held-first e s) = e
+  found-scan (suc i) x (by-call index b g a s) = go (decLt index i) (found-scan i x)
     where
-      touched : accepted (shown (said l i)) ≡ true → Effect by Gives Touches (callAt l i) → p .place < i → scan i ≡ some x
-          → by (callAt l i) (scan i) ≡ some x
-      touched a (gives y g t q) b ih = absurd (p .since i b (omega arith) a t)
-      touched a (ends t q) b ih = absurd (p .since i b (omega arith) a t)
-      touched a (misses n q) b ih = q (scan i) ∙ ih
-
-      old : (b : Bool) → accepted (shown (said l i)) ≡ b → p .place < i → scan i ≡ some x → cond b (by (callAt l i) (scan i)) (scan i) ≡ some x
-      old true a q ih = touched a (effect (callAt l i)) q ih
-      old false a q ih = ih
-
-      go : Dec (p .place < i) → (Last i x → scan i ≡ some x) → cond (accepted (shown (said l i))) (by (callAt l i) (scan i)) (scan i) ≡ some x
-      go (yes q) ih =
-          old (accepted (shown (said l i))) refl q
-          (ih (record { place = p .place; before = q; made = p .made; accepts = p .accepts; since = λ j a b. p .since j a (omega arith) }))
+      go : Dec (index < i) → (Last i x → scan i ≡ some x) → cond (accepted (shown (said t l i))) (by (callAt l i) (scan i)) (scan i) ≡ some x
+      go (yes q) ih = over i (suc index) x (omega arith) s (ih (by-call index q g a (λ j c d. s j c (omega arith))))
       go (no n) ih =
-          let e : p .place ≡ i = omega (arith, p .before) in
-          rw (rw e at (p .accepts)) (given (callAt l i) x (scan i) (rw e at (p .made)))
+          let e : index ≡ i = omega arith in
+          rw (rw e at a) (given (callAt l i) x (scan i) (rw e at g))
+  found-scan (suc i) x (held-first e s) = over i 0 x (omega arith) s (found-scan i x (held-first e (λ j c d. s j c (omega arith))))
 
 -- ---- filings
 
@@ -102,7 +111,7 @@ module _ (source customer : ℕ) where
   Files c list = c ≡ file source customer list
 
   -- A step on the pair, or a clearing of the source.
-  abbrev OnList : Call → Type 0
+  abbrev OnList : Scope → Type 0
   OnList c = OnPair source customer c ⊎ Clears source c
 
   -- The test of a pair.
@@ -135,7 +144,7 @@ module _ (source customer : ℕ) where
       go : (b : Bool) → eqb s source ≡ b → Effect (filedBy source customer) Files OnList (clear s)
       go true e = ends (inr (eqb-true _ _ e)) (λ v. rw e)
       go false e = misses (λ t. elim t [ inl f ↦ f | inr p ↦ eqb-false _ _ e p ]) (λ v. rw e)
-  file-effect (keep n role neighbour attribute) = misses (λ t. elim t [ inl f ↦ f | inr f ↦ f ]) (λ v. refl)
+  file-effect (keep k) = misses (λ t. elim t [ inl f ↦ f | inr f ↦ f ]) (λ v. refl)
   file-effect (drop n) = misses (λ t. elim t [ inl f ↦ f | inr f ↦ f ]) (λ v. refl)
   file-effect rejudge = misses (λ t. elim t [ inl f ↦ f | inr f ↦ f ]) (λ v. refl)
 
@@ -143,113 +152,80 @@ module _ (source customer : ℕ) where
   file-given : (c : Call) (list : List ℕ) (v : Option (List ℕ)) → Files c list → filedBy source customer c v ≡ some list
   file-given c list v e = rw (e, eq-eqb customer customer refl, eq-eqb source source refl)
 
-  module _ (l : List Call) where
+  module _ (t : Tables) (l : List Call) where
+    -- The list that t holds.
+    abbrev first-list : Option (List ℕ)
+    first-list = providersOf (findRecord (customer, source) (recordsOf (t .register)))
+
     -- The list that is filed is such a scan.
-    filed-scan : (i : ℕ) → filedList l i source customer ≡ scan (filedBy source customer) Files OnList file-effect file-given l i
+    filed-scan : (i : ℕ) → filedList t l i source customer ≡ scan (filedBy source customer) Files OnList file-effect file-given first-list t l i
     unfolding filedList scan
     filed-scan zero = refl
     filed-scan (suc i) = rw (filed-scan i)
 
     -- What is filed is the last accepted list.
-    pub filed-is-last : (i : ℕ) (list : List ℕ) → (filedList l i source customer ≡ some list) ↔ LastFiled l i source customer list
+    pub filed-is-last : (i : ℕ) (list : List ℕ) → (filedList t l i source customer ≡ some list) ↔ LastFiled t l i source customer list
     filed-is-last i list = (
-      λ e. forth (scan-finds (filedBy source customer) Files OnList file-effect file-given l i list (sym (filed-scan i) ∙ e)),
-      λ p.
-          filed-scan i ∙ found-scan (filedBy source customer) Files OnList file-effect file-given l i list (back p),
+      λ e. forth (scan-finds (filedBy source customer) Files OnList file-effect file-given first-list t l i list (sym (filed-scan i) ∙ e)),
+      λ p. filed-scan i ∙ found-scan (filedBy source customer) Files OnList file-effect file-given first-list t l i list (back p),
     )
       where
-        forth : Last (filedBy source customer) Files OnList file-effect file-given l i list → LastFiled l i source customer list
-        forth p = record {
-          place = p .place;
-          before = p .before;
-          filing = p .made;
-          accepts = p .accepts;
-          since = λ j a b q. (λ x. p .since j a b q (inl x), λ x. p .since j a b q (inr x));
-        }
+        forth : Last (filedBy source customer) Files OnList file-effect file-given first-list t l i list → LastFiled t l i source customer list
+        forth (by-call index b g a s) = by-filing index b g a (λ j c d q. (λ x. s j c d q (inl x), λ x. s j c d q (inr x)))
+        forth (held-first e s) = list-held-first e (λ j c d q. (λ x. s j c d q (inl x), λ x. s j c d q (inr x)))
 
-        back : LastFiled l i source customer list → Last (filedBy source customer) Files OnList file-effect file-given l i list
-        back p = record {
-          place = p .place;
-          before = p .before;
-          made = p .filing;
-          accepts = p .accepts;
-          since = λ j a b q t. elim t [ inl x ↦ p .since j a b q .0 x | inr x ↦ p .since j a b q .1 x ];
-        }
+        back : LastFiled t l i source customer list → Last (filedBy source customer) Files OnList file-effect file-given first-list t l i list
+        back (by-filing index b g a s) = by-call index b g a (λ j c d q x. elim x [ inl y ↦ s j c d q .0 y | inr y ↦ s j c d q .1 y ])
+        back (list-held-first e s) = held-first e (λ j c d q x. elim x [ inl y ↦ s j c d q .0 y | inr y ↦ s j c d q .1 y ])
 
 -- ---- keepings
 
 module _ (number : ℕ) where
-  -- A keeping under the number that is read as a route.
-  record Keeps (c : Call) (r : KeptRoute) : Type 0 where
-    role : ℕ
-    neighbour : ℕ
-    attribute : List ℕ
-    keeping : c ≡ keep number role neighbour attribute
-    reads : r ≡ routeRead number role neighbour attribute
-
   -- What each call does to the route under the number.
-  keep-effect : (c : Call) → Effect (keptBy number) Keeps (OnRoute number) c
+  keep-effect : (c : Call) → Effect (keptBy number) (KeepsAs number) (OnRoute number) c
   keep-effect (file s c list) = misses (λ f. f) (λ v. refl)
   keep-effect (withdraw s c) = misses (λ f. f) (λ v. refl)
   keep-effect (clear s) = misses (λ f. f) (λ v. refl)
-  keep-effect (keep n role neighbour attribute) = go (eqb n number) refl
+  keep-effect (keep k) = go (eqb (k .number) number) refl
     where
-      go : (b : Bool) → eqb n number ≡ b → Effect (keptBy number) Keeps (OnRoute number) (keep n role neighbour attribute)
+      go : (b : Bool) → eqb (k .number) number ≡ b → Effect (keptBy number) (KeepsAs number) (OnRoute number) (keep k)
       go true e =
-          let p : n ≡ number = eqb-true _ _ e in
-          gives (routeRead n role neighbour attribute)
-          (record {
-            role = role;
-            neighbour = neighbour;
-            attribute = attribute;
-            keeping = ap (λ k. keep k role neighbour attribute) p;
-            reads = ap (λ k. routeRead k role neighbour attribute) p;
-          }) p (λ v. rw e)
+          let p : k .number ≡ number = eqb-true _ _ e in
+          gives (routeRead k) (record { arguments = k; under = p; keeping = refl; reads = refl }) p (λ v. rw e)
       go false e = misses (eqb-false _ _ e) (λ v. rw e)
   keep-effect (drop n) = go (eqb n number) refl
     where
-      go : (b : Bool) → eqb n number ≡ b → Effect (keptBy number) Keeps (OnRoute number) (drop n)
+      go : (b : Bool) → eqb n number ≡ b → Effect (keptBy number) (KeepsAs number) (OnRoute number) (drop n)
       go true e = ends (eqb-true _ _ e) (λ v. rw e)
       go false e = misses (eqb-false _ _ e) (λ v. rw e)
   keep-effect rejudge = misses (λ f. f) (λ v. refl)
 
   -- A keeping under the number gives its route.
-  keep-given : (c : Call) (r : KeptRoute) (v : Option KeptRoute) → Keeps c r → keptBy number c v ≡ some r
-  keep-given c r v k = rw (k .keeping, k .reads, eq-eqb number number refl)
+  keep-given : (c : Call) (r : KeptRoute) (v : Option KeptRoute) → KeepsAs number c r → keptBy number c v ≡ some r
+  keep-given c r v k = rw (k .keeping, k .reads, eq-eqb (k .arguments .number) number (k .under))
 
-  module _ (l : List Call) where
+  module _ (t : Tables) (l : List Call) where
+    -- The route that t holds.
+    abbrev first-route : Option KeptRoute
+    first-route = Option·map known (findRoute number (routesOf (t .ledger)))
+
     -- The route that is kept is such a scan.
-    kept-scan : (i : ℕ) → keptRouteAt l i number ≡ scan (keptBy number) Keeps (OnRoute number) keep-effect keep-given l i
+    kept-scan : (i : ℕ) → keptRouteAt t l i number ≡ scan (keptBy number) (KeepsAs number) (OnRoute number) keep-effect keep-given first-route t l i
     unfolding keptRouteAt scan
     kept-scan zero = refl
     kept-scan (suc i) = rw (kept-scan i)
 
     -- What is kept is the last accepted keeping's route.
-    pub kept-is-last : (i : ℕ) (r : KeptRoute) → (keptRouteAt l i number ≡ some r) ↔ LastKept l i number r
+    pub kept-is-last : (i : ℕ) (r : KeptRoute) → (keptRouteAt t l i number ≡ some r) ↔ LastKept t l i number r
     kept-is-last i r = (
-      λ e. forth (scan-finds (keptBy number) Keeps (OnRoute number) keep-effect keep-given l i r (sym (kept-scan i) ∙ e)),
-      λ p.
-          kept-scan i ∙ found-scan (keptBy number) Keeps (OnRoute number) keep-effect keep-given l i r (back p),
+      λ e. forth (scan-finds (keptBy number) (KeepsAs number) (OnRoute number) keep-effect keep-given first-route t l i r (sym (kept-scan i) ∙ e)),
+      λ p. kept-scan i ∙ found-scan (keptBy number) (KeepsAs number) (OnRoute number) keep-effect keep-given first-route t l i r (back p),
     )
       where
-        forth : Last (keptBy number) Keeps (OnRoute number) keep-effect keep-given l i r → LastKept l i number r
-        forth p = record {
-          place = p .place;
-          before = p .before;
-          role = p .made .role;
-          neighbour = p .made .neighbour;
-          attribute = p .made .attribute;
-          keeping = p .made .keeping;
-          reads = p .made .reads;
-          accepts = p .accepts;
-          since = p .since;
-        }
+        forth : Last (keptBy number) (KeepsAs number) (OnRoute number) keep-effect keep-given first-route t l i r → LastKept t l i number r
+        forth (by-call index b g a s) = by-keeping index b g a s
+        forth (held-first e s) = route-held-first e s
 
-        back : LastKept l i number r → Last (keptBy number) Keeps (OnRoute number) keep-effect keep-given l i r
-        back p = record {
-          place = p .place;
-          before = p .before;
-          made = record { role = p .role; neighbour = p .neighbour; attribute = p .attribute; keeping = p .keeping; reads = p .reads };
-          accepts = p .accepts;
-          since = p .since;
-        }
+        back : LastKept t l i number r → Last (keptBy number) (KeepsAs number) (OnRoute number) keep-effect keep-given first-route t l i r
+        back (by-keeping index b g a s) = by-call index b g a s
+        back (route-held-first e s) = held-first e s

@@ -25,12 +25,13 @@ use Rattle.keyed.proofs.Finds.{find-put, find-without}
 use Rattle.keyed.proofs.Mapping.{find-map, holds-map, put-map, without-map}
 use Rattle.rules.specs.Records.{Record, hopOf}
 use Rattle.rules.specs.Hops.{HopFunction}
-use Rattle.rules.specs.Judging.{judgeRows, judgedRoute}
-use Rattle.rules.proofs.Judges.{first-append, judged-reads, Judgement, on-ground, on-path, judgement}
+use Rattle.rules.specs.Judging.{judgedRoute}
+use Rattle.rules.proofs.Judges.{first-append, Judgement, on-ground, on-path, judgement}
 use Rattle.register.specs.Register.{registerWords, recordsOf, recordsOk, roomFor}
 use Rattle.register.specs.Register as register
 use Rattle.register.specs.Calls.{tableRow, registerRow, recordFor, holdsRecord, putRecord, eraseRecord, clearRecords, countRecords, ofSource, filedAs, fileEffect, withdrawEffect, clearEffect}
 use Rattle.register.proofs.Entries.{records-of-words}
+use Rattle.register.proofs.Entries as register-entries
 use Rattle.register.proofs.Holding.{room-records, room-lists}
 use Rattle.register.proofs.Holding as holding
 use Rattle.register.proofs.Changes.{record-ok}
@@ -38,20 +39,21 @@ use Rattle.register.proofs.Changes as changes
 use Rattle.register.proofs.Refusals.{Register, records-register}
 use Rattle.ledger.specs.Routes.{ledgerWords, Route, routesOf, routeOk, routesOk, keyOf}
 use Rattle.ledger.specs.Routes as ledger
-use Rattle.ledger.specs.Calls.{ledgerRow, holdsRoute, putRoute, eraseRoute, dropEffect, countDiffering}
+use Rattle.ledger.specs.Calls.{ledgerRow, holdsRoute, putRoute, storeRows, eraseRoute, dropEffect, countDiffering}
 use Rattle.ledger.proofs.Entries.{routes-of-words}
+use Rattle.ledger.proofs.Entries as ledger-entries
 use Rattle.ledger.proofs.Holding.{room-routes, room-paths, has-room, each-ok}
+use Rattle.ledger.proofs.Holding as ledger-holding
 use Rattle.ledger.proofs.Changes.{put-ok, without-ok}
 use Rattle.ledger.proofs.Refusals.{Ledger, routes-ledger}
 use Rattle.rejudge.specs.Rejudging.{rejudgedRoute}
 use Rattle.rejudge.proofs.Rejudgements.{rejudged-ok}
-use Rattle.filter.specs.Calls.{hopIn, tablesRow, refusalIn, keptRoute, keepRows, keepEffect, rejudgeEffect}
+use Rattle.filter.specs.Calls.{Keeping, hopIn, tableRows, keptRoute, keepRows, keepEffect, rejudgeEffect}
 use Rattle.filter.proofs.KeptRoutes.{kept-ok}
-use Rattle.history.specs.Calls.{Call, file, withdraw, clear, keep, drop, rejudge, rejudged, Tables, routeRead, says, leaves, blank, callAt, tables, said, last}
+use Rattle.history.specs.Calls.{Call, file, withdraw, clear, keep, drop, rejudge, rejudged, Tables, Formed, routeRead, says, leaves, blank, callAt, tables, said, last, known, findRoute}
 use Rattle.history.specs.Replies.{ModelReply, refused, done, replaced, new, shownFiled, shownRemoval, shownCleared, shownJudged, shownRejudged, shown, accepted}
-use Rattle.history.specs.Model.{Model, empty, numberOf, holdsKept, putKept, heldRows, roomRows, roomForRoutes, refusal, answer, change, replyUnless, changeUnless, replyTo, next, after, replyAt, final, judgedKept, written}
+use Rattle.history.specs.Model.{Model, heldBy, numberOf, holdsKept, putKept, argumentRows, heldRows, roomRows, roomForRoutes, refusal, answer, change, replyUnless, changeUnless, replyTo, next, after, replyAt, final, judgedKept, written}
 use Rattle.history.specs.Filings.{storedBy}
-use Rattle.history.specs.Demands.{known, findRoute}
 use Rattle.history.proofs.Keys.{either-way}
 use Rattle.history.proofs.Ledgers.{room-known}
 use Rattle.history.proofs.KeptRoutes.{kept-known, rejudged-written, rejudged-known}
@@ -120,7 +122,7 @@ module _ (stored : List Route) (ok : routesOk stored ≡ true) where
 
 -- Rows 1, 2 and 3 are not given.
 tables-pass : (lists : List Record) (stored : List Route) → recordsOk lists ≡ true → routesOk stored ≡ true → (slots : List (Option Refusal))
-    → firstGiven (tablesRow (register.registerOf lists) (ledger.ledgerOf stored) ∷ registerRow (register.registerOf lists) ∷ ledgerRow (ledger.ledgerOf stored) ∷ slots)
+    → firstGiven (tableRows (register.registerOf lists) (ledger.ledgerOf stored) ++ slots)
     ≡ firstGiven slots
 unfolding firstGiven
 tables-pass lists stored ok fine slots =
@@ -286,55 +288,51 @@ module _ (lists : List Record) (stored : List Route) (ok : recordsOk lists ≡ t
           (find-without keyOf eqb ltb ordered-ℕ number (eqb n) stored ∙ ap (cond (eqb n number) none) (sym (stored-before number)));
     }
 
-  module _ (n role neighbour : ℕ) (attribute : List ℕ) where
+  module _ (k : Keeping) where
     -- A keeping whose arguments bar it not asks of the model and of the ledger for the same room.
-    same-room : firstGiven (judgeRows role neighbour attribute) ≡ none
-        → ledger.roomFor (putRoute (keptRoute (register.registerOf lists) n role neighbour attribute) stored)
-        ≡ roomForRoutes (putKept (routeRead n role neighbour attribute) (map known stored))
+    same-room : firstGiven (argumentRows (keep k)) ≡ none
+        → ledger.roomFor (putRoute (keptRoute (register.registerOf lists) k) stored)
+        ≡ roomForRoutes (putKept (routeRead k) (map known stored))
     same-room e =
-        room-known (putRoute (keptRoute (register.registerOf lists) n role neighbour attribute) stored)
-        ∙ ap roomForRoutes (sym (put-map keyOf numberOf eqb ltb known (λ r. refl) (keptRoute (register.registerOf lists) n role neighbour attribute) stored))
-        ∙ ap (λ r. roomForRoutes (putKept r (map known stored))) (kept-known (register.registerOf lists) n role neighbour attribute e)
+        room-known (putRoute (keptRoute (register.registerOf lists) k) stored)
+        ∙ ap roomForRoutes (sym (put-map keyOf numberOf eqb ltb known (λ r. refl) (keptRoute (register.registerOf lists) k) stored))
+        ∙ ap (λ r. roomForRoutes (putKept r (map known stored))) (kept-known (register.registerOf lists) k e)
 
     -- Keep is refused as by the model.
-    keep-refusal : firstGiven (keepRows (register.registerOf lists) (ledger.ledgerOf stored) n role neighbour attribute)
-        ≡ refusal (modelOf lists stored) (keep n role neighbour attribute)
+    keep-refusal : firstGiven (keepRows (register.registerOf lists) (ledger.ledgerOf stored) k)
+        ≡ refusal (modelOf lists stored) (keep k)
     unfolding refusal firstGiven
     keep-refusal =
-        tables-pass lists stored ok fine later
+        tables-pass lists stored ok fine (argumentRows (keep k) ++ store)
+        ∙ first-append (argumentRows (keep k)) store
         ∙ rw (
           routes-are stored fine,
-          judged-reads (hopIn (register.registerOf lists)) role neighbour attribute refusalIn (λ r. refl) (λ a. refl),
-          ← holds-map keyOf numberOf eqb ltb known (λ r. refl) n stored,
-          first-append (judgeRows role neighbour attribute) (heldRows (modelOf lists stored) (keep n role neighbour attribute)
-              ++ roomRows (modelOf lists stored) (keep n role neighbour attribute)),
-        ) (go (firstGiven (judgeRows role neighbour attribute)) refl)
+          ← holds-map keyOf numberOf eqb ltb known (λ r. refl) (k .number) stored,
+          first-append (argumentRows (keep k)) (heldRows (modelOf lists stored) (keep k)
+              ++ roomRows (modelOf lists stored) (keep k)),
+        ) (go (firstGiven (argumentRows (keep k))) refl)
       where
-        later : List (Option Refusal)
-        later =
-            refusalIn (judgedRoute (hopIn (register.registerOf lists)) role neighbour attribute)
-            ∷ rowIf (holdsRoute n (routesOf (ledger.ledgerOf stored))) RouteTaken
-            ∷ rowIf (not (ledger.roomFor (putRoute (keptRoute (register.registerOf lists) n role neighbour attribute) (routesOf (ledger.ledgerOf stored))))) RoutesFull
-            ∷ []
+        store : List (Option Refusal)
+        store = storeRows (ledger.ledgerOf stored) (keptRoute (register.registerOf lists) k)
 
-        go : (o : Option Refusal) → firstGiven (judgeRows role neighbour attribute) ≡ o
-            → orElse o (orElse (rowIf (holdsKept n (map known stored)) RouteTaken)
-            (orElse (rowIf (not (ledger.roomFor (putRoute (keptRoute (register.registerOf lists) n role neighbour attribute) stored))) RoutesFull) none))
-            ≡ orElse o (orElse (rowIf (holdsKept n (map known stored)) RouteTaken)
-            (orElse (rowIf (not (roomForRoutes (putKept (routeRead n role neighbour attribute) (map known stored)))) RoutesFull) none))
+        go : (o : Option Refusal) → firstGiven (argumentRows (keep k)) ≡ o
+            → orElse o (orElse (rowIf (holdsKept (k .number) (map known stored)) RouteTaken)
+            (orElse (rowIf (not (ledger.roomFor (putRoute (keptRoute (register.registerOf lists) k) stored))) RoutesFull) none))
+            ≡ orElse o (orElse (rowIf (holdsKept (k .number) (map known stored)) RouteTaken)
+            (orElse (rowIf (not (roomForRoutes (putKept (routeRead k) (map known stored)))) RoutesFull) none))
         go (some r) e = refl
         go none e = rw (same-room e)
 
-    -- A keeping that is not refused passed slots 9 to 17 and has room.
-    passed : refusal (modelOf lists stored) (keep n role neighbour attribute) ≡ none
-        → (firstGiven (judgeRows role neighbour attribute) ≡ none)
-        × (roomForRoutes (putKept (routeRead n role neighbour attribute) (map known stored)) ≡ true)
+    -- A keeping that is not refused passed rows 9 to 17 and has room.
+    passed : refusal (modelOf lists stored) (keep k) ≡ none
+        → (firstGiven (argumentRows (keep k)) ≡ none)
+        × (roomForRoutes (putKept (routeRead k) (map known stored)) ≡ true)
     unfolding refusal firstGiven
     passed e =
-        go (firstGiven (judgeRows role neighbour attribute)) (holdsKept n (map known stored))
-        (roomForRoutes (putKept (routeRead n role neighbour attribute) (map known stored)))
-        (sym (first-append (judgeRows role neighbour attribute) (heldRows (modelOf lists stored) (keep n role neighbour attribute)
-        ++ roomRows (modelOf lists stored) (keep n role neighbour attribute))) ∙ e)
+        go (firstGiven (argumentRows (keep k))) (holdsKept (k .number) (map known stored))
+        (roomForRoutes (putKept (routeRead k) (map known stored)))
+        (sym (first-append (argumentRows (keep k)) (heldRows (modelOf lists stored) (keep k)
+        ++ roomRows (modelOf lists stored) (keep k))) ∙ e)
       where
         go : (o : Option Refusal) (b c : Bool) → orElse o (orElse (rowIf b RouteTaken) (orElse (rowIf (not c) RoutesFull) none)) ≡ none
             → (o ≡ none) × (c ≡ true)
@@ -345,57 +343,57 @@ module _ (lists : List Record) (stored : List Route) (ok : recordsOk lists ≡ t
 
     -- Keep, as the model refuses it.
     pub keep-step :
-        keepEffect (register.registerOf lists) (ledger.ledgerOf stored) n role neighbour attribute
-        ≡ unlessRefused (refusal (modelOf lists stored) (keep n role neighbour attribute)) judging.Refused (ledger.ledgerOf stored)
+        keepEffect (register.registerOf lists) (ledger.ledgerOf stored) k
+        ≡ unlessRefused (refusal (modelOf lists stored) (keep k)) judging.Refused (ledger.ledgerOf stored)
         (record {
-          answer = judgedRoute (hopOf lists) role neighbour attribute;
-          words = ledger.ledgerOf (putRoute (keptRoute (register.registerOf lists) n role neighbour attribute) stored);
+          answer = judgedRoute (hopOf lists) (k .role) (k .neighbour) (k .attribute);
+          words = ledger.ledgerOf (putRoute (keptRoute (register.registerOf lists) k) stored);
         })
     unfolding keepEffect
     keep-step = rw (keep-refusal, routes-are stored fine, records-are lists ok)
 
-    -- A judging that slots 9 to 17 do not refuse is answered.
-    judged-done : firstGiven (judgeRows role neighbour attribute) ≡ none → shownJudged (judgedRoute (hopOf lists) role neighbour attribute) ≡ done
-    judged-done e = go (judgement (hopOf lists) role neighbour attribute e)
+    -- A judging that rows 9 to 17 do not refuse is answered.
+    judged-done : firstGiven (argumentRows (keep k)) ≡ none → shownJudged (judgedRoute (hopOf lists) (k .role) (k .neighbour) (k .attribute)) ≡ done
+    judged-done e = go (judgement (hopOf lists) (k .role) (k .neighbour) (k .attribute) e)
       where
-        go : Judgement (hopOf lists) role neighbour attribute → shownJudged (judgedRoute (hopOf lists) role neighbour attribute) ≡ done
+        go : Judgement (hopOf lists) (k .role) (k .neighbour) (k .attribute) → shownJudged (judgedRoute (hopOf lists) (k .role) (k .neighbour) (k .attribute)) ≡ done
         go (on-ground g c j) = rw j
         go (on-path path c short j) = rw j
 
     -- Keeping.
-    keep-simulated : Simulated (tablesOf lists stored) (modelOf lists stored) (keep n role neighbour attribute)
+    keep-simulated : Simulated (tablesOf lists stored) (modelOf lists stored) (keep k)
     keep-simulated = record {
       replies =
           ap (λ x. shownJudged (x .answer)) keep-step
-          ∙ shown-unless shownJudged judging.Refused (λ r. refl) (refusal (modelOf lists stored) (keep n role neighbour attribute)) _ _
-          ∙ answered (refusal (modelOf lists stored) (keep n role neighbour attribute)) refl;
+          ∙ shown-unless shownJudged judging.Refused (λ r. refl) (refusal (modelOf lists stored) (keep k)) _ _
+          ∙ answered (refusal (modelOf lists stored) (keep k)) refl;
       holds = rw keep-step
-          (ledger-held (refusal (modelOf lists stored) (keep n role neighbour attribute)) judging.Refused _ _ _ stays-ok (λ e. same-routes (passed e .0)));
+          (ledger-held (refusal (modelOf lists stored) (keep k)) judging.Refused _ _ _ stays-ok (λ e. same-routes (passed e .0)));
       stores = λ number.
           ap (λ x. findRoute number (routesOf (x .words))) keep-step
-          ∙ ledger-stores (refusal (modelOf lists stored) (keep n role neighbour attribute)) judging.Refused _ (putRoute r stored) number _ stays-ok
+          ∙ ledger-stores (refusal (modelOf lists stored) (keep k)) judging.Refused _ (putRoute r stored) number _ stays-ok
           (find-put keyOf eqb ltb ordered-ℕ number r stored
-          ∙ ap (λ b. cond b (some r) (findRoute number stored)) (same-flip eqb ltb ordered-ℕ number n)
-          ∙ ap (cond (eqb n number) (some r)) (sym (stored-before number)));
+          ∙ ap (λ b. cond b (some r) (findRoute number stored)) (same-flip eqb ltb ordered-ℕ number (k .number))
+          ∙ ap (cond (eqb (k .number) number) (some r)) (sym (stored-before number)));
     }
       where
         r : Route
-        r = keptRoute (register.registerOf lists) n role neighbour attribute
+        r = keptRoute (register.registerOf lists) k
 
-        answered : (o : Option Refusal) → refusal (modelOf lists stored) (keep n role neighbour attribute) ≡ o
-            → replyUnless o (shownJudged (judgedRoute (hopOf lists) role neighbour attribute)) ≡ replyUnless o done
+        answered : (o : Option Refusal) → refusal (modelOf lists stored) (keep k) ≡ o
+            → replyUnless o (shownJudged (judgedRoute (hopOf lists) (k .role) (k .neighbour) (k .attribute))) ≡ replyUnless o done
         answered (some x) e = refl
         answered none e = judged-done (passed e .0)
 
-        stays-ok : refusal (modelOf lists stored) (keep n role neighbour attribute) ≡ none → routesOk (putRoute r stored) ≡ true
+        stays-ok : refusal (modelOf lists stored) (keep k) ≡ none → routesOk (putRoute r stored) ≡ true
         stays-ok e =
             let p = passed e in
-            put-ok stored fine r (kept-ok (register.registerOf lists) n role neighbour attribute (p .0)) (same-room (p .0) ∙ p .1)
+            put-ok stored fine r (kept-ok (register.registerOf lists) k (p .0)) (same-room (p .0) ∙ p .1)
 
-        same-routes : firstGiven (judgeRows role neighbour attribute) ≡ none
-            → change (modelOf lists stored) (keep n role neighbour attribute) ≡ modelOf lists (putRoute r stored)
+        same-routes : firstGiven (argumentRows (keep k)) ≡ none
+            → change (modelOf lists stored) (keep k) ≡ modelOf lists (putRoute r stored)
         same-routes e =
-            ap (λ k. record { lists = lists; routes = putKept k (map known stored) }) (sym (kept-known (register.registerOf lists) n role neighbour attribute e))
+            ap (λ x. record { lists = lists; routes = putKept x (map known stored) }) (sym (kept-known (register.registerOf lists) k e))
             ∙ ap (λ rs. record { lists = lists; routes = rs }) (put-map keyOf numberOf eqb ltb known (λ r. refl) r stored)
 
   -- Re-judge, which the model does not refuse.
@@ -444,7 +442,7 @@ module _ (lists : List Record) (stored : List Route) (ok : recordsOk lists ≡ t
   any-simulated (file s c list) = file-simulated s c list
   any-simulated (withdraw s c) = withdraw-simulated s c
   any-simulated (clear s) = clear-simulated s
-  any-simulated (keep n role neighbour attribute) = keep-simulated n role neighbour attribute
+  any-simulated (keep k) = keep-simulated k
   any-simulated (drop n) = drop-simulated n
   any-simulated rejudge = rejudge-simulated
 
@@ -467,37 +465,58 @@ unfolding encode pad slots bodies
 zeros size h = let e : 2 + (size - 2) ≡ size = omega arith in sym (replicate-append-replicate 2 (size - 2) 0 ∙ ap (λ n. replicate n 0) e)
 
 -- So the empty tables are the words of no lists and no routes,
-pub blank-tables : blank ≡ tablesOf [] []
+blank-tables : blank ≡ tablesOf [] []
 unfolding blank register.registerOf ledger.ledgerOf
 blank-tables = λ i. record { register = zeros registerWords (lit≤ tt) i; ledger = zeros ledgerWords (lit≤ tt) i }
 
 -- which keep the rules,
-pub nothing-ok : (recordsOk [] ≡ true) × (routesOk [] ≡ true)
+nothing-ok : (recordsOk [] ≡ true) × (routesOk [] ≡ true)
 unfolding recordsOk roomFor register.listed every ascends routesOk ledger.roomFor ledger.pathWords bodies
 nothing-ok = (refl, refl)
 
--- and they hold the empty model.
-blank-holds : Holds blank empty
-blank-holds = record { lists = []; stored = []; lists-ok = nothing-ok .0; routes-ok = nothing-ok .1; tables-are = blank-tables; model-is = refl }
+-- so that they are a start,
+pub blank-formed : Formed blank
+blank-formed =
+    let r : Register (register.registerOf []) = is-register [] (nothing-ok .0) in
+    let s : Ledger (ledger.ledgerOf []) = is-ledger [] (nothing-ok .1) in
+    rw blank-tables (record { register-long = r .long; register-ok = r .ok; ledger-long = s .long; ledger-ok = s .ok })
+
+-- and they hold nothing.
+pub blank-empty : (recordsOf (blank .register) ≡ []) × (routesOf (blank .ledger) ≡ [])
+blank-empty = rw blank-tables (records-are [] (nothing-ok .0), routes-are [] (nothing-ok .1))
+
+-- Well-formed tables hold the lists and routes that they show.
+formed-holds : (t : Tables) → Formed t → Holds t (heldBy t)
+formed-holds t f = record {
+  lists = recordsOf (t .register);
+  stored = routesOf (t .ledger);
+  lists-ok = holding.records-ok (t .register) (f .register-ok);
+  routes-ok = ledger-holding.routes-ok (t .ledger) (f .ledger-ok);
+  tables-are = λ i. record {
+    register = register-entries.words-are (t .register) (holding.sound (t .register) (f .register-ok)) (f .register-long) i;
+    ledger = ledger-entries.words-are (t .ledger) (ledger-holding.sound (t .ledger) (f .ledger-ok)) (f .ledger-long) i;
+  };
+  model-is = refl;
+}
 
 -- After each call the tables hold the model.
-pub history-holds : (l : List Call) (i : ℕ) → Holds (tables l i) (after l i)
+pub history-holds : (t : Tables) → Formed t → (l : List Call) (i : ℕ) → Holds (tables t l i) (after t l i)
 unfolding tables after
-history-holds l zero = blank-holds
-history-holds l (suc i) = simulated (tables l i) (after l i) (callAt l i) (history-holds l i) .holds
+history-holds t f l zero = formed-holds t f
+history-holds t f l (suc i) = simulated (tables t l i) (after t l i) (callAt l i) (history-holds t f l i) .holds
 
 -- What is stored after one call more.
-pub history-stores : (l : List Call) (i number : ℕ)
-    → findRoute number (routesOf (tables l (suc i) .ledger)) ≡ storedNext (tables l i) (after l i) (callAt l i) number
+pub history-stores : (t : Tables) → Formed t → (l : List Call) (i number : ℕ)
+    → findRoute number (routesOf (tables t l (suc i) .ledger)) ≡ storedNext (tables t l i) (after t l i) (callAt l i) number
 unfolding tables
-history-stores l i number = simulated (tables l i) (after l i) (callAt l i) (history-holds l i) .stores number
+history-stores t f l i number = simulated (tables t l i) (after t l i) (callAt l i) (history-holds t f l i) .stores number
 
 -- Each call is answered as by the model.
-pub history-replies : (l : List Call) (i : ℕ) → shown (said l i) ≡ replyAt l i
-history-replies l i = simulated (tables l i) (after l i) (callAt l i) (history-holds l i) .replies
+pub history-replies : (t : Tables) → Formed t → (l : List Call) (i : ℕ) → shown (said t l i) ≡ replyAt t l i
+history-replies t f l i = simulated (tables t l i) (after t l i) (callAt l i) (history-holds t f l i) .replies
 
 -- After the whole list and one last re-judging both tables are the model written out.
-pub history-written : (l : List Call) → last l ≡ written (final l)
-history-written l =
-    let h : Holds (tables l (length l)) (final l) = history-holds l (length l) in
+pub history-written : (t : Tables) → Formed t → (l : List Call) → last t l ≡ written (final t l)
+history-written t f l =
+    let h : Holds (tables t l (length l)) (final t l) = history-holds t f l (length l) in
     rw (h .tables-are, h .model-is) (last-written (h .lists) (h .stored) (h .lists-ok) (h .routes-ok))

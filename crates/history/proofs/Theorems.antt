@@ -9,11 +9,8 @@ use borrow.Author.Tests.{eqb-true, eqb-false}
 use lib.Dec.{eqb, ltb}
 use native.Mathlib.Decide.{decLt}
 use lib.ListN.{length, List·getD-eq-default}
-use Rattle.types.specs.declared.Cause.the-variants.{ByGround}
 use Rattle.types.specs.declared.Verdict.{Verdict}
-use Rattle.types.specs.declared.Verdict.the-variants.{Valid, Invalid, Unknown}
 use Rattle.types.specs.declared.Answer.{Answer}
-use Rattle.types.specs.declared.Answer.the-variants.{Plain}
 use Rattle.types.specs.declared.Filed.{Filed}
 use Rattle.types.specs.declared.Filed.the-variants as filing
 use Rattle.types.specs.declared.Removal.{Removal}
@@ -23,9 +20,8 @@ use Rattle.types.specs.declared.Cleared.the-variants as clearing
 use Rattle.types.specs.declared.Judged.the-variants.{Answered, Refused}
 use Rattle.types.specs.declared.Rejudged.the-variants.{Changed}
 use Rattle.types.specs.declared.Refusal.{Refusal}
-use Rattle.types.specs.Numbers.{verdictNumber, verdictOf}
+use Rattle.types.specs.Numbers.{verdictNumber, placeA, placeB, verdictOf}
 use Rattle.types.specs.Rows.{firstGiven, unlessRefused}
-use Rattle.as_path.specs.Reading.{contentOf}
 use Rattle.keyed.specs.Keyed.{samePair, beforePair, find}
 use Rattle.keyed.proofs.Orders.{ordered-pairs, ordered-ℕ}
 use Rattle.keyed.proofs.Finds.{find-key, every-found, same-finds}
@@ -33,9 +29,8 @@ use Rattle.keyed.proofs.Mapping.{find-map}
 use Rattle.rules.specs.Hops.{HopFunction}
 use Rattle.rules.specs.Records.{Record, hopOf}
 use Rattle.rules.specs.Verdicts.{judged}
-use Rattle.rules.specs.Judging.{judgeRows, judgedRoute}
-use Rattle.rules.specs.Draft.{outcomeOf}
-use Rattle.rules.proofs.Judges.{judged-reads, Judgement, on-ground, on-path, judgement}
+use Rattle.rules.specs.Judging.{judgedRoute}
+use Rattle.rules.proofs.Drafting.{draft-judged, draft-route}
 use Rattle.register.specs.Register.{registerWords, recordsOf, registerOk}
 use Rattle.register.specs.Register as register
 use Rattle.register.specs.Calls.{recordFor}
@@ -45,45 +40,23 @@ use Rattle.ledger.specs.Routes.{ledgerWords, ledgerOk, Route, routesOf, routeOk
 use Rattle.ledger.specs.Routes as ledger
 use Rattle.ledger.specs.Calls.{stamped, countDiffering}
 use Rattle.ledger.proofs.Holding.{each-ok, in-order}
-use Rattle.ledger.proofs.Paths.{path-some}
+use Rattle.ledger.proofs.Holding as ledger-holding
 use Rattle.ledger.proofs.Refusals.{Ledger}
 use Rattle.rejudge.specs.Rejudging.{rejudgedRoute}
 use Rattle.rejudge.proofs.Rejudgements.{some-numbers, rejudged-ok}
-use Rattle.filter.specs.Calls.{hopIn, judgeAnswer, refusalIn, keepEffect, rejudgeEffect}
-use Rattle.filter.proofs.KeptRoutes.{path-ok}
-use Rattle.history.specs.Calls.{Call, file, withdraw, clear, keep, drop, rejudge, filed, removed, cleared, kept, rejudged, Tables, tables, says, callAt, said, last}
+use Rattle.filter.specs.Calls.{Keeping, hopIn, judgeAnswer, keepEffect, rejudgeEffect}
+use Rattle.history.specs.Calls.{Call, file, withdraw, clear, keep, drop, rejudge, filed, removed, cleared, kept, rejudged, Scope, of-pair, of-source, of-route, idle, scope, Tables, Formed, tables, says, callAt, scopeAt, said, last, findRecord, findRoute, providersOf, known}
 use Rattle.history.specs.Replies.{ModelReply, new, replaced, done, gone, refused, shownFiled, shownRemoval, shownCleared, shown, forRoom, accepted}
-use Rattle.history.specs.Model.{numberOf, refusal, after, replyAt, written}
+use Rattle.history.specs.Model.{numberOf, findKept, refusal, after, replyAt, written}
 use Rattle.history.specs.Filings.{filedList, keptRouteAt, hopFiled, hopsAt, storedBy, storedAt}
 use Rattle.history.specs.Reorderings.{IsRegisterStep, IsStep, Reordering}
-use Rattle.history.specs.Demands.{findRecord, findRoute, providersOf, known, draftWord, wordNumber, Roomy, Drafted, Demand2, Demand3}
-use Rattle.history.proofs.Keys.{findKept}
+use Rattle.history.specs.Demands.{Roomy, Drafted, Demand2, Demand3, Demands}
+use Rattle.history.proofs.Entries.{once}
 use Rattle.history.proofs.Matching.{RoomyModel, same-replies, same-final}
-use Rattle.history.proofs.KeptRoutes.{judged-word, on-a-ground, rejudged-known}
-use Rattle.history.proofs.Simulating.{modelOf, Holds, records-are, is-register, register-passes, routes-are, is-ledger, keep-step, rejudge-step, rejudge-counts, blank-tables, nothing-ok, history-holds, history-stores, history-replies, history-written}
+use Rattle.history.proofs.KeptRoutes.{on-a-ground, rejudged-known}
+use Rattle.history.proofs.Simulating.{modelOf, Holds, records-are, is-register, register-passes, routes-are, is-ledger, keep-step, rejudge-step, rejudge-counts, history-holds, history-stores, history-replies, history-written}
 use Rattle.history.proofs.FiledLists.{filed-list, kept-route}
 use Rattle.history.proofs.FiledHops.{filed-hops}
-
--- A verdict that is answered without a refusal: rows 9 to 17 are not given.
-answered-rows : (hop : HopFunction) (role neighbour : ℕ) (attribute : List ℕ) (a : Answer) → judgedRoute hop role neighbour attribute ≡ Answered a
-    → firstGiven (judgeRows role neighbour attribute) ≡ none
-answered-rows hop role neighbour attribute a e = sym (judged-reads hop role neighbour attribute refusalIn (λ r. refl) (λ a. refl)) ∙ ap refusalIn e
-
--- Its word is the draft's.
-answered-word : (hop : HopFunction) (role neighbour : ℕ) (attribute : List ℕ) (a : Answer) → judgedRoute hop role neighbour attribute ≡ Answered a
-    → draftWord hop role (contentOf role neighbour attribute) ≡ some (outcomeOf (verdictOf a))
-answered-word hop role neighbour attribute a e = go (judgement hop role neighbour attribute (answered-rows hop role neighbour attribute a e))
-  where
-    go : Judgement hop role neighbour attribute → draftWord hop role (contentOf role neighbour attribute) ≡ some (outcomeOf (verdictOf a))
-    go (on-ground g c j) =
-        let f : Answered (Plain (Invalid (ByGround g))) ≡ Answered a = sym j ∙ e in
-        let z : Plain (Invalid (ByGround g)) ≡ a = cc in
-        rw (c, ← z)
-    go (on-path path c short j) =
-        let f : Answered (judged hop path role) ≡ Answered a = sym j ∙ e in
-        let z : judged hop path role ≡ a = cc in
-        let n = path-some role neighbour path (path-ok role neighbour attribute path c short) in
-        rw (c, ← z) (ap some (judged-word hop path role n))
 
 -- A keeping that is answered answers what is judged.
 keep-answered : (o : Option Refusal) (hop : HopFunction) (role neighbour : ℕ) (attribute ws ws′ : List ℕ) (a : Answer)
@@ -94,86 +67,85 @@ keep-answered none hop role neighbour attribute ws ws′ a e = e
 
 -- ---- what the tables hold after i calls
 
-module _ (l : List Call) (i : ℕ) where
+module _ (t : Tables) (f : Formed t) (l : List Call) (i : ℕ) where
   -- The tables hold the model.
-  holds-at : Holds (tables l i) (after l i)
-  holds-at = history-holds l i
+  holds-at : Holds (tables t l i) (after t l i)
+  holds-at = history-holds t f l i
 
   -- The register is the words of the model's lists, the ledger those of the stored routes.
-  register-is : tables l i .register ≡ register.registerOf (holds-at .lists)
+  register-is : tables t l i .register ≡ register.registerOf (holds-at .lists)
   register-is = ap (λ t. t .register) (holds-at .tables-are)
 
-  ledger-is : tables l i .ledger ≡ ledger.ledgerOf (holds-at .stored)
+  ledger-is : tables t l i .ledger ≡ ledger.ledgerOf (holds-at .stored)
   ledger-is = ap (λ t. t .ledger) (holds-at .tables-are)
 
   -- The records are the model's lists.
-  lists-are : recordsOf (tables l i .register) ≡ after l i .lists
+  lists-are : recordsOf (tables t l i .register) ≡ after t l i .lists
   lists-are = ap recordsOf register-is ∙ records-are (holds-at .lists) (holds-at .lists-ok) ∙ sym (ap (λ m. m .lists) (holds-at .model-is))
 
   -- The hops are those over the filed lists.
-  hops-are : hopOf (holds-at .lists) ≡ hopsAt l i
+  hops-are : hopOf (holds-at .lists) ≡ hopsAt t l i
   hops-are =
       filed-hops (holds-at .lists) (holds-at .lists-ok)
       ∙ ap (λ rs. hopFiled (λ source customer. providersOf (findRecord (customer, source) rs))) (sym (ap (λ m. m .lists) (holds-at .model-is)))
-      ∙ ap hopFiled (λ j source customer. filed-list source customer l i j)
+      ∙ ap hopFiled (λ j source customer. filed-list source customer t f l i j)
 
   -- Both tables keep the word rules.
-  formed-register : (length (tables l i .register) ≡ registerWords) × (registerOk (tables l i .register) ≡ true)
+  formed-register : (length (tables t l i .register) ≡ registerWords) × (registerOk (tables t l i .register) ≡ true)
   formed-register =
       let r : Register (register.registerOf (holds-at .lists)) = is-register (holds-at .lists) (holds-at .lists-ok) in
       rw register-is (r .long, r .ok)
 
-  formed-ledger : (length (tables l i .ledger) ≡ ledgerWords) × (ledgerOk (tables l i .ledger) ≡ true)
+  formed-ledger : (length (tables t l i .ledger) ≡ ledgerWords) × (ledgerOk (tables t l i .ledger) ≡ true)
   formed-ledger =
       let r : Ledger (ledger.ledgerOf (holds-at .stored)) = is-ledger (holds-at .stored) (holds-at .routes-ok) in
       rw ledger-is (r .long, r .ok)
 
   -- The stored routes, but for their verdicts, are those kept.
-  kept-are : (number : ℕ) → Option·map known (findRoute number (routesOf (tables l i .ledger))) ≡ keptRouteAt l i number
+  kept-are : (number : ℕ) → Option·map known (findRoute number (routesOf (tables t l i .ledger))) ≡ keptRouteAt t l i number
   kept-are number =
       ap (λ ws. Option·map known (findRoute number (routesOf ws))) ledger-is
       ∙ ap (λ rs. Option·map known (findRoute number rs)) (routes-are (holds-at .stored) (holds-at .routes-ok))
       ∙ sym (find-map keyOf numberOf eqb ltb known (λ r. refl) number (holds-at .stored))
       ∙ ap (λ m. findKept number (m .routes)) (sym (holds-at .model-is))
-      ∙ kept-route number l i
+      ∙ kept-route number t f l i
 
   -- Judge answers over the filed lists.
   judge-answer : (role neighbour : ℕ) (attribute : List ℕ)
-      → judgeAnswer (tables l i .register) role neighbour attribute ≡ judgedRoute (hopsAt l i) role neighbour attribute
+      → judgeAnswer (tables t l i .register) role neighbour attribute ≡ judgedRoute (hopsAt t l i) role neighbour attribute
   unfolding judgeAnswer firstGiven
   judge-answer role neighbour attribute =
       rw (register-is, register-passes (holds-at .lists) (holds-at .lists-ok) [], records-are (holds-at .lists) (holds-at .lists-ok), hops-are)
 
   -- So does a keeping that is answered.
-  keep-answer : (number role neighbour : ℕ) (attribute : List ℕ) (a : Answer)
-      → kept (keepEffect (tables l i .register) (tables l i .ledger) number role neighbour attribute .answer) ≡ kept (Answered a)
-      → judgedRoute (hopsAt l i) role neighbour attribute ≡ Answered a
-  keep-answer number role neighbour attribute a e =
-      let step = keep-step (holds-at .lists) (holds-at .stored) (holds-at .lists-ok) (holds-at .routes-ok) number role neighbour attribute in
-      let f : keepEffect (tables l i .register) (tables l i .ledger) number role neighbour attribute .answer ≡ Answered a = cc in
-      let o : Option Refusal = refusal (modelOf (holds-at .lists) (holds-at .stored)) (keep number role neighbour attribute) in
-      rw (← hops-are) (keep-answered o _ role neighbour attribute _ _ a (rw (register-is, ledger-is, step) at f))
+  keep-answer : (k : Keeping) (a : Answer) → kept (keepEffect (tables t l i .register) (tables t l i .ledger) k .answer) ≡ kept (Answered a)
+      → judgedRoute (hopsAt t l i) (k .role) (k .neighbour) (k .attribute) ≡ Answered a
+  keep-answer k a e =
+      let step = keep-step (holds-at .lists) (holds-at .stored) (holds-at .lists-ok) (holds-at .routes-ok) k in
+      let g : keepEffect (tables t l i .register) (tables t l i .ledger) k .answer ≡ Answered a = cc in
+      let o : Option Refusal = refusal (modelOf (holds-at .lists) (holds-at .stored)) (keep k) in
+      rw (← hops-are) (keep-answered o _ (k .role) (k .neighbour) (k .attribute) _ _ a (rw (register-is, ledger-is, step) at g))
 
   -- A re-judging counts the routes that it changes.
   rejudge-count : callAt l i ≡ rejudge
-      → said l i ≡ rejudged (Changed (countDiffering (routesOf (tables l i .ledger)) (routesOf (tables l (suc i) .ledger))))
+      → said t l i ≡ rejudged (Changed (countDiffering (routesOf (tables t l i .ledger)) (routesOf (tables t l (suc i) .ledger))))
   unfolding tables
   rejudge-count c = rw (c, holds-at .tables-are) (rejudge-counts (holds-at .lists) (holds-at .stored) (holds-at .lists-ok) (holds-at .routes-ok))
 
 -- What is stored under a number, with its verdict.
-stored-at : (l : List Call) (number i : ℕ) → findRoute number (routesOf (tables l i .ledger)) ≡ storedAt l i number
-unfolding storedAt tables after find
-stored-at l number zero = ap (findRoute number) (ap (λ t. routesOf (t .ledger)) blank-tables ∙ routes-are [] (nothing-ok .1))
-stored-at l number (suc i) =
-    history-stores l i number
-    ∙ ap (λ r. cond (accepted r) (storedBy (hopIn (tables l i .register)) number (callAt l i) (before i)) (before i)) (sym (history-replies l i))
-    ∙ (λ j. cond (accepted (shown (said l i))) (storedBy (hops j) number (callAt l i) (stored-at l number i j)) (stored-at l number i j))
+stored-at : (t : Tables) → Formed t → (l : List Call) (number i : ℕ) → findRoute number (routesOf (tables t l i .ledger)) ≡ storedAt t l i number
+unfolding storedAt tables after
+stored-at t f l number zero = refl
+stored-at t f l number (suc i) =
+    history-stores t f l i number
+    ∙ ap (λ r. cond (accepted r) (storedBy (hopIn (tables t l i .register)) number (callAt l i) (before i)) (before i)) (sym (history-replies t f l i))
+    ∙ (λ j. cond (accepted (shown (said t l i))) (storedBy (hops j) number (callAt l i) (stored-at t f l number i j)) (stored-at t f l number i j))
   where
     before : ℕ → Option Route
-    before k = findRoute number (routesOf (tables l k .ledger))
+    before k = findRoute number (routesOf (tables t l k .ledger))
 
-    hops : hopIn (tables l i .register) ≡ hopsAt l i
-    hops = ap hopIn (register-is l i) ∙ ap hopOf (records-are (holds-at l i .lists) (holds-at l i .lists-ok)) ∙ hops-are l i
+    hops : hopIn (tables t l i .register) ≡ hopsAt t l i
+    hops = ap hopIn (register-is t f l i) ∙ ap hopOf (records-are (holds-at t f l i .lists) (holds-at t f l i .lists-ok)) ∙ hops-are t f l i
 
 -- A record is its key and its list.
 record-found : (k : ℕ × ℕ) (rs : List Record)
@@ -186,52 +158,54 @@ record-found k rs = go (findRecord k rs) refl
         let q : register.keyOf r ≡ k = find-key register.keyOf samePair beforePair ordered-pairs k rs r e in
         λ i. some (record { customer = q i .0; source = q i .1; providers = r .providers })
 
-module _ (l m : List Call) (i j : ℕ) where
+module _ (t : Tables) (f : Formed t) (l m : List Call) (i j : ℕ) where
   -- The same lists filed: the same register.
-  registers-alike : ((source customer : ℕ) → filedList l i source customer ≡ filedList m j source customer) → tables l i .register ≡ tables m j .register
-  registers-alike e = register-is l i ∙ ap register.registerOf same ∙ sym (register-is m j)
+  registers-alike : ((source customer : ℕ) → filedList t l i source customer ≡ filedList t m j source customer) → tables t l i .register ≡ tables t m j .register
+  registers-alike e = register-is t f l i ∙ ap register.registerOf same ∙ sym (register-is t f m j)
     where
       there : (n : List Call) (x : ℕ) (k : ℕ × ℕ)
-          → findRecord k (holds-at n x .lists) ≡ Option·map (λ list. recordFor (k .1) (k .0) list) (filedList n x (k .1) (k .0))
+          → findRecord k (holds-at t f n x .lists) ≡ Option·map (λ list. recordFor (k .1) (k .0) list) (filedList t n x (k .1) (k .0))
       there n x k =
-          record-found k (holds-at n x .lists)
-          ∙ ap (λ rs. Option·map (λ list. recordFor (k .1) (k .0) list) (providersOf (findRecord k rs))) (sym (ap (λ z. z .lists) (holds-at n x .model-is)))
-          ∙ ap (Option·map (λ list. recordFor (k .1) (k .0) list)) (filed-list (k .1) (k .0) n x)
+          record-found k (holds-at t f n x .lists)
+          ∙ ap (λ rs. Option·map (λ list. recordFor (k .1) (k .0) list) (providersOf (findRecord k rs))) (sym (ap (λ z. z .lists) (holds-at t f n x .model-is)))
+          ∙ ap (Option·map (λ list. recordFor (k .1) (k .0) list)) (filed-list (k .1) (k .0) t f n x)
 
-      same : holds-at l i .lists ≡ holds-at m j .lists
+      same : holds-at t f l i .lists ≡ holds-at t f m j .lists
       same =
-          same-finds register.keyOf samePair beforePair ordered-pairs (holds-at l i .lists) (holds-at m j .lists)
-          (holding.in-order (holds-at l i .lists) (holds-at l i .lists-ok)) (holding.in-order (holds-at m j .lists) (holds-at m j .lists-ok))
+          same-finds register.keyOf samePair beforePair ordered-pairs (holds-at t f l i .lists) (holds-at t f m j .lists)
+          (holding.in-order (holds-at t f l i .lists) (holds-at t f l i .lists-ok)) (holding.in-order (holds-at t f m j .lists) (holds-at t f m j .lists-ok))
           (λ k. there l i k ∙ ap (Option·map (λ list. recordFor (k .1) (k .0) list)) (e (k .1) (k .0)) ∙ sym (there m j k))
 
   -- The same routes stored: the same ledger.
-  ledgers-alike : ((number : ℕ) → storedAt l i number ≡ storedAt m j number) → tables l i .ledger ≡ tables m j .ledger
-  ledgers-alike e = ledger-is l i ∙ ap ledger.ledgerOf same ∙ sym (ledger-is m j)
+  ledgers-alike : ((number : ℕ) → storedAt t l i number ≡ storedAt t m j number) → tables t l i .ledger ≡ tables t m j .ledger
+  ledgers-alike e = ledger-is t f l i ∙ ap ledger.ledgerOf same ∙ sym (ledger-is t f m j)
     where
-      there : (n : List Call) (x number : ℕ) → findRoute number (holds-at n x .stored) ≡ storedAt n x number
+      there : (n : List Call) (x number : ℕ) → findRoute number (holds-at t f n x .stored) ≡ storedAt t n x number
       there n x number =
-          ap (findRoute number) (sym (ap routesOf (ledger-is n x) ∙ routes-are (holds-at n x .stored) (holds-at n x .routes-ok))) ∙ stored-at n number x
+          ap (findRoute number) (sym (ap routesOf (ledger-is t f n x) ∙ routes-are (holds-at t f n x .stored) (holds-at t f n x .routes-ok))) ∙ stored-at t f n number x
 
-      same : holds-at l i .stored ≡ holds-at m j .stored
+      same : holds-at t f l i .stored ≡ holds-at t f m j .stored
       same =
-          same-finds keyOf eqb ltb ordered-ℕ (holds-at l i .stored) (holds-at m j .stored)
-          (in-order (holds-at l i .stored) (holds-at l i .routes-ok)) (in-order (holds-at m j .stored) (holds-at m j .routes-ok))
+          same-finds keyOf eqb ltb ordered-ℕ (holds-at t f l i .stored) (holds-at t f m j .stored)
+          (in-order (holds-at t f l i .stored) (holds-at t f l i .routes-ok)) (in-order (holds-at t f m j .stored) (holds-at t f m j .routes-ok))
           (λ k. there l i k ∙ e k ∙ sym (there m j k))
 
 -- Demand 2.
-pub demand2 : Demand2
-demand2 = record {
-  lists-held = λ l i source customer. ap (λ rs. providersOf (findRecord (customer, source) rs)) (lists-are l i) ∙ filed-list source customer l i;
-  routes-held = kept-are;
-  verdicts-held = λ l i number. stored-at l number i;
-  register-formed = formed-register;
-  ledger-formed = formed-ledger;
-  register-exact = registers-alike;
-  ledger-exact = ledgers-alike;
-  judge-answers = judge-answer;
-  keep-answers = λ l i number role neighbour attribute a c e. keep-answer l i number role neighbour attribute a (rw c at e);
-  draft-answers = λ l i role neighbour attribute a e. answered-word (hopsAt l i) role neighbour attribute a e;
-  rejudge-counts = rejudge-count;
+pub demand2 : (t : Tables) → Formed t → Demand2 t
+demand2 t f = record {
+  lists-held = λ l i source customer. ap (λ rs. providersOf (findRecord (customer, source) rs)) (lists-are t f l i) ∙ filed-list source customer t f l i;
+  routes-held = kept-are t f;
+  verdicts-held = λ l i number. stored-at t f l number i;
+  one-list = λ l i. once register.keyOf samePair beforePair ordered-pairs _ _ (holding.ordered _ (formed-register t f l i .1));
+  one-route = λ l i. once keyOf eqb ltb ordered-ℕ _ _ (ledger-holding.ordered _ (formed-ledger t f l i .1));
+  register-formed = formed-register t f;
+  ledger-formed = formed-ledger t f;
+  register-exact = registers-alike t f;
+  ledger-exact = ledgers-alike t f;
+  judge-answers = judge-answer t f;
+  keep-answers = λ l i k a c e. keep-answer t f l i k a (rw c at e);
+  draft-answers = λ l i role neighbour attribute a e. draft-route (hopsAt t l i) role neighbour attribute a e;
+  rejudge-counts = rejudge-count t f;
 }
 
 -- ---- demand 3
@@ -275,39 +249,31 @@ cleared-back (clearing.Gone n) = refl
 cleared-back (clearing.Refused r) = refl
 
 -- Register steps that show the same answer the same.
-same-shown : (t u : Tables) (c : Call) → IsRegisterStep c → shown (says t c) ≡ shown (says u c) → says t c ≡ says u c
+same-shown : (t u : Tables) (c : Call) → IsRegisterStep (scope c) → shown (says t c) ≡ shown (says u c) → says t c ≡ says u c
 same-shown t u (file s c list) g e = ap filed (sym (filed-back _) ∙ ap filedBack e ∙ filed-back _)
 same-shown t u (withdraw s c) g e = ap removed (sym (removal-back _) ∙ ap removalBack e ∙ removal-back _)
 same-shown t u (clear s) g e = ap cleared (sym (cleared-back _) ∙ ap clearedBack e ∙ cleared-back _)
-same-shown t u (keep n role neighbour attribute) g e = absurd g
+same-shown t u (keep k) g e = absurd g
 same-shown t u (drop n) g e = absurd g
 same-shown t u rejudge g e = absurd g
 
 -- A register step is a step.
-register-step : (c : Call) → IsRegisterStep c → IsStep c
-register-step (file s c list) g = tt
-register-step (withdraw s c) g = tt
-register-step (clear s) g = tt
-register-step (keep n role neighbour attribute) g = absurd g
-register-step (drop n) g = absurd g
-register-step rejudge g = absurd g
+register-step : (c : Scope) → IsRegisterStep c → IsStep c
+register-step (of-pair s c) g = tt
+register-step (of-source s) g = tt
+register-step (of-route n) g = absurd g
+register-step idle g = absurd g
 
 -- Past the end of a list stand re-judgings, and these are not refused.
-roomy-model : (l : List Call) → Roomy l → RoomyModel l
+roomy-model : (t : Tables) → Formed t → (l : List Call) → Roomy t l → RoomyModel t l
 unfolding refusal firstGiven
-roomy-model l h i = go (decLt i (length l))
+roomy-model t f l h i = go (decLt i (length l))
   where
-    go : Dec (i < length l) → forRoom (replyAt l i) ≡ false
-    go (yes p) = ap forRoom (sym (history-replies l i)) ∙ h i p
+    go : Dec (i < length l) → forRoom (replyAt t l i) ≡ false
+    go (yes p) = ap forRoom (sym (history-replies t f l i)) ∙ h i p
     go (no n) = let e : callAt l i ≡ rejudge = List·getD-eq-default l rejudge (omega arith) in rw e
 
--- A verdict's word is its outcome's.
-word-number : (v : Verdict) → verdictNumber v ≡ wordNumber (outcomeOf v)
-word-number Valid = refl
-word-number (Invalid c) = refl
-word-number (Unknown a b) = refl
-
--- A route that is judged anew has the verdict and places of its path, and the draft's word.
+-- A route that is judged anew has the draft's verdict and places of its path.
 drafted : (hop : HopFunction) (r : Route) → routeOk r ≡ true → Drafted hop (rejudgedRoute hop r)
 drafted hop r ok = go (eqb (r .ground) 0) refl
   where
@@ -317,11 +283,12 @@ drafted hop r ok = go (eqb (r .ground) 0) refl
     go : (b : Bool) → eqb (r .ground) 0 ≡ b → Drafted hop (cond b (stamped v r) r)
     go true e =
         let g : r .ground ≡ 0 = eqb-true _ _ e in
+        let d = draft-judged hop (r .path) (r .role) (some-numbers r ok g) in
         record {
-          verdict = λ z. refl;
-          a = λ z. refl;
-          b = λ z. refl;
-          word = λ z. word-number v ∙ ap wordNumber (sym (judged-word hop (r .path) (r .role) (some-numbers r ok g)));
+          verdict = λ z. ap (λ x. verdictNumber (verdictOf x)) d;
+          a = λ z. ap (λ x. placeA (verdictOf x)) d;
+          b = λ z. ap (λ x. placeB (verdictOf x)) d;
+          rules = λ z. d;
           ground = λ z. absurd (z g);
         }
     go false e =
@@ -329,16 +296,17 @@ drafted hop r ok = go (eqb (r .ground) 0) refl
           verdict = λ z. absurd (eqb-false _ _ e z);
           a = λ z. absurd (eqb-false _ _ e z);
           b = λ z. absurd (eqb-false _ _ e z);
-          word = λ z. absurd (eqb-false _ _ e z);
+          rules = λ z. absurd (eqb-false _ _ e z);
           ground = λ z. on-a-ground r ok e;
         }
 
 -- The verdicts after a last re-judging.
-last-verdicts : (l : List Call) (number : ℕ) (r : Route) → findRoute number (routesOf (last l .ledger)) ≡ some r → Drafted (hopsAt l (length l)) r
-last-verdicts l number r e = rw (← hops-are l (length l)) (go (findRoute number stored) refl (sym found ∙ e))
+last-verdicts : (t : Tables) → Formed t → (l : List Call) (number : ℕ) (r : Route)
+    → findRoute number (routesOf (last t l .ledger)) ≡ some r → Drafted (hopsAt t l (length l)) r
+last-verdicts t f l number r e = rw (← hops-are t f l (length l)) (go (findRoute number stored) refl (sym found ∙ e))
   where
-    held : Holds (tables l (length l)) (after l (length l))
-    held = holds-at l (length l)
+    held : Holds (tables t l (length l)) (after t l (length l))
+    held = holds-at t f l (length l)
 
     stored : List Route
     stored = held .stored
@@ -346,49 +314,55 @@ last-verdicts l number r e = rw (← hops-are l (length l)) (go (findRoute numbe
     hop : HopFunction
     hop = hopOf (held .lists)
 
-    routes-left : routesOf (last l .ledger) ≡ map (rejudgedRoute hop) stored
+    routes-left : routesOf (last t l .ledger) ≡ map (rejudgedRoute hop) stored
     routes-left =
-        ap (λ t. routesOf (rejudgeEffect (t .register) (t .ledger) .words)) (held .tables-are)
+        ap (λ u. routesOf (rejudgeEffect (u .register) (u .ledger) .words)) (held .tables-are)
         ∙ ap (λ s. routesOf (s .words)) (rejudge-step (held .lists) stored (held .lists-ok) (held .routes-ok))
         ∙ routes-are (map (rejudgedRoute hop) stored) (rejudged-ok hop stored (held .routes-ok))
 
-    found : findRoute number (routesOf (last l .ledger)) ≡ Option·map (rejudgedRoute hop) (findRoute number stored)
+    found : findRoute number (routesOf (last t l .ledger)) ≡ Option·map (rejudgedRoute hop) (findRoute number stored)
     found =
         ap (findRoute number) routes-left
         ∙ find-map keyOf keyOf eqb ltb (rejudgedRoute hop) (λ k. ap (λ x. x .number) (rejudged-known hop k)) number stored
 
     go : (o : Option Route) → findRoute number stored ≡ o → Option·map (rejudgedRoute hop) o ≡ some r → Drafted hop r
-    go none f q = let z : _≡_ {A = ℕ} 0 1 = cc in absurd (omega arith)
-    go (some x) f q =
+    go none p q = let z : _≡_ {A = ℕ} 0 1 = cc in absurd (omega arith)
+    go (some x) p q =
         let z : rejudgedRoute hop x ≡ r = cc in
-        rw (← z) (drafted hop x (every-found keyOf eqb ltb routeOk number stored x (each-ok stored (held .routes-ok)) f))
+        rw (← z) (drafted hop x (every-found keyOf eqb ltb routeOk number stored x (each-ok stored (held .routes-ok)) p))
 
-module _ (l m : List Call) (r : Reordering l m) (f : Roomy l) (g : Roomy m) where
+module _ (t : Tables) (f : Formed t) (l m : List Call) (r : Reordering l m) (g : Roomy t l) (h : Roomy t m) where
   -- Each step is done in both lists or refused alike.
-  ends-alike : (i : ℕ) → IsStep (callAt l i) → shown (said l i) ≡ shown (said m (r .to i))
+  ends-alike : (i : ℕ) → IsStep (scopeAt l i) → shown (said t l i) ≡ shown (said t m (r .to i))
   ends-alike i s =
-      history-replies l i ∙ same-replies l m r (roomy-model l f) (roomy-model m g) i s ∙ sym (history-replies m (r .to i))
+      history-replies t f l i ∙ same-replies t f l m r (roomy-model t f l g) (roomy-model t f m h) i s ∙ sym (history-replies t f m (r .to i))
 
   -- Each register step gets the same answer.
-  answers-alike : (i : ℕ) → IsRegisterStep (callAt l i) → said l i ≡ said m (r .to i)
+  answers-alike : (i : ℕ) → IsRegisterStep (scopeAt l i) → said t l i ≡ said t m (r .to i)
   answers-alike i s =
-      let k : IsStep (callAt l i) = register-step (callAt l i) s in
+      let k : IsStep (scopeAt l i) = register-step (scopeAt l i) s in
       let c : callAt m (r .to i) ≡ callAt l i = r .to-same i k in
-      rw c (same-shown (tables l i) (tables m (r .to i)) (callAt l i) s (rw c at (ends-alike i k)))
+      rw c (same-shown (tables t l i) (tables t m (r .to i)) (callAt l i) s (rw c at (ends-alike i k)))
 
   -- The tables are the same at the end.
-  tables-alike : last l ≡ last m
+  tables-alike : last t l ≡ last t m
   tables-alike =
-      history-written l ∙ ap written (same-final l m r (roomy-model l f) (roomy-model m g)) ∙ sym (history-written m)
+      history-written t f l ∙ ap written (same-final t f l m r (roomy-model t f l g) (roomy-model t f m h)) ∙ sym (history-written t f m)
 
 -- Demand 3.
-pub demand3 : Demand3
-demand3 = record {
-  as-model = history-replies;
-  lists-filed = λ l i source customer. filed-list source customer l i;
-  written-out = history-written;
-  verdicts = last-verdicts;
-  same-answers = answers-alike;
-  same-ends = ends-alike;
-  same-tables = tables-alike;
+pub demand3 : (t : Tables) → Formed t → Demand3 t
+demand3 t f = record {
+  as-model = history-replies t f;
+  lists-filed = λ l i source customer. filed-list source customer t f l i;
+  routes-kept = λ l i number. kept-route number t f l i;
+  register-written = λ l i. register-is t f l i ∙ ap register.registerOf (sym (ap (λ m. m .lists) (holds-at t f l i .model-is)));
+  written-out = history-written t f;
+  verdicts = last-verdicts t f;
+  same-answers = answers-alike t f;
+  same-ends = ends-alike t f;
+  same-tables = tables-alike t f;
 }
+
+-- Both, from every well-formed start.
+pub demands : Demands
+demands t f = (demand2 t f, demand3 t f)

@@ -1,129 +1,107 @@
--- Demands 2 and 3, clause by clause (docs/PROOFS.md has the demands).
+-- Demands 2 and 3, clause by clause (docs/PROOFS.md has the demands), for lists of calls from the tables t on.
 use Prim.Native.Nat.{ℕ, suc, _<_}
 use mathlib.Core.Path.{_≡_}
-use mathlib.Core.Bool.{true, false, cond}
+use mathlib.Core.Bool.{true, false}
 use mathlib.Core.List.{List}
-use mathlib.Core.Option.{Option, none, some, Option·map}
-use lib.Dec.{eqb, ltb}
+use mathlib.Core.Option.{some, Option·map}
 use lib.ListN.{length}
 use Rattle.types.specs.declared.Answer.{Answer}
 use Rattle.types.specs.declared.Judged.the-variants.{Answered}
 use Rattle.types.specs.declared.Rejudged.the-variants.{Changed}
 use Rattle.types.specs.Numbers.{verdictNumber, placeA, placeB, verdictOf}
-use Rattle.types.specs.Roles.{isUpstream}
-use Rattle.as_path.specs.Reading.{Content, faulty, grounded, merged, contentOf}
-use Rattle.keyed.specs.Keyed.{samePair, beforePair, find}
+use Rattle.as_path.specs.Segments.{segments}
 use Rattle.rules.specs.Hops.{HopFunction}
-use Rattle.rules.specs.Records.{Record}
 use Rattle.rules.specs.Verdicts.{judged}
 use Rattle.rules.specs.Judging.{judgedRoute}
-use Rattle.rules.specs.Draft.{Outcome, outcomeOf, draftUpstream, draftDownstream}
-use Rattle.rules.specs.Draft as draft
-use Rattle.register.specs.Register.{registerWords, recordsOf, registerOk}
+use Rattle.rules.specs.Draft.{draftJudged, draftRoute}
+use Rattle.register.specs.Register.{registerWords, recordsOf, recordAt, registerOk}
 use Rattle.register.specs.Register as register
-use Rattle.ledger.specs.Routes.{ledgerWords, Route, routesOf, ledgerOk}
+use Rattle.ledger.specs.Routes.{ledgerWords, Route, routesOf, routeAt, ledgerOk}
 use Rattle.ledger.specs.Routes as ledger
 use Rattle.ledger.specs.Calls.{countDiffering}
-use Rattle.filter.specs.Calls.{judgeAnswer}
-use Rattle.history.specs.Calls.{Call, keep, rejudge, kept, rejudged, KeptRoute, tables, callAt, said, last}
+use Rattle.filter.specs.Calls.{Keeping, judgeAnswer}
+use Rattle.history.specs.Calls.{Call, keep, rejudge, kept, rejudged, Tables, Formed, tables, callAt, scopeAt, said, last, findRecord, findRoute, providersOf, known}
 use Rattle.history.specs.Replies.{shown, forRoom}
-use Rattle.history.specs.Model.{after, replyAt, final, written}
+use Rattle.history.specs.Model.{findKept, after, replyAt, final, written}
 use Rattle.history.specs.Filings.{filedList, keptRouteAt, hopsAt, storedAt}
 use Rattle.history.specs.Reorderings.{IsRegisterStep, StepAt, Reordering}
 
--- ---- what the tables hold
-
--- The record of a customer and a source, the route under a number.
-abbrev pub findRecord : ℕ × ℕ → List Record → Option Record
-findRecord k rs = find register.keyOf samePair beforePair k rs
-
-abbrev pub findRoute : ℕ → List Route → Option Route
-findRoute number rs = find ledger.keyOf eqb ltb number rs
-
--- Its list.
-abbrev pub providersOf : Option Record → Option (List ℕ)
-providersOf found = Option·map (λ r. r .providers) found
-
--- A stored route without its verdict and places.
-abbrev pub known : Route → KeptRoute
-known r = record { number = r .number; role = r .role; neighbour = r .neighbour; ground = r .ground; path = r .path }
-
--- ---- the draft's word
-
--- Roles 3 and 6 go by section 6.2, the others by 6.1.
-abbrev pub draftPath : HopFunction → ℕ → List ℕ → Outcome
-draftPath hop role path = cond (isUpstream role) (draftUpstream hop path) (draftDownstream hop path)
-
--- A ground makes the route Invalid. An attribute with a fault has no word.
-abbrev pub draftWord : HopFunction → ℕ → Content → Option Outcome
-draftWord hop role (faulty f p) = none
-draftWord hop role (grounded g) = some draft.Invalid
-draftWord hop role (merged path) = some (draftPath hop role path)
-
--- The number of the draft's word.
-abbrev pub wordNumber : Outcome → ℕ
-wordNumber draft.Valid = 0
-wordNumber draft.Invalid = 1
-wordNumber draft.Unknown = 2
-
 -- ---- demand 2
 
-pub record Demand2 : Type 0 where
+-- No key twice among n entries.
+abbrev pub Once : {K : Type 0} → (ℕ → K) → ℕ → Type 0
+Once keyAt n = (x y : ℕ) → x < n → y < n → keyAt x ≡ keyAt y → x ≡ y
+
+pub record Demand2 (t : Tables) : Type 0 where
   -- The register has, for each source and customer, the last list that was accepted and neither withdrawn nor cleared since.
   pub lists-held : (l : List Call) (i source customer : ℕ)
-      → providersOf (findRecord (customer, source) (recordsOf (tables l i .register))) ≡ filedList l i source customer
+      → providersOf (findRecord (customer, source) (recordsOf (tables t l i .register))) ≡ filedList t l i source customer
   -- The ledger has the routes that were kept and not dropped since.
-  pub routes-held : (l : List Call) (i number : ℕ) → Option·map known (findRoute number (routesOf (tables l i .ledger))) ≡ keptRouteAt l i number
+  pub routes-held : (l : List Call) (i number : ℕ) → Option·map known (findRoute number (routesOf (tables t l i .ledger))) ≡ keptRouteAt t l i number
   -- Each with the verdict and places that it was last judged by.
-  pub verdicts-held : (l : List Call) (i number : ℕ) → findRoute number (routesOf (tables l i .ledger)) ≡ storedAt l i number
+  pub verdicts-held : (l : List Call) (i number : ℕ) → findRoute number (routesOf (tables t l i .ledger)) ≡ storedAt t l i number
   -- Both tables keep the word rules: rows 1 to 3 are never given.
-  pub register-formed : (l : List Call) (i : ℕ) → (length (tables l i .register) ≡ registerWords) × (registerOk (tables l i .register) ≡ true)
-  pub ledger-formed : (l : List Call) (i : ℕ) → (length (tables l i .ledger) ≡ ledgerWords) × (ledgerOk (tables l i .ledger) ≡ true)
+  pub register-formed : (l : List Call) (i : ℕ) → (length (tables t l i .register) ≡ registerWords) × (registerOk (tables t l i .register) ≡ true)
+  pub ledger-formed : (l : List Call) (i : ℕ) → (length (tables t l i .ledger) ≡ ledgerWords) × (ledgerOk (tables t l i .ledger) ≡ true)
+  -- At most one list for a customer and a source, and one route for a number.
+  pub one-list : (l : List Call) (i : ℕ)
+      → Once (λ x. register.keyOf (recordAt (recordsOf (tables t l i .register)) x)) (length (recordsOf (tables t l i .register)))
+  pub one-route : (l : List Call) (i : ℕ)
+      → Once (λ x. ledger.keyOf (routeAt (routesOf (tables t l i .ledger)) x)) (length (routesOf (tables t l i .ledger)))
   -- They hold nothing else: what is filed makes up the register's words, and what is stored the ledger's, whatever the calls were.
-  pub register-exact : (l m : List Call) (i j : ℕ) → ((source customer : ℕ) → filedList l i source customer ≡ filedList m j source customer)
-      → tables l i .register ≡ tables m j .register
-  pub ledger-exact : (l m : List Call) (i j : ℕ) → ((number : ℕ) → storedAt l i number ≡ storedAt m j number) → tables l i .ledger ≡ tables m j .ledger
+  pub register-exact : (l m : List Call) (i j : ℕ) → ((source customer : ℕ) → filedList t l i source customer ≡ filedList t m j source customer)
+      → tables t l i .register ≡ tables t m j .register
+  pub ledger-exact : (l m : List Call) (i j : ℕ) → ((number : ℕ) → storedAt t l i number ≡ storedAt t m j number) → tables t l i .ledger ≡ tables t m j .ledger
   -- Every verdict that is given, by Judge at any time or by a keeping, with its ground or places, is the rules' for the union of those lists.
   pub judge-answers : (l : List Call) (i role neighbour : ℕ) (attribute : List ℕ)
-      → judgeAnswer (tables l i .register) role neighbour attribute ≡ judgedRoute (hopsAt l i) role neighbour attribute
-  pub keep-answers : (l : List Call) (i number role neighbour : ℕ) (attribute : List ℕ) (a : Answer)
-      → callAt l i ≡ keep number role neighbour attribute → said l i ≡ kept (Answered a)
-      → judgedRoute (hopsAt l i) role neighbour attribute ≡ Answered a
-  -- Its word is the draft's: Valid exactly where the draft says Valid, and so for Invalid and Unknown.
+      → judgeAnswer (tables t l i .register) role neighbour attribute ≡ judgedRoute (hopsAt t l i) role neighbour attribute
+  pub keep-answers : (l : List Call) (i : ℕ) (k : Keeping) (a : Answer) → callAt l i ≡ keep k → said t l i ≡ kept (Answered a)
+      → judgedRoute (hopsAt t l i) (k .role) (k .neighbour) (k .attribute) ≡ Answered a
+  -- It is the draft's own, from the attribute's segments on: word, ground or places, and gap.
   pub draft-answers : (l : List Call) (i role neighbour : ℕ) (attribute : List ℕ) (a : Answer)
-      → judgedRoute (hopsAt l i) role neighbour attribute ≡ Answered a
-      → draftWord (hopsAt l i) role (contentOf role neighbour attribute) ≡ some (outcomeOf (verdictOf a))
+      → judgedRoute (hopsAt t l i) role neighbour attribute ≡ Answered a
+      → draftRoute (hopsAt t l i) role neighbour (segments 4 attribute) ≡ a
   -- A re-judging is never refused, and answers how many routes differ between the ledger before and after it.
   pub rejudge-counts : (l : List Call) (i : ℕ) → callAt l i ≡ rejudge
-      → said l i ≡ rejudged (Changed (countDiffering (routesOf (tables l i .ledger)) (routesOf (tables l (suc i) .ledger))))
+      → said t l i ≡ rejudged (Changed (countDiffering (routesOf (tables t l i .ledger)) (routesOf (tables t l (suc i) .ledger))))
 
 -- ---- demand 3
 
 -- No call of the list is refused for room.
-abbrev pub Roomy : List Call → Type 0
-Roomy l = (i : ℕ) → i < length l → forRoom (shown (said l i)) ≡ false
+abbrev pub Roomy : Tables → List Call → Type 0
+Roomy t l = (i : ℕ) → i < length l → forRoom (shown (said t l i)) ≡ false
 
--- The verdict and places of a stored route: the rules' for its role and path over these hops, and the draft's word; under a ground Invalid, 0, 0.
+-- The verdict and places of a stored route: the draft's for its role and path over these hops, which are the rules'; under a ground Invalid, 0, 0.
 pub record Drafted (hop : HopFunction) (r : Route) : Type 0 where
-  pub verdict : r .ground ≡ 0 → r .verdict ≡ verdictNumber (verdictOf (judged hop (r .path) (r .role)))
-  pub a : r .ground ≡ 0 → r .a ≡ placeA (verdictOf (judged hop (r .path) (r .role)))
-  pub b : r .ground ≡ 0 → r .b ≡ placeB (verdictOf (judged hop (r .path) (r .role)))
-  pub word : r .ground ≡ 0 → r .verdict ≡ wordNumber (draftPath hop (r .role) (r .path))
+  pub verdict : r .ground ≡ 0 → r .verdict ≡ verdictNumber (verdictOf (draftJudged hop (r .path) (r .role)))
+  pub a : r .ground ≡ 0 → r .a ≡ placeA (verdictOf (draftJudged hop (r .path) (r .role)))
+  pub b : r .ground ≡ 0 → r .b ≡ placeB (verdictOf (draftJudged hop (r .path) (r .role)))
+  pub rules : r .ground ≡ 0 → judged hop (r .path) (r .role) ≡ draftJudged hop (r .path) (r .role)
   pub ground : (r .ground ≡ 0 → ⊥) → (r .verdict ≡ 1) × (r .a ≡ 0) × (r .b ≡ 0)
 
-pub record Demand3 : Type 0 where
+pub record Demand3 (t : Tables) : Type 0 where
   -- With room or without: every call is refused exactly when the model refuses it, by the same row and place, and register calls answer as it does.
-  pub as-model : (l : List Call) (i : ℕ) → shown (said l i) ≡ replyAt l i
+  pub as-model : (l : List Call) (i : ℕ) → shown (said t l i) ≡ replyAt t l i
   -- The model's lists are those that demand 2 speaks of.
   pub lists-filed : (l : List Call) (i source customer : ℕ)
-      → providersOf (findRecord (customer, source) (after l i .lists)) ≡ filedList l i source customer
+      → providersOf (findRecord (customer, source) (after t l i .lists)) ≡ filedList t l i source customer
+  -- Its routes are those that demand 2 speaks of.
+  pub routes-kept : (l : List Call) (i number : ℕ) → findKept number (after t l i .routes) ≡ keptRouteAt t l i number
+  -- At every step the register is the model's lists written out.
+  pub register-written : (l : List Call) (i : ℕ) → tables t l i .register ≡ register.registerOf (after t l i .lists)
   -- After every list and one last re-judging both tables are the model written out.
-  pub written-out : (l : List Call) → last l ≡ written (final l)
+  pub written-out : (l : List Call) → last t l ≡ written (final t l)
   -- Every verdict in them, with its places, is the draft's over the lists that demand 2 speaks of.
-  pub verdicts : (l : List Call) (number : ℕ) (r : Route) → findRoute number (routesOf (last l .ledger)) ≡ some r → Drafted (hopsAt l (length l)) r
+  pub verdicts : (l : List Call) (number : ℕ) (r : Route) → findRoute number (routesOf (last t l .ledger)) ≡ some r → Drafted (hopsAt t l (length l)) r
   -- Two lists, one a reordering of the other, neither refused for room: each register call gets the same answer in both;
-  pub same-answers : (l m : List Call) (r : Reordering l m) → Roomy l → Roomy m → (i : ℕ) → IsRegisterStep (callAt l i) → said l i ≡ said m (r .to i)
+  pub same-answers : (l m : List Call) (r : Reordering l m) → Roomy t l → Roomy t m → (i : ℕ) → IsRegisterStep (scopeAt l i) → said t l i ≡ said t m (r .to i)
   -- each keeping and dropping is done in both, or refused in both by the same row and place;
-  pub same-ends : (l m : List Call) (r : Reordering l m) → Roomy l → Roomy m → (i : ℕ) → StepAt l i → shown (said l i) ≡ shown (said m (r .to i))
+  pub same-ends : (l m : List Call) (r : Reordering l m) → Roomy t l → Roomy t m → (i : ℕ) → StepAt l i → shown (said t l i) ≡ shown (said t m (r .to i))
   -- and after one last re-judging in each, both tables are equal word for word.
-  pub same-tables : (l m : List Call) → Reordering l m → Roomy l → Roomy m → last l ≡ last m
+  pub same-tables : (l m : List Call) → Reordering l m → Roomy t l → Roomy t m → last t l ≡ last t m
+
+-- ---- what is proved
+
+-- Both demands, from every well-formed start. (Empty tables are one: `blank-formed` of Sanity.)
+abbrev pub Demands : Type 0
+Demands = (t : Tables) → Formed t → Demand2 t × Demand3 t

@@ -1,4 +1,4 @@
--- What demand 2 calls filed and kept, read off the list of calls and the answers to them.
+-- What demand 2 calls filed and kept: read off the list of calls and the answers to them, and before the first call off the tables.
 use Prim.Native.Nat.{ℕ, zero, suc}
 use mathlib.Core.Bool.{Bool, true, false, cond, _&&_}
 use mathlib.Core.List.{List}
@@ -10,11 +10,12 @@ use Rattle.rules.specs.Hops.{HopFunction}
 use Rattle.rules.specs.Records.{isIn}
 use Rattle.rules.specs.Judging.{judgedRoute}
 use Rattle.rules.specs.Draft as draft
-use Rattle.ledger.specs.Routes.{Route}
+use Rattle.register.specs.Register.{recordsOf}
+use Rattle.ledger.specs.Routes.{Route, routesOf}
 use Rattle.ledger.specs.Calls.{routeFor}
 use Rattle.rejudge.specs.Rejudging.{rejudgedRoute}
 use Rattle.filter.specs.Calls.{verdictIn, pathIn}
-use Rattle.history.specs.Calls.{Call, file, withdraw, clear, keep, drop, rejudge, callAt, said, KeptRoute, routeRead}
+use Rattle.history.specs.Calls.{Call, file, withdraw, clear, keep, drop, rejudge, Tables, callAt, said, KeptRoute, routeRead, findRecord, findRoute, providersOf, known}
 use Rattle.history.specs.Replies.{shown, accepted}
 
 -- An accepted call decides which list the source has for the customer if it is a filing or withdrawal of the pair or a clearing of the source.
@@ -23,30 +24,31 @@ abbrev pub filedBy : ℕ → ℕ → Call → Option (List ℕ) → Option (List
 filedBy source customer (file s c list) earlier = cond (eqb c customer && eqb s source) (some list) earlier
 filedBy source customer (withdraw s c) earlier = cond (eqb c customer && eqb s source) none earlier
 filedBy source customer (clear s) earlier = cond (eqb s source) none earlier
-filedBy source customer (keep number role neighbour attribute) earlier = earlier
+filedBy source customer (keep k) earlier = earlier
 filedBy source customer (drop number) earlier = earlier
 filedBy source customer rejudge earlier = earlier
 
--- The source's last accepted list for the customer among the first i calls, unless since withdrawn or cleared. The latest call is looked at first.
-unfoldable pub filedList : List Call → ℕ → ℕ → ℕ → Option (List ℕ)
-filedList l zero source customer = none
-filedList l (suc i) source customer =
-    cond (accepted (shown (said l i))) (filedBy source customer (callAt l i) (filedList l i source customer)) (filedList l i source customer)
+-- The source's last accepted list for the customer among the first i calls, or else the one that t holds, unless since withdrawn or cleared. The
+-- latest call is looked at first.
+unfoldable pub filedList : Tables → List Call → ℕ → ℕ → ℕ → Option (List ℕ)
+filedList t l zero source customer = providersOf (findRecord (customer, source) (recordsOf (t .register)))
+filedList t l (suc i) source customer =
+    cond (accepted (shown (said t l i))) (filedBy source customer (callAt l i) (filedList t l i source customer)) (filedList t l i source customer)
 
 -- The same for a route number: an accepted keeping or dropping of it decides.
 abbrev pub keptBy : ℕ → Call → Option KeptRoute → Option KeptRoute
 keptBy number (file s c list) earlier = earlier
 keptBy number (withdraw s c) earlier = earlier
 keptBy number (clear s) earlier = earlier
-keptBy number (keep n role neighbour attribute) earlier = cond (eqb n number) (some (routeRead n role neighbour attribute)) earlier
+keptBy number (keep k) earlier = cond (eqb (k .number) number) (some (routeRead k)) earlier
 keptBy number (drop n) earlier = cond (eqb n number) none earlier
 keptBy number rejudge earlier = earlier
 
--- The route kept under the number by the first i calls, and not since dropped.
-unfoldable pub keptRouteAt : List Call → ℕ → ℕ → Option KeptRoute
-keptRouteAt l zero number = none
-keptRouteAt l (suc i) number =
-    cond (accepted (shown (said l i))) (keptBy number (callAt l i) (keptRouteAt l i number)) (keptRouteAt l i number)
+-- The route kept under the number by the first i calls or held by t, and not since dropped.
+unfoldable pub keptRouteAt : Tables → List Call → ℕ → ℕ → Option KeptRoute
+keptRouteAt t l zero number = Option·map known (findRoute number (routesOf (t .ledger)))
+keptRouteAt t l (suc i) number =
+    cond (accepted (shown (said t l i))) (keptBy number (callAt l i) (keptRouteAt t l i number)) (keptRouteAt t l i number)
 
 -- ---- the union of the filed lists
 
@@ -67,8 +69,8 @@ hopFiled lists x y =
     NoAttestation
 
 -- The hops over the lists that are filed after the first i calls.
-abbrev pub hopsAt : List Call → ℕ → HopFunction
-hopsAt l i = hopFiled (filedList l i)
+abbrev pub hopsAt : Tables → List Call → ℕ → HopFunction
+hopsAt t l i = hopFiled (filedList t l i)
 
 -- ---- the verdicts in the ledger
 
@@ -77,15 +79,17 @@ abbrev pub storedBy : HopFunction → ℕ → Call → Option Route → Option R
 storedBy hop number (file s c list) earlier = earlier
 storedBy hop number (withdraw s c) earlier = earlier
 storedBy hop number (clear s) earlier = earlier
-storedBy hop number (keep n role neighbour attribute) earlier =
-    cond (eqb n number)
-    (some (routeFor n role neighbour (verdictIn (judgedRoute hop role neighbour attribute)) (pathIn (contentOf role neighbour attribute))))
+storedBy hop number (keep k) earlier =
+    cond (eqb (k .number) number)
+    (some (routeFor (k .number) (k .role) (k .neighbour) (verdictIn (judgedRoute hop (k .role) (k .neighbour) (k .attribute)))
+    (pathIn (contentOf (k .role) (k .neighbour) (k .attribute)))))
     earlier
 storedBy hop number (drop n) earlier = cond (eqb n number) none earlier
 storedBy hop number rejudge earlier = Option·map (rejudgedRoute hop) earlier
 
--- The route stored under the number after the first i calls, with its verdict and places: over the lists that were filed when it was last judged.
-unfoldable pub storedAt : List Call → ℕ → ℕ → Option Route
-storedAt l zero number = none
-storedAt l (suc i) number =
-    cond (accepted (shown (said l i))) (storedBy (hopsAt l i) number (callAt l i) (storedAt l i number)) (storedAt l i number)
+-- The route stored under the number after the first i calls, with its verdict and places: over the lists that were filed when it was last judged, or
+-- as t holds it if that was before the first call.
+unfoldable pub storedAt : Tables → List Call → ℕ → ℕ → Option Route
+storedAt t l zero number = findRoute number (routesOf (t .ledger))
+storedAt t l (suc i) number =
+    cond (accepted (shown (said t l i))) (storedBy (hopsAt t l i) number (callAt l i) (storedAt t l i number)) (storedAt t l i number)

@@ -5,3 +5,4 @@ pub mod Filings
 pub mod Reorderings
 pub mod Demands
 pub mod Sanity
+pub mod Refusals

@@ -10,16 +10,17 @@ use Rattle.types.specs.declared.Refusal.{Refusal}
 use Rattle.types.specs.declared.Refusal.the-variants.{ProviderList, NoRecord, RegisterFull, RouteTaken, NoRoute, RoutesFull}
 use Rattle.types.specs.Numbers.{verdictNumber, placeA, placeB, verdictOf}
 use Rattle.types.specs.Rows.{rowIf, firstGiven}
-use Rattle.keyed.specs.Keyed.{holds, put, without}
+use Rattle.keyed.specs.Keyed.{find, holds, put, without}
 use Rattle.rules.specs.Hops.{HopFunction}
 use Rattle.rules.specs.Records.{Record, hopOf}
 use Rattle.rules.specs.Verdicts.{judged}
 use Rattle.rules.specs.Judging.{judgeRows}
+use Rattle.register.specs.Register.{recordsOf}
 use Rattle.register.specs.Register as register
 use Rattle.register.specs.Calls.{sourceRow, customerRow, recordFor, holdsRecord, putRecord, eraseRecord, clearRecords, countRecords}
-use Rattle.ledger.specs.Routes.{Route, mostRoutes, mostPathWords}
+use Rattle.ledger.specs.Routes.{Route, routesOf, mostRoutes, mostPathWords}
 use Rattle.ledger.specs.Routes as ledger
-use Rattle.history.specs.Calls.{Call, file, withdraw, clear, keep, drop, rejudge, Tables, callAt, KeptRoute, routeRead}
+use Rattle.history.specs.Calls.{Call, file, withdraw, clear, keep, drop, rejudge, Tables, callAt, KeptRoute, routeRead, known}
 use Rattle.history.specs.Replies.{ModelReply, new, replaced, done, gone, refused}
 
 -- ---- what the model holds
@@ -29,13 +30,16 @@ pub record Model : Type 0 where
   pub lists : List Record
   pub routes : List KeptRoute
 
--- It begins empty.
-abbrev pub empty : Model
-empty = record { lists = []; routes = [] }
+-- It begins with the lists and routes that the tables hold.
+abbrev pub heldBy : Tables → Model
+heldBy t = record { lists = recordsOf (t .register); routes = map known (routesOf (t .ledger)) }
 
 -- Routes looked for, put in, taken out.
 abbrev pub numberOf : KeptRoute → ℕ
 numberOf r = r .number
+
+abbrev pub findKept : ℕ → List KeptRoute → Option KeptRoute
+findKept number rs = find numberOf eqb ltb number rs
 
 abbrev pub holdsKept : ℕ → List KeptRoute → Bool
 holdsKept number rs = holds numberOf eqb ltb number rs
@@ -53,7 +57,7 @@ abbrev pub argumentRows : Call → List (Option Refusal)
 argumentRows (file source customer list) = sourceRow source ∷ customerRow customer ∷ rowIf (not (register.listOk list)) ProviderList ∷ []
 argumentRows (withdraw source customer) = sourceRow source ∷ customerRow customer ∷ []
 argumentRows (clear source) = sourceRow source ∷ []
-argumentRows (keep number role neighbour attribute) = judgeRows role neighbour attribute
+argumentRows (keep k) = judgeRows (k .role) (k .neighbour) (k .attribute)
 argumentRows (drop number) = []
 argumentRows rejudge = []
 
@@ -62,7 +66,7 @@ abbrev pub heldRows : Model → Call → List (Option Refusal)
 heldRows m (file source customer list) = []
 heldRows m (withdraw source customer) = rowIf (not (holdsRecord customer source (m .lists))) NoRecord ∷ []
 heldRows m (clear source) = []
-heldRows m (keep number role neighbour attribute) = rowIf (holdsKept number (m .routes)) RouteTaken ∷ []
+heldRows m (keep k) = rowIf (holdsKept (k .number) (m .routes)) RouteTaken ∷ []
 heldRows m (drop number) = rowIf (not (holdsKept number (m .routes))) NoRoute ∷ []
 heldRows m rejudge = []
 
@@ -80,8 +84,7 @@ abbrev pub roomRows : Model → Call → List (Option Refusal)
 roomRows m (file source customer list) = rowIf (not (register.roomFor (putRecord (recordFor source customer list) (m .lists)))) RegisterFull ∷ []
 roomRows m (withdraw source customer) = []
 roomRows m (clear source) = []
-roomRows m (keep number role neighbour attribute) =
-    rowIf (not (roomForRoutes (putKept (routeRead number role neighbour attribute) (m .routes)))) RoutesFull ∷ []
+roomRows m (keep k) = rowIf (not (roomForRoutes (putKept (routeRead k) (m .routes)))) RoutesFull ∷ []
 roomRows m (drop number) = []
 roomRows m rejudge = []
 
@@ -96,7 +99,7 @@ abbrev pub answer : Model → Call → ModelReply
 answer m (file source customer list) = cond (holdsRecord customer source (m .lists)) replaced new
 answer m (withdraw source customer) = done
 answer m (clear source) = gone (countRecords source (m .lists))
-answer m (keep number role neighbour attribute) = done
+answer m (keep k) = done
 answer m (drop number) = done
 answer m rejudge = done
 
@@ -104,8 +107,7 @@ abbrev pub change : Model → Call → Model
 change m (file source customer list) = record { lists = putRecord (recordFor source customer list) (m .lists); routes = m .routes }
 change m (withdraw source customer) = record { lists = eraseRecord customer source (m .lists); routes = m .routes }
 change m (clear source) = record { lists = clearRecords source (m .lists); routes = m .routes }
-change m (keep number role neighbour attribute) =
-    record { lists = m .lists; routes = putKept (routeRead number role neighbour attribute) (m .routes) }
+change m (keep k) = record { lists = m .lists; routes = putKept (routeRead k) (m .routes) }
 change m (drop number) = record { lists = m .lists; routes = eraseKept number (m .routes) }
 change m rejudge = m
 
@@ -125,16 +127,16 @@ replyTo m c = replyUnless (refusal m c) (answer m c)
 abbrev pub next : Model → Call → Model
 next m c = changeUnless (refusal m c) m (change m c)
 
--- The model after the first i calls, its reply to the call at place i, and the model after the whole list.
-unfoldable pub after : List Call → ℕ → Model
-after l zero = empty
-after l (suc i) = next (after l i) (callAt l i)
+-- The model after the first i calls, its reply to the call at index i, and the model after the whole list.
+unfoldable pub after : Tables → List Call → ℕ → Model
+after t l zero = heldBy t
+after t l (suc i) = next (after t l i) (callAt l i)
 
-abbrev pub replyAt : List Call → ℕ → ModelReply
-replyAt l i = replyTo (after l i) (callAt l i)
+abbrev pub replyAt : Tables → List Call → ℕ → ModelReply
+replyAt t l i = replyTo (after t l i) (callAt l i)
 
-abbrev pub final : List Call → Model
-final l = after l (length l)
+abbrev pub final : Tables → List Call → Model
+final t l = after t l (length l)
 
 -- ---- the model written out
 

@@ -7,12 +7,12 @@ use mathlib.Core.Option.{Option}
 use lib.Dec.{ltb, eqb}
 use lib.ListN.{length, set}
 use Rattle.types.specs.declared.Refusal.{Refusal}
-use Rattle.types.specs.declared.Refusal.the-variants.{TableLength, RoutesMalformed, RouteTaken, NoRoute, RoutesFull}
+use Rattle.types.specs.declared.Refusal.the-variants.{RoutesMalformed, RouteTaken, NoRoute, RoutesFull}
 use Rattle.types.specs.declared.Verdict.{Verdict}
 use Rattle.types.specs.declared.Removal.{Removal}
 use Rattle.types.specs.declared.Removal.the-variants as removal
 use Rattle.types.specs.Numbers.{verdictNumber, verdictGround, placeA, placeB}
-use Rattle.types.specs.Rows.{rowIf, firstGiven, Effect, unlessRefused}
+use Rattle.types.specs.Rows.{rowIf, lengthRow, firstGiven, Effect, unlessRefused}
 use Rattle.keyed.specs.Keyed.{holds, put, without}
 use Rattle.ledger.specs.declared.Kept.{Kept}
 use Rattle.ledger.specs.declared.Kept.the-variants as kept
@@ -63,7 +63,7 @@ ledgerRow ws = rowIf (not (ledgerOk ws)) RoutesMalformed
 
 abbrev pub dropRows : List ℕ → ℕ → List (Option Refusal)
 dropRows ws number =
-    rowIf (not (eqb (length ws) ledgerWords)) TableLength
+    lengthRow ledgerWords ws
     ∷ ledgerRow ws
     ∷ rowIf (not (holdsRoute number (routesOf ws))) NoRoute
     ∷ []

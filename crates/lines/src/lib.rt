@@ -69,7 +69,8 @@ fn start(line: &[u8], k: usize) -> usize
 
 // Word k; nothing, at the line's end, where there is no such word.
 fn word(line: &[u8], k: usize) -> Span
-    ensures { λ r. ⌜ (take (r .to - r .from) (drop (r .from) (now (line .entry))) ≡ wordAt (now (line .entry)) k) × (r .from ≤ r .to) × (r .to ≤ length (now (line .entry))) ⌝ }
+    ensures { λ r. ⌜ (take (r .to - r .from) (drop (r .from) (now (line .entry))) ≡ wordAt (now (line .entry)) k) × (r .from ≤ r .to)
+        × (r .to ≤ length (now (line .entry))) ⌝ }
 {
     let from = start(line, k);
     if line.len() < from {
@@ -104,7 +105,8 @@ pub fn number(line: &[u8], k: usize) -> Number
 
 pub fn bytes(line: &[u8], k: usize, into: &mut [u8]) -> Bytes
     requires { ⌜ length (now line) ≤ 2 * length (now into) ⌝ }
-    ensures { λ r. ⌜ (r ≡ bytesOf (wordAt (now (line .entry)) k)) × (now (into .exit) ≡ bytesStored (now (into .entry)) (wordAt (now (line .entry)) k)) × (readCount r ≤ length (now (into .entry))) ⌝ }
+    ensures { λ r. ⌜ (r ≡ bytesOf (wordAt (now (line .entry)) k))
+        × (now (into .exit) ≡ bytesStored (now (into .entry)) (wordAt (now (line .entry)) k)) × (readCount r ≤ length (now (into .entry))) ⌝ }
 {
     let at = word(line, k);
     let from = at.from;
@@ -115,7 +117,9 @@ pub fn bytes(line: &[u8], k: usize, into: &mut [u8]) -> Bytes
 // The words from word k on. A number is a digit and a space at least, so the list has room for all of them.
 pub fn numbers(line: &[u8], k: usize, into: &mut [u32]) -> List
     requires { ⌜ length (now line) ≤ 2 * length (now into) ⌝ }
-    ensures { λ r. ⌜ (r ≡ listRead (drop k (wordsOf (now (line .entry))))) × (now (into .exit) ≡ sets (now (into .entry)) 0 (numbersIn (drop k (wordsOf (now (line .entry)))))) × (listCount r ≤ length (now (into .entry))) ⌝ }
+    ensures { λ r. ⌜ (r ≡ listRead (drop k (wordsOf (now (line .entry)))))
+        × (now (into .exit) ≡ sets (now (into .entry)) 0 (numbersIn (drop k (wordsOf (now (line .entry))))))
+        × (listCount r ≤ length (now (into .entry))) ⌝ }
 {
     let mut i = start(line, k);
     let mut n = 0;

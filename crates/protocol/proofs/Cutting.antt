@@ -10,9 +10,10 @@ use borrow.Author.Tests.{lt-ltb, le-ltb, ltb-true, ltb-false}
 use lib.Dec.{eqb, ltb, eqb·suc-zero}
 use lib.ListN.{length, drop, length-append, length-drop}
 use lib.Seq.{take-all, drop-length}
+use Rattle.commands.specs.Commands.{mostLine}
 use Rattle.lines.specs.Words.{before, split, ontoFirst}
 use Rattle.lines.proofs.Marks.{split-first, before-taken}
-use Rattle.protocol.specs.Feeding.{answerLine, mostBytes, joined, commandIn, Session, endsLine, fed, fedText, fedBytes, lastText}
+use Rattle.protocol.specs.Feeding.{answerLine, joined, commandIn, Session, endsLine, fed, fedText, fedBytes, lastText}
 use Rattle.protocol.specs.Sessions.{grownBy, answered, answersTo, start, fedAll, fedAllText, served, joinedPieces, AnyCut}
 use Rattle.protocol.proofs.Feedings.{some-used}
 use Rattle.protocol.proofs.Joining.{joined-none, joined-some, joined-too-long}
@@ -58,16 +59,16 @@ joined-append-some : (line p x : List ℕ) → joined (some (line ++ p)) x ≡ j
 unfolding joined
 joined-append-some line p x =
     let e : length (line ++ p) + length x ≡ length line + length (p ++ x) = omega (arith, length-append line p, length-append p x) in
-    λ i. cond (ltb mostBytes (e i)) none (some (append-assoc line p x i))
+    λ i. cond (ltb mostLine (e i)) none (some (append-assoc line p x i))
 
 joined-append : (l : Option (List ℕ)) (p x : List ℕ) → joined (joined l p) x ≡ joined l (p ++ x)
 joined-append none p x = ap (λ l. joined l x) (joined-too-long p) ∙ joined-too-long x ∙ sym (joined-too-long (p ++ x))
-joined-append (some line) p x = go (ltb mostBytes (length line + length p)) refl
+joined-append (some line) p x = go (ltb mostLine (length line + length p)) refl
   where
-    go : (b : Bool) → ltb mostBytes (length line + length p) ≡ b → joined (joined (some line) p) x ≡ joined (some line) (p ++ x)
+    go : (b : Bool) → ltb mostLine (length line + length p) ≡ b → joined (joined (some line) p) x ≡ joined (some line) (p ++ x)
     go true e =
-        let h : mostBytes < length line + length p = ltb-true _ _ e in
-        let k : mostBytes < length line + length (p ++ x) = omega (arith, length-append p x) in
+        let h : mostLine < length line + length p = ltb-true _ _ e in
+        let k : mostLine < length line + length (p ++ x) = omega (arith, length-append p x) in
         ap (λ l. joined l x) (joined-none line p h) ∙ joined-too-long x ∙ sym (joined-none line (p ++ x) k)
     go false e = ap (λ l. joined l x) (joined-some line p (ltb-false _ _ e)) ∙ joined-append-some line p x
 
@@ -75,17 +76,17 @@ joined-append (some line) p x = go (ltb mostBytes (length line + length p)) refl
 
 abbrev Short : Option (List ℕ) → Type 0
 Short none = Unit {0}
-Short (some line) = length line ≤ mostBytes
+Short (some line) = length line ≤ mostLine
 
 joined-short : (l : Option (List ℕ)) (part : List ℕ) → Short (joined l part)
 unfolding joined
 joined-short none part = tt
-joined-short (some line) part = go (ltb mostBytes (length line + length part)) refl
+joined-short (some line) part = go (ltb mostLine (length line + length part)) refl
   where
-    go : (b : Bool) → ltb mostBytes (length line + length part) ≡ b → Short (cond b none (some (line ++ part)))
+    go : (b : Bool) → ltb mostLine (length line + length part) ≡ b → Short (cond b none (some (line ++ part)))
     go true e = tt
     go false e =
-        let h : length line + length part ≤ mostBytes = ltb-false _ _ e in
+        let h : length line + length part ≤ mostLine = ltb-false _ _ e in
         omega (arith, length-append line part)
 
 fed-short : (s : Session) (p : List ℕ) → Short (fed s p .line)

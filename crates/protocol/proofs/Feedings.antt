@@ -14,10 +14,11 @@ use Rattle.lines.specs.Words.{before}
 use Rattle.lines.proofs.Marks.{before-taken}
 use Rattle.answers.proofs.Writing.{writes-on}
 use Rattle.history.specs.Calls.{Tables}
-use Rattle.protocol.specs.declared.Reply.{Reply}
-use Rattle.protocol.specs.Commands.{Command}
-use Rattle.protocol.specs.Replies.{Outcome, after, performed, replyText, mostReply}
-use Rattle.protocol.specs.Feeding.{answerLine, mostBytes, joined, commandIn, Session, grown, fed, fedText, fedBytes, isBlank, finished, lastText, lineIn, mostText}
+use Rattle.commands.specs.declared.Reply.{Reply}
+use Rattle.commands.specs.Commands.{Command, mostLine}
+use Rattle.commands.specs.Performing.{Result, after, performed}
+use Rattle.replies.specs.Texts.{replyText, mostReply}
+use Rattle.protocol.specs.Feeding.{answerLine, joined, commandIn, Session, grown, fed, fedText, fedBytes, isBlank, finished, lastText, lineIn, mostText}
 use Rattle.protocol.proofs.Joining.{line-is, line-too-long}
 
 -- A reply and a newline.
@@ -29,7 +30,7 @@ pub answers :
     → (r₂ ≡ at + length (answerLine t c)) × (o₂ ≡ sets o at (answerLine t c)) × (r₂ ≤ at + mostText)
 answers t c o at t' reply {r₂ = r₂} p q s =
     let w = writes-on o at (replyText t' reply) (ascii "\n") (q .0) (q .1) (s .0) (s .1) in
-    let text : replyText t' reply ++ (ascii "\n") ≡ answerLine t c = ap (λ (x : Outcome). replyText (x .tables) (x .reply) ++ (ascii "\n")) p in
+    let text : replyText t' reply ++ (ascii "\n") ≡ answerLine t c = ap (λ (x : Result). replyText (x .tables) (x .reply) ++ (ascii "\n")) p in
     let end : r₂ ≤ at + mostText = omega (arith, q .2, s .0) in
     (w .0 ∙ ap (λ x. at + length x) text, w .1 ∙ ap (sets o at) text, end)
 
@@ -90,13 +91,13 @@ no-line n line e = line-is n line (omega arith) ∙ ap (λ k. some (take k line)
 pub blank-line : (n : ℕ) (line : List ℕ) → n ≡ 0 → isBlank (lineIn n line) ≡ true
 blank-line n line e = ap isBlank (no-line n line e)
 
-pub not-blank : (n : ℕ) (line : List ℕ) → length line ≡ mostBytes → (n ≡ 0 → ⊥) → isBlank (lineIn n line) ≡ false
-not-blank n line l h = go (ltb mostBytes n) refl
+pub not-blank : (n : ℕ) (line : List ℕ) → length line ≡ mostLine → (n ≡ 0 → ⊥) → isBlank (lineIn n line) ≡ false
+not-blank n line l h = go (ltb mostLine n) refl
   where
-    go : (b : Bool) → ltb mostBytes n ≡ b → isBlank (lineIn n line) ≡ false
-    go true e = ap isBlank (line-too-long n line (ltb-true mostBytes n e))
+    go : (b : Bool) → ltb mostLine n ≡ b → isBlank (lineIn n line) ≡ false
+    go true e = ap isBlank (line-too-long n line (ltb-true mostLine n e))
     go false e =
-        let k : n ≤ mostBytes = ltb-false mostBytes n e in
+        let k : n ≤ mostLine = ltb-false mostLine n e in
         let z : length (take n line) ≡ n = length-take-le n line (omega arith) in
         ap isBlank (line-is n line k) ∙ ne-eqb (length (take n line)) 0 (λ y. h (sym z ∙ y))
 

@@ -1,7 +1,3 @@
-pub mod Trimming
-pub mod Parsing
-pub mod Choosing
-pub mod Spacing
 pub mod Holding
 pub mod Joining
 pub mod Performing

@@ -13,8 +13,11 @@ use Rattle.lines.specs.Words.{before, wordsOf}
 use Rattle.history.specs.Calls.{Tables}
 use Rattle.protocol.specs.declared.Lent.{Lent}
 use Rattle.protocol.specs.declared.State.{State}
-use Rattle.protocol.specs.Commands.{Command, bad, commandOf, mostWords}
-use Rattle.protocol.specs.Replies.{both, replyTo, after, replyText, mostReply}
+use Rattle.protocol.specs.declared.Fed.{Fed}
+use Rattle.protocol.specs.declared.Performed.{Performed}
+use Rattle.commands.specs.Commands.{Command, bad, commandOf, mostLent, mostLine}
+use Rattle.commands.specs.Performing.{both, replyTo, after, result, performed}
+use Rattle.replies.specs.Texts.{replyText, mostReply}
 
 -- ---- one line
 
@@ -22,14 +25,10 @@ use Rattle.protocol.specs.Replies.{both, replyTo, after, replyText, most
 abbrev pub answerLine : Tables → Command → List ℕ
 answerLine t c = replyText (after t c) (replyTo t c) ++ ascii "\n"
 
--- The most bytes of a line.
-abbrev pub mostBytes : ℕ
-mostBytes = 16384
-
 -- Bytes added to a line; none is a line that is too long.
 unfoldable pub joined : Option (List ℕ) → List ℕ → Option (List ℕ)
 joined none part = none
-joined (some line) part = cond (ltb mostBytes (length line + length part)) none (some (line ++ part))
+joined (some line) part = cond (ltb mostLine (length line + length part)) none (some (line ++ part))
 
 unfoldable pub commandIn : Option (List ℕ) → Command
 commandIn none = bad
@@ -77,9 +76,9 @@ lastText s = cond (isBlank (s .line)) [] (answerLine (s .tables) (commandIn (s .
 
 -- A table is lent with n words: those past them are zero.
 pub record Held (n : ℕ) (table : List ℕ) : Type 0 where
-  pub size : length table ≡ mostWords
-  pub within : n ≤ mostWords
-  pub rest : table ≡ pad mostWords (take n table)
+  pub size : length table ≡ mostLent
+  pub within : n ≤ mostLent
+  pub rest : table ≡ pad mostLent (take n table)
 
 pub record HeldBoth (s : Lent) (reg led : List ℕ) : Type 0 where
   pub register-held : Held (s .register) reg
@@ -90,20 +89,73 @@ lentTables s reg led = both (take (s .register) reg) (take (s .ledger) led)
 
 -- A line of n bytes, and of one more than the most where it is too long.
 unfoldable pub lineIn : ℕ → List ℕ → Option (List ℕ)
-lineIn n buffer = cond (ltb mostBytes n) none (some (take n buffer))
+lineIn n buffer = cond (ltb mostLine n) none (some (take n buffer))
 
 abbrev pub sessionIn : State → List ℕ → List ℕ → List ℕ → Session
 sessionIn s line reg led = record { tables = lentTables (s .lent) reg led; line = lineIn (s .line) line }
 
 -- What adding bytes to a line of n leaves in its buffer.
 unfoldable pub lineStored : ℕ → List ℕ → List ℕ → List ℕ
-lineStored n buffer part = cond (ltb mostBytes (n + length part)) buffer (sets buffer n part)
+lineStored n buffer part = cond (ltb mostLine (n + length part)) buffer (sets buffer n part)
 
 -- The room that an answer takes at most.
 abbrev pub mostText : ℕ
 mostText = mostReply + 1
 
 pub record Ready (s : State) (buffer reg led output : List ℕ) : Type 0 where
-  pub line-size : length buffer ≡ mostBytes
+  pub line-size : length buffer ≡ mostLine
   pub held : HeldBoth (s .lent) reg led
   pub room : s .out + mostText ≤ length output
+
+-- ---- what the functions on these buffers promise
+
+pub record Buffers : Type 0 where
+  pub line : List ℕ
+  pub register : List ℕ
+  pub ledger : List ℕ
+  pub output : List ℕ
+
+abbrev pub buffers : List ℕ → List ℕ → List ℕ → List ℕ → Buffers
+buffers line reg led out = record { line = line; register = reg; ledger = led; output = out }
+
+-- A command carried out: the reply, and the words that the tables are then lent with.
+abbrev pub Carried : Lent → List ℕ → List ℕ → Command → Performed → List ℕ → List ℕ → Type 0
+Carried s reg led c r reg' led' =
+    (result (r .reply) (take (r .lent .register) reg') (take (r .lent .ledger) led') ≡ performed (lentTables s reg led) c)
+    × HeldBoth (r .lent) reg' led'
+
+-- The command that ends a line of n bytes.
+abbrev pub commandEnding : State → List ℕ → Command
+commandEnding s line = commandIn (lineIn (s .line) line)
+
+-- The line is answered behind what the output holds, and the next begins.
+abbrev pub Answered : State → Buffers → State → Buffers → Type 0
+Answered s b r e =
+    (lentTables (r .lent) (e .register) (e .ledger) ≡ after (lentTables (s .lent) (b .register) (b .ledger)) (commandEnding s (b .line)))
+    × (r .line ≡ 0)
+    × (r .out ≡ s .out + length (answerLine (lentTables (s .lent) (b .register) (b .ledger)) (commandEnding s (b .line))))
+    × (e .output ≡ sets (b .output) (s .out) (answerLine (lentTables (s .lent) (b .register) (b .ledger)) (commandEnding s (b .line))))
+    × (r .out ≤ s .out + mostText)
+    × HeldBoth (r .lent) (e .register) (e .ledger)
+
+abbrev pub sessionOf : State → Buffers → Session
+sessionOf s b = sessionIn s (b .line) (b .register) (b .ledger)
+
+-- A piece fed: the session after it, how many of its bytes are used, and the text behind what the output holds.
+abbrev pub Feeds : List ℕ → State → Buffers → Fed → Buffers → Type 0
+Feeds piece s b r e =
+    (sessionOf (r .state) e ≡ fed (sessionOf s b) piece)
+    × (r .used ≡ fedBytes piece)
+    × (e .line ≡ lineStored (s .line) (b .line) (before 10 piece))
+    × (r .state .out ≡ s .out + length (fedText (sessionOf s b) piece))
+    × (e .output ≡ sets (b .output) (s .out) (fedText (sessionOf s b) piece))
+    × (r .state .out ≤ s .out + mostText)
+    × HeldBoth (r .state .lent) (e .register) (e .ledger)
+
+-- The input's end: the session after it, and the text behind what the output holds.
+abbrev pub Finishes : State → Buffers → State → Buffers → Type 0
+Finishes s b r e =
+    (sessionOf r e ≡ finished (sessionOf s b))
+    × (r .out ≡ s .out + length (lastText (sessionOf s b)))
+    × (e .output ≡ sets (b .output) (s .out) (lastText (sessionOf s b)))
+    × (r .out ≤ s .out + mostText)

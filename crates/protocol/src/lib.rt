@@ -1,42 +1,14 @@
 // The console's protocol: a line in, a line out, over tables and buffers that the caller lends.
+use commands::Named;
+use commands::Reply;
 use text::Number;
-use types::Cleared;
-use types::Filed;
-use types::Judged;
-use types::Rejudged;
-use types::Removal;
 ghost use mathlib.Core.Path.{_≡_};
-ghost use Prim.Native.Nat.{_+_, _≤_};
+ghost use Prim.Native.Nat.{_≤_};
 ghost use lib.ListN.{length, take};
-ghost use lib.Seq.{sets};
-ghost use Rattle.lines.specs.Words.{before, wordsOf};
-ghost use Rattle.protocol.specs.Commands.{mostWords, resize, resizeCommand, emptyCommand, commandOf};
-ghost use Rattle.protocol.specs.Replies.{after, outcome, performed};
-ghost use Rattle.protocol.specs.Feeding.{answerLine, mostBytes, mostText, joined, commandIn, fed, fedText, fedBytes, lastText, HeldBoth, Ready, finished, lentTables, lineIn, sessionIn, lineStored};
-
-mod calls;
-mod commands;
-mod replies;
-mod tables;
-
-// The table that a word names.
-pub enum Named {
-    Register,
-    Ledger,
-    Neither,
-}
-
-pub enum Reply {
-    Done,
-    Error,
-    Filed(Filed),
-    Removed(Removal),
-    Cleared(Cleared),
-    Judged(Judged),
-    Rejudged(Rejudged),
-    Shown(Named),
-    Sized(Named),
-}
+ghost use Rattle.table.specs.Table.{pad};
+ghost use Rattle.lines.specs.Words.{wordsOf};
+ghost use Rattle.commands.specs.Commands.{mostLine, mostLent, resize, resizeCommand, emptyCommand, commandOf};
+ghost use Rattle.protocol.specs.Feeding.{joined, commandIn, lineIn, lineStored, HeldBoth, Ready, buffers, Carried, Answered, Feeds, Finishes};
 
 // How many words each table is lent with.
 pub struct Lent {
@@ -63,21 +35,28 @@ pub struct Fed {
     pub used: usize,
 }
 
-// The room that an answer takes at most.
-pub const MOST_TEXT: usize = 180255;
+// The room that an answer takes at most, with its newline.
+pub const MOST_TEXT: usize = replies::MOST_REPLY + 1;
 
-// The most words that a table is lent with.
-const MOST_WORDS: usize = 16384;
+// The first words stay, and zeros stand behind them.
+fn cut(table: &mut [u32], to: usize)
+    requires { ⌜ to ≤ length (now table) ⌝ }
+    ensures { λ _. ⌜ now (table .exit) ≡ pad (length (now (table .entry))) (take to (now (table .entry))) ⌝ }
+{
+    let end = table.len();
+    runs::zero(table, to, end);
+}
 
 fn resize_named(named: Named, to: usize, s: Lent, reg: &mut [u32], led: &mut [u32]) -> Performed
-    requires { ⌜ (to ≤ mostWords) × (HeldBoth s (now reg) (now led)) ⌝ }
-    ensures { λ r. ⌜ (outcome (r .reply) (take (r .lent .register) (now (reg .exit))) (take (r .lent .ledger) (now (led .exit))) ≡ performed (lentTables s (now (reg .entry)) (now (led .entry))) (resize named to)) × (HeldBoth (r .lent) (now (reg .exit)) (now (led .exit))) ⌝ }
+    requires { ⌜ (to ≤ mostLent) × (HeldBoth s (now reg) (now led)) ⌝ }
+    ensures { λ r. ⌜ Carried s (now (reg .entry)) (now (led .entry)) (resize named to)
+        r (now (reg .exit)) (now (led .exit)) ⌝ }
 {
     let register = s.register;
     let ledger = s.ledger;
     match named {
         Named::Register => {
-            tables::cut(reg, to);
+            cut(reg, to);
             Performed {
                 lent: Lent {
                     register: to,
@@ -87,7 +66,7 @@ fn resize_named(named: Named, to: usize, s: Lent, reg: &mut [u32], led: &mut [u3
             }
         }
         Named::Ledger => {
-            tables::cut(led, to);
+            cut(led, to);
             Performed {
                 lent: Lent {
                     register,
@@ -105,7 +84,8 @@ fn resize_named(named: Named, to: usize, s: Lent, reg: &mut [u32], led: &mut [u3
 
 fn resize(line: &[u8], n: usize, s: Lent, reg: &mut [u32], led: &mut [u32]) -> Performed
     requires { ⌜ (n ≡ length (wordsOf (now line))) × (HeldBoth s (now reg) (now led)) ⌝ }
-    ensures { λ r. ⌜ (outcome (r .reply) (take (r .lent .register) (now (reg .exit))) (take (r .lent .ledger) (now (led .exit))) ≡ performed (lentTables s (now (reg .entry)) (now (led .entry))) (resizeCommand (wordsOf (now (line .entry))))) × (HeldBoth (r .lent) (now (reg .exit)) (now (led .exit))) ⌝ }
+    ensures { λ r. ⌜ Carried s (now (reg .entry)) (now (led .entry)) (resizeCommand (wordsOf (now (line .entry))))
+        r (now (reg .exit)) (now (led .exit)) ⌝ }
 {
     if n != 3 {
         return Performed {
@@ -120,18 +100,19 @@ fn resize(line: &[u8], n: usize, s: Lent, reg: &mut [u32], led: &mut [u32]) -> P
         };
     };
     let to = length as usize;
-    if MOST_WORDS < to {
+    if commands::MOST_LENT < to {
         return Performed {
             lent: s,
             reply: Reply::Error,
         };
     }
-    resize_named(commands::named(line, 1), to, s, reg, led)
+    resize_named(commands::choice::named(line, 1), to, s, reg, led)
 }
 
 fn empty(line: &[u8], n: usize, s: Lent, reg: &mut [u32], led: &mut [u32]) -> Performed
     requires { ⌜ (n ≡ length (wordsOf (now line))) × (HeldBoth s (now reg) (now led)) ⌝ }
-    ensures { λ r. ⌜ (outcome (r .reply) (take (r .lent .register) (now (reg .exit))) (take (r .lent .ledger) (now (led .exit))) ≡ performed (lentTables s (now (reg .entry)) (now (led .entry))) (emptyCommand (wordsOf (now (line .entry))))) × (HeldBoth (r .lent) (now (reg .exit)) (now (led .exit))) ⌝ }
+    ensures { λ r. ⌜ Carried s (now (reg .entry)) (now (led .entry)) (emptyCommand (wordsOf (now (line .entry))))
+        r (now (reg .exit)) (now (led .exit)) ⌝ }
 {
     if n != 1 {
         return Performed {
@@ -139,8 +120,8 @@ fn empty(line: &[u8], n: usize, s: Lent, reg: &mut [u32], led: &mut [u32]) -> Pe
             reply: Reply::Error,
         };
     }
-    tables::cut(reg, 0);
-    tables::cut(led, 0);
+    cut(reg, 0);
+    cut(led, 0);
     Performed {
         lent: Lent {
             register: register::WORDS,
@@ -152,8 +133,9 @@ fn empty(line: &[u8], n: usize, s: Lent, reg: &mut [u32], led: &mut [u32]) -> Pe
 
 // The command of a line.
 fn perform(line: &[u8], s: Lent, reg: &mut [u32], led: &mut [u32]) -> Performed
-    requires { ⌜ (length (now line) ≤ mostBytes) × (HeldBoth s (now reg) (now led)) ⌝ }
-    ensures { λ r. ⌜ (outcome (r .reply) (take (r .lent .register) (now (reg .exit))) (take (r .lent .ledger) (now (led .exit))) ≡ performed (lentTables s (now (reg .entry)) (now (led .entry))) (commandOf (wordsOf (now (line .entry))))) × (HeldBoth (r .lent) (now (reg .exit)) (now (led .exit))) ⌝ }
+    requires { ⌜ (length (now line) ≤ mostLine) × (HeldBoth s (now reg) (now led)) ⌝ }
+    ensures { λ r. ⌜ Carried s (now (reg .entry)) (now (led .entry)) (commandOf (wordsOf (now (line .entry))))
+        r (now (reg .exit)) (now (led .exit)) ⌝ }
 {
     let n = lines::count(line);
     if lines::is_word(line, 0, b"resize") {
@@ -164,14 +146,15 @@ fn perform(line: &[u8], s: Lent, reg: &mut [u32], led: &mut [u32]) -> Performed
     }
     let register = s.register;
     let ledger = s.ledger;
-    let reply = commands::run(line, n, &mut reg[..register], &mut led[..ledger]);
+    let reply = commands::choice::run(line, n, &mut reg[..register], &mut led[..ledger]);
     Performed { lent: s, reply }
 }
 
 // The command of a line of n bytes of the buffer.
 fn perform_line(n: usize, line: &[u8], s: Lent, reg: &mut [u32], led: &mut [u32]) -> Performed
-    requires { ⌜ (length (now line) ≡ mostBytes) × (HeldBoth s (now reg) (now led)) ⌝ }
-    ensures { λ r. ⌜ (outcome (r .reply) (take (r .lent .register) (now (reg .exit))) (take (r .lent .ledger) (now (led .exit))) ≡ performed (lentTables s (now (reg .entry)) (now (led .entry))) (commandIn (lineIn n (now (line .entry))))) × (HeldBoth (r .lent) (now (reg .exit)) (now (led .exit))) ⌝ }
+    requires { ⌜ (length (now line) ≡ mostLine) × (HeldBoth s (now reg) (now led)) ⌝ }
+    ensures { λ r. ⌜ Carried s (now (reg .entry)) (now (led .entry)) (commandIn (lineIn n (now (line .entry))))
+        r (now (reg .exit)) (now (led .exit)) ⌝ }
 {
     if line.len() < n {
         return Performed {
@@ -185,7 +168,8 @@ fn perform_line(n: usize, line: &[u8], s: Lent, reg: &mut [u32], led: &mut [u32]
 // The line is answered, and the next begins.
 fn end_line(s: State, line: &[u8], reg: &mut [u32], led: &mut [u32], out: &mut [u8]) -> State
     requires { ⌜ Ready s (now line) (now reg) (now led) (now out) ⌝ }
-    ensures { λ r. ⌜ (lentTables (r .lent) (now (reg .exit)) (now (led .exit)) ≡ after (lentTables (s .lent) (now (reg .entry)) (now (led .entry))) (commandIn (lineIn (s .line) (now (line .entry))))) × (r .line ≡ 0) × (r .out ≡ s .out + length (answerLine (lentTables (s .lent) (now (reg .entry)) (now (led .entry))) (commandIn (lineIn (s .line) (now (line .entry)))))) × (now (out .exit) ≡ sets (now (out .entry)) (s .out) (answerLine (lentTables (s .lent) (now (reg .entry)) (now (led .entry))) (commandIn (lineIn (s .line) (now (line .entry)))))) × (r .out ≤ s .out + mostText) × (HeldBoth (r .lent) (now (reg .exit)) (now (led .exit))) ⌝ }
+    ensures { λ r. ⌜ Answered s (buffers (now (line .entry)) (now (reg .entry)) (now (led .entry)) (now (out .entry)))
+        r (buffers (now (line .entry)) (now (reg .exit)) (now (led .exit)) (now (out .exit))) ⌝ }
 {
     let n = s.line;
     let at = s.out;
@@ -205,8 +189,9 @@ fn end_line(s: State, line: &[u8], reg: &mut [u32], led: &mut [u32], out: &mut [
 
 // The bytes of part go behind the first n of a line, if they have room there.
 fn join(line: &mut [u8], n: usize, part: &[u8]) -> usize
-    requires { ⌜ length (now line) ≡ mostBytes ⌝ }
-    ensures { λ r. ⌜ (lineIn r (now (line .exit)) ≡ joined (lineIn n (now (line .entry))) (now (part .entry))) × (now (line .exit) ≡ lineStored n (now (line .entry)) (now (part .entry))) ⌝ }
+    requires { ⌜ length (now line) ≡ mostLine ⌝ }
+    ensures { λ r. ⌜ (lineIn r (now (line .exit)) ≡ joined (lineIn n (now (line .entry))) (now (part .entry)))
+        × (now (line .exit) ≡ lineStored n (now (line .entry)) (now (part .entry))) ⌝ }
 {
     if line.len() < n {
         return n;
@@ -227,7 +212,8 @@ pub fn feed(
     out: &mut [u8],
 ) -> Fed
     requires { ⌜ Ready s (now line) (now reg) (now led) (now out) ⌝ }
-    ensures { λ r. ⌜ (sessionIn (r .state) (now (line .exit)) (now (reg .exit)) (now (led .exit)) ≡ fed (sessionIn s (now (line .entry)) (now (reg .entry)) (now (led .entry))) (now (piece .entry))) × (r .used ≡ fedBytes (now (piece .entry))) × (now (line .exit) ≡ lineStored (s .line) (now (line .entry)) (before 10 (now (piece .entry)))) × (r .state .out ≡ s .out + length (fedText (sessionIn s (now (line .entry)) (now (reg .entry)) (now (led .entry))) (now (piece .entry)))) × (now (out .exit) ≡ sets (now (out .entry)) (s .out) (fedText (sessionIn s (now (line .entry)) (now (reg .entry)) (now (led .entry))) (now (piece .entry)))) × (r .state .out ≤ s .out + mostText) × (HeldBoth (r .state .lent) (now (reg .exit)) (now (led .exit))) ⌝ }
+    ensures { λ r. ⌜ Feeds (now (piece .entry)) s (buffers (now (line .entry)) (now (reg .entry)) (now (led .entry)) (now (out .entry)))
+        r (buffers (now (line .exit)) (now (reg .exit)) (now (led .exit)) (now (out .exit))) ⌝ }
 {
     let lent = s.lent;
     let n = s.line;
@@ -252,7 +238,8 @@ pub fn feed(
 // The end of the input: what stands in the line is answered.
 pub fn finish(s: State, line: &[u8], reg: &mut [u32], led: &mut [u32], out: &mut [u8]) -> State
     requires { ⌜ Ready s (now line) (now reg) (now led) (now out) ⌝ }
-    ensures { λ r. ⌜ (sessionIn r (now (line .entry)) (now (reg .exit)) (now (led .exit)) ≡ finished (sessionIn s (now (line .entry)) (now (reg .entry)) (now (led .entry)))) × (r .out ≡ s .out + length (lastText (sessionIn s (now (line .entry)) (now (reg .entry)) (now (led .entry))))) × (now (out .exit) ≡ sets (now (out .entry)) (s .out) (lastText (sessionIn s (now (line .entry)) (now (reg .entry)) (now (led .entry))))) × (r .out ≤ s .out + mostText) ⌝ }
+    ensures { λ r. ⌜ Finishes s (buffers (now (line .entry)) (now (reg .entry)) (now (led .entry)) (now (out .entry)))
+        r (buffers (now (line .entry)) (now (reg .exit)) (now (led .exit)) (now (out .exit))) ⌝ }
 {
     if s.line == 0 {
         return s;

@@ -13,7 +13,7 @@ use Rattle.keyed.proofs.Orders.{ordered-pairs, both-intro, same-flip, above-zer
 use Rattle.keyed.proofs.Puts.{ascends-put, ascends-without}
 use Rattle.keyed.proofs.Finds.{every-put, every-without, find-put, find-without, find-key, same-finds, count-without}
 use Rattle.rules.specs.Records.{Record}
-use Rattle.register.specs.Register.{mostRecords, mostBodyWords, lastSource, keyOf, listed, listOk, recordOk, roomFor, recordsOk}
+use Rattle.register.specs.Register.{mostRecords, mostListed, lastSource, keyOf, listed, listOk, recordOk, roomFor, recordsOk}
 use Rattle.register.specs.Calls.{putRecord, eraseRecord, clearRecords, countRecords, ofSource}
 use Rattle.register.proofs.Holding.{room-records, room-lists, has-room, each-ok, in-order}
 
@@ -27,8 +27,8 @@ pub room-fewer : (rs ss : List Record) → length ss ≤ length rs → listed ss
 unfolding roomFor
 room-fewer rs ss h h' e =
     let a : length rs ≤ mostRecords = room-records rs e in
-    let b : listed rs ≤ mostBodyWords = room-lists rs e in
-    both-intro _ _ (le-leb (length ss) mostRecords (omega arith)) (le-leb (listed ss) mostBodyWords (omega arith))
+    let b : listed rs ≤ mostListed = room-lists rs e in
+    both-intro _ _ (le-leb (length ss) mostRecords (omega arith)) (le-leb (listed ss) mostListed (omega arith))
 
 listed-without : (test : ℕ × ℕ → Bool) (rs : List Record) → listed (without keyOf samePair beforePair test rs) ≤ listed rs
 unfolding listed without

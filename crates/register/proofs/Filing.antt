@@ -15,16 +15,17 @@ use Rattle.types.specs.declared.Removal.{Removal}
 use Rattle.types.specs.declared.Removal.the-variants as removal
 use Rattle.types.specs.declared.Cleared.{Cleared}
 use Rattle.types.specs.declared.Cleared.the-variants as cleared
-use Rattle.types.specs.Rows.{firstGiven, Effect}
-use Rattle.table.specs.Table.{Entry, bodies, encode, decode, Sound, Insertable, Removable, Clearable, stayingEntries, insertAt, removeAt}
+use Rattle.types.specs.Rows.{firstGiven, Effect, effect}
+use Rattle.table.specs.Table.{counters, Entry, bodies, encode, decode, Sound, Insertable, Removable, Clearable, stayingEntries, insertAt, removeAt}
 use Rattle.table.proofs.After.{removed}
 use Rattle.keyed.specs.Keyed.{samePair, beforePair, ascends, without}
 use Rattle.keyed.proofs.Orders.{ordered-pairs, both-intro}
 use Rattle.keyed.proofs.Ranks.{rank-within}
 use Rattle.keyed.proofs.Puts.{length-put-new, length-put-over}
 use Rattle.rules.specs.Records.{Record}
-use Rattle.register.specs.Register.{registerWords, mostRecords, mostBodyWords, lastSource, entryOf, recordsOf, registerOf, recordAt, keyOf, listed, listOk, roomFor, registerOk, positionOf}
-use Rattle.register.specs.Calls.{holdsRecord, putRecord, eraseRecord, clearRecords, countRecords, recordFor, Passed, fileEffect, withdrawEffect, clearEffect}
+use Rattle.register.specs.Register.{headWords, tailWords, slotWords, sourceWord, countWord, registerWords, mostRecords, mostListed, lastSource, entryOf, recordsOf, registerOf, recordAt, keyOf, listed, listOk, roomFor, registerOk, positionOf}
+use Rattle.register.specs.Helpers.{Passed}
+use Rattle.register.specs.Calls.{holdsRecord, putRecord, eraseRecord, clearRecords, countRecords, recordFor, fileEffect, withdrawEffect, clearEffect}
 use Rattle.register.proofs.Entries.{decoded, length-records, record-count, list-count, length-is, slot-within, listed-next, listed-take, bodies-listed, length-entries}
 use Rattle.register.proofs.Holding.{sound, records-ok, ordered, has-room, room-records, room-lists}
 use Rattle.register.proofs.Changes.{cleared-count}
@@ -66,7 +67,7 @@ module _ {ws : List ℕ} {position source customer : ℕ} {list : List ℕ} (p :
   abbrev r : Record
   r = recordFor source customer list
 
-  s : Sound 2 0 ws
+  s : Sound headWords tailWords ws
   s = sound ws (p .ok)
 
   file-full : roomFor (putRecord r rs) ≡ false → fileEffect ws source customer list ≡ record { answer = filed.Refused RegisterFull; words = ws }
@@ -90,14 +91,14 @@ module _ {ws : List ℕ} {position source customer : ℕ} {list : List ℕ} (p :
   pub few : length rs ≤ mostRecords
   few = room-records rs (has-room rs (records-ok ws (p .ok)))
 
-  pub little : listed rs ≤ mostBodyWords
+  pub little : listed rs ≤ mostListed
   little = room-lists rs (has-room rs (records-ok ws (p .ok)))
 
   pub position-in : position ≤ length rs
   unfolding positionOf
   position-in = rw (p .here) (rank-within keyOf samePair beforePair (customer, source) rs)
 
-  body-count : length (bodies (decode 2 0 ws)) ≡ listed rs
+  body-count : length (bodies (decode headWords tailWords ws)) ≡ listed rs
   body-count = ap (λ es. length (bodies es)) (decoded ws s) ∙ bodies-listed rs
 
   -- A new record.
@@ -108,14 +109,14 @@ module _ {ws : List ℕ} {position source customer : ℕ} {list : List ℕ} (p :
         let n : length (putRecord r rs) ≡ suc (length rs) = length-put-new keyOf samePair beforePair r rs free in
         file-full (rw (lt-leb (length (putRecord r rs)) mostRecords (omega arith)) refl)
 
-    pub full-lists : mostBodyWords - listed rs < length list → fileEffect ws source customer list ≡ record { answer = filed.Refused RegisterFull; words = ws }
+    pub full-lists : mostListed - listed rs < length list → fileEffect ws source customer list ≡ record { answer = filed.Refused RegisterFull; words = ws }
     unfolding roomFor
     full-lists h =
         let b : listed (putRecord r rs) ≡ listed rs + length list = listed-new r rs free in
-        file-full (rw (lt-leb (listed (putRecord r rs)) mostBodyWords (omega (arith, little))) (and-false (leb (length (putRecord r rs)) mostRecords)))
+        file-full (rw (lt-leb (listed (putRecord r rs)) mostListed (omega (arith, little))) (and-false (leb (length (putRecord r rs)) mostRecords)))
 
-    module _ (more : length rs < mostRecords) (room : length list ≤ mostBodyWords - listed rs) where
-      pub new-fits : Insertable 2 0 ws position (entryOf r)
+    module _ (more : length rs < mostRecords) (room : length list ≤ mostListed - listed rs) where
+      pub new-fits : Insertable headWords tailWords ws position (entryOf r)
       new-fits =
           record {
             sound = s;
@@ -126,21 +127,21 @@ module _ {ws : List ℕ} {position source customer : ℕ} {list : List ℕ} (p :
             small = omega (arith, p .long);
           }
 
-      pub new-done : {ws' : List ℕ} → ws' ≡ encode (length ws) (insertAt position (entryOf r) (decode 2 0 ws))
-          → (filed.New ≡ fileEffect ws source customer list .answer) × (ws' ≡ fileEffect ws source customer list .words)
+      pub new-done : {ws' : List ℕ} → ws' ≡ encode (length ws) (insertAt position (entryOf r) (decode headWords tailWords ws))
+          → effect filed.New ws' ≡ fileEffect ws source customer list
       unfolding roomFor registerOf
-      new-done {ws'} e = rw done (refl, e ∙ words)
+      new-done {ws'} e = ap (effect filed.New) (e ∙ words) ∙ sym done
         where
           fits : roomFor (putRecord r rs) ≡ true
           fits =
               let n : length (putRecord r rs) ≡ suc (length rs) = length-put-new keyOf samePair beforePair r rs free in
               let b : listed (putRecord r rs) ≡ listed rs + length list = listed-new r rs free in
-              both-intro _ _ (le-leb (length (putRecord r rs)) mostRecords (omega arith)) (le-leb (listed (putRecord r rs)) mostBodyWords (omega (arith, little)))
+              both-intro _ _ (le-leb (length (putRecord r rs)) mostRecords (omega arith)) (le-leb (listed (putRecord r rs)) mostListed (omega (arith, little)))
 
           done : fileEffect ws source customer list ≡ record { answer = filed.New; words = registerOf (putRecord r rs) }
           done = file-done false free fits
 
-          words : encode (length ws) (insertAt position (entryOf r) (decode 2 0 ws)) ≡ encode registerWords (map entryOf (putRecord r rs))
+          words : encode (length ws) (insertAt position (entryOf r) (decode headWords tailWords ws)) ≡ encode registerWords (map entryOf (putRecord r rs))
           words =
               (λ i. encode (p .long i) (insertAt (p .here i) (entryOf r) (decoded ws s i)))
               ∙ ap (encode registerWords) (inserted-entries (positionOf customer source rs) r rs ∙ ap (map entryOf) (sym (put-at r rs free)))
@@ -153,11 +154,11 @@ module _ {ws : List ℕ} {position source customer : ℕ} {list : List ℕ} (p :
     pub position-under : position < length rs
     position-under = rw (p .here) (position-within r rs asc taken)
 
-    pub old-slot : 2 + position * 4 + 4 ≤ length ws
+    pub old-slot : counters + position * slotWords + slotWords ≤ length ws
     old-slot = slot-within ws s position position-under
 
     -- The numbers of the list that goes.
-    pub old-word : getD ws (2 + position * 4 + 3) 0 ≡ length (recordAt rs position .providers)
+    pub old-word : getD ws (counters + position * slotWords + countWord) 0 ≡ length (recordAt rs position .providers)
     old-word = length-is ws s position position-under
 
     pub old-within : length (recordAt rs position .providers) ≤ listed rs
@@ -166,25 +167,25 @@ module _ {ws : List ℕ} {position source customer : ℕ} {list : List ℕ} (p :
     others : listed (putRecord r rs) + length (recordAt rs position .providers) ≡ listed rs + length list
     others = rw (p .here) (listed-over r rs asc taken)
 
-    pub full-over : mostBodyWords - (listed rs - length (recordAt rs position .providers)) < length list
+    pub full-over : mostListed - (listed rs - length (recordAt rs position .providers)) < length list
         → fileEffect ws source customer list ≡ record { answer = filed.Refused RegisterFull; words = ws }
     unfolding roomFor
     full-over h =
-        file-full (rw (lt-leb (listed (putRecord r rs)) mostBodyWords (omega (arith, others, old-within, little))) (and-false (leb (length (putRecord r rs)) mostRecords)))
+        file-full (rw (lt-leb (listed (putRecord r rs)) mostListed (omega (arith, others, old-within, little))) (and-false (leb (length (putRecord r rs)) mostRecords)))
 
-    pub old-goes : Removable 2 0 ws position
+    pub old-goes : Removable headWords tailWords ws position
     old-goes = record { sound = s; within = omega (arith, position-under, length-records ws s); small = omega (arith, p .long) }
 
-    module _ (room : length list ≤ mostBodyWords - (listed rs - length (recordAt rs position .providers)))
-        {ws₁ : List ℕ} (gone : ws₁ ≡ encode (length ws) (removeAt position (decode 2 0 ws))) (long₁ : length ws₁ ≡ length ws) where
+    module _ (room : length list ≤ mostListed - (listed rs - length (recordAt rs position .providers)))
+        {ws₁ : List ℕ} (gone : ws₁ ≡ encode (length ws) (removeAt position (decode headWords tailWords ws))) (long₁ : length ws₁ ≡ length ws) where
       abbrev rest : List Record
       rest = take position rs ++ drop (suc position) rs
 
-      now-sound : Sound 2 0 ws₁
-      now-sound = removed 2 0 ws position ws₁ old-goes gone .0
+      now-sound : Sound headWords tailWords ws₁
+      now-sound = removed headWords tailWords ws position ws₁ old-goes gone .0
 
-      now-holds : decode 2 0 ws₁ ≡ map entryOf rest
-      now-holds = removed 2 0 ws position ws₁ old-goes gone .1 ∙ ap (removeAt position) (decoded ws s) ∙ removed-entries position rs
+      now-holds : decode headWords tailWords ws₁ ≡ map entryOf rest
+      now-holds = removed headWords tailWords ws position ws₁ old-goes gone .1 ∙ ap (removeAt position) (decoded ws s) ∙ removed-entries position rs
 
       front : length (take position rs) ≡ position
       front = length-take-le position rs (omega (arith, position-under))
@@ -195,10 +196,10 @@ module _ {ws : List ℕ} {position source customer : ℕ} {list : List ℕ} (p :
       rest-listed : listed rest + length (recordAt rs position .providers) ≡ listed rs
       rest-listed = omega (arith, listed-append (take position rs) (drop (suc position) rs), listed-at position rs position-under)
 
-      pub over-fits : Insertable 2 0 ws₁ position (entryOf r)
+      pub over-fits : Insertable headWords tailWords ws₁ position (entryOf r)
       over-fits =
-          let n : length (decode 2 0 ws₁) ≡ length rest = ap length now-holds ∙ length-entries rest in
-          let b : length (bodies (decode 2 0 ws₁)) ≡ listed rest = ap (λ es. length (bodies es)) now-holds ∙ bodies-listed rest in
+          let n : length (decode headWords tailWords ws₁) ≡ length rest = ap length now-holds ∙ length-entries rest in
+          let b : length (bodies (decode headWords tailWords ws₁)) ≡ listed rest = ap (λ es. length (bodies es)) now-holds ∙ bodies-listed rest in
           record {
             sound = now-sound;
             within = omega (arith, position-under, rest-length);
@@ -208,15 +209,15 @@ module _ {ws : List ℕ} {position source customer : ℕ} {list : List ℕ} (p :
             small = omega (arith, p .long);
           }
 
-      pub over-done : {ws₂ : List ℕ} → ws₂ ≡ encode (length ws₁) (insertAt position (entryOf r) (decode 2 0 ws₁))
-          → (filed.Replaced ≡ fileEffect ws source customer list .answer) × (ws₂ ≡ fileEffect ws source customer list .words)
+      pub over-done : {ws₂ : List ℕ} → ws₂ ≡ encode (length ws₁) (insertAt position (entryOf r) (decode headWords tailWords ws₁))
+          → effect filed.Replaced ws₂ ≡ fileEffect ws source customer list
       unfolding roomFor registerOf
-      over-done {ws₂} e = rw done (refl, e ∙ words)
+      over-done {ws₂} e = ap (effect filed.Replaced) (e ∙ words) ∙ sym done
         where
           fits : roomFor (putRecord r rs) ≡ true
           fits =
               let n : length (putRecord r rs) ≡ length rs = length-put-over keyOf samePair beforePair ordered-pairs r rs asc taken in
-              both-intro _ _ (le-leb (length (putRecord r rs)) mostRecords (omega (arith, few))) (le-leb (listed (putRecord r rs)) mostBodyWords (omega (arith, others, old-within, little)))
+              both-intro _ _ (le-leb (length (putRecord r rs)) mostRecords (omega (arith, few))) (le-leb (listed (putRecord r rs)) mostListed (omega (arith, others, old-within, little)))
 
           done : fileEffect ws source customer list ≡ record { answer = filed.Replaced; words = registerOf (putRecord r rs) }
           done = file-done true taken fits
@@ -224,7 +225,7 @@ module _ {ws : List ℕ} {position source customer : ℕ} {list : List ℕ} (p :
           put-here : putRecord r rs ≡ take position rs ++ (r ∷ drop (suc position) rs)
           put-here = rw (p .here) (put-in-position r rs asc taken)
 
-          words : encode (length ws₁) (insertAt position (entryOf r) (decode 2 0 ws₁)) ≡ encode registerWords (map entryOf (putRecord r rs))
+          words : encode (length ws₁) (insertAt position (entryOf r) (decode headWords tailWords ws₁)) ≡ encode registerWords (map entryOf (putRecord r rs))
           words =
               (λ i. encode ((long₁ ∙ p .long) i) (insertAt position (entryOf r) (now-holds i)))
               ∙ ap (encode registerWords) (inserted-entries position r rest)
@@ -262,18 +263,18 @@ module _ (ws : List ℕ) (source customer : ℕ) where
             asc' : ascends keyOf samePair beforePair (recordsOf ws) ≡ true
             asc' = ordered ws b
 
-            pub withdraw-goes : Removable 2 0 ws position
+            pub withdraw-goes : Removable headWords tailWords ws position
             withdraw-goes =
                 let h : position < length (recordsOf ws) = rw f (position-within (recordFor source customer []) (recordsOf ws) asc' e) in
                 record { sound = sound ws b; within = omega (arith, length-records ws (sound ws b)); small = omega (arith, a) }
 
-            pub withdraw-done : {ws' : List ℕ} → ws' ≡ encode (length ws) (removeAt position (decode 2 0 ws))
-                → (removal.Done ≡ withdrawEffect ws source customer .answer) × (ws' ≡ withdrawEffect ws source customer .words)
+            pub withdraw-done : {ws' : List ℕ} → ws' ≡ encode (length ws) (removeAt position (decode headWords tailWords ws))
+                → effect removal.Done ws' ≡ withdrawEffect ws source customer
             unfolding registerOf withdrawEffect firstGiven
             withdraw-done {ws'} g =
-                rw (eq-eqb (length ws) registerWords a, b, le-ltb lastSource source c, ne-eqb customer 0 d, e) (refl, g ∙ words)
+                rw (eq-eqb (length ws) registerWords a, b, le-ltb lastSource source c, ne-eqb customer 0 d, e) (ap (effect removal.Done) (g ∙ words))
               where
-                words : encode (length ws) (removeAt position (decode 2 0 ws)) ≡ encode registerWords (map entryOf (eraseRecord customer source (recordsOf ws)))
+                words : encode (length ws) (removeAt position (decode headWords tailWords ws)) ≡ encode registerWords (map entryOf (eraseRecord customer source (recordsOf ws)))
                 words =
                     (λ i. encode (a i) (removeAt (f i) (decoded ws (sound ws b) i)))
                     ∙ ap (encode registerWords)
@@ -282,13 +283,13 @@ module _ (ws : List ℕ) (source customer : ℕ) where
 -- ---- Clear
 
 -- The entries that a clearing keeps are those of the records that it keeps.
-kept-entries : (source : ℕ) (rs : List Record) → stayingEntries 1 source (map entryOf rs) ≡ map entryOf (clearRecords source rs)
+kept-entries : (source : ℕ) (rs : List Record) → stayingEntries sourceWord source (map entryOf rs) ≡ map entryOf (clearRecords source rs)
 unfolding stayingEntries without
 kept-entries source [] = refl
 kept-entries source (r ∷ rs) = go (eqb (r .source) source) (kept-entries source rs)
   where
-    go : (b : Bool) → stayingEntries 1 source (map entryOf rs) ≡ map entryOf (clearRecords source rs)
-        → cond b (stayingEntries 1 source (map entryOf rs)) (entryOf r ∷ stayingEntries 1 source (map entryOf rs))
+    go : (b : Bool) → stayingEntries sourceWord source (map entryOf rs) ≡ map entryOf (clearRecords source rs)
+        → cond b (stayingEntries sourceWord source (map entryOf rs)) (entryOf r ∷ stayingEntries sourceWord source (map entryOf rs))
         ≡ map entryOf (cond b (clearRecords source rs) (r ∷ clearRecords source rs))
     go true h = h
     go false h = ap (λ l. entryOf r ∷ l) h
@@ -308,13 +309,13 @@ module _ (ws : List ℕ) (source : ℕ) where
       unfolding clearEffect firstGiven
       clear-source c = rw (eq-eqb (length ws) registerWords a, b, lt-ltb lastSource source c)
 
-      pub clear-may : Clearable 2 0 ws 1
+      pub clear-may : Clearable headWords tailWords ws sourceWord
       clear-may = record { sound = sound ws b; within = omega arith; small = omega (arith, a) }
 
-      kept : stayingEntries 1 source (decode 2 0 ws) ≡ map entryOf (clearRecords source (recordsOf ws))
-      kept = ap (stayingEntries 1 source) (decoded ws (sound ws b)) ∙ kept-entries source (recordsOf ws)
+      kept : stayingEntries sourceWord source (decode headWords tailWords ws) ≡ map entryOf (clearRecords source (recordsOf ws))
+      kept = ap (stayingEntries sourceWord source) (decoded ws (sound ws b)) ∙ kept-entries source (recordsOf ws)
 
-      module _ {gone : ℕ} (g : gone + length (stayingEntries 1 source (decode 2 0 ws)) ≡ length (decode 2 0 ws)) where
+      module _ {gone : ℕ} (g : gone + length (stayingEntries sourceWord source (decode headWords tailWords ws)) ≡ length (decode headWords tailWords ws)) where
         pub gone-is : gone ≡ countRecords source (recordsOf ws)
         gone-is =
             omega (
@@ -327,9 +328,9 @@ module _ (ws : List ℕ) (source : ℕ) where
         pub gone-few : gone ≤ mostRecords
         gone-few = omega (arith, length-records ws (sound ws b), room-records (recordsOf ws) (has-room (recordsOf ws) (records-ok ws b)))
 
-        pub clear-done : {ws' : List ℕ} → source ≤ lastSource → ws' ≡ encode (length ws) (stayingEntries 1 source (decode 2 0 ws))
-            → (cleared.Gone gone ≡ clearEffect ws source .answer) × (ws' ≡ clearEffect ws source .words)
+        pub clear-done : {ws' : List ℕ} → source ≤ lastSource → ws' ≡ encode (length ws) (stayingEntries sourceWord source (decode headWords tailWords ws))
+            → effect (cleared.Gone gone) ws' ≡ clearEffect ws source
         unfolding clearEffect firstGiven registerOf
         clear-done c e =
             rw (eq-eqb (length ws) registerWords a, b, le-ltb lastSource source c)
-            (ap cleared.Gone gone-is, e ∙ (λ i. encode (a i) (kept i)))
+            (λ i. effect (cleared.Gone (gone-is i)) ((e ∙ (λ j. encode (a j) (kept j))) i))

@@ -11,7 +11,7 @@ use Rattle.table.proofs.Exact.{passes-sound, encode-passes}
 use Rattle.keyed.specs.Keyed.{samePair, beforePair, ascends, every}
 use Rattle.keyed.proofs.Orders.{both-left, both-right, both-intro}
 use Rattle.rules.specs.Records.{Record}
-use Rattle.register.specs.Register.{registerWords, mostRecords, mostBodyWords, recordsOf, registerOf, entryOf, keyOf, listed, recordOk, roomFor, recordsOk, registerOk}
+use Rattle.register.specs.Register.{headWords, tailWords, registerWords, mostRecords, mostListed, recordsOf, registerOf, entryOf, keyOf, listed, recordOk, roomFor, recordsOk, registerOk}
 use Rattle.register.proofs.Entries.{entries-wide, records-fit, records-of-words}
 
 module _ (rs : List Record) where
@@ -19,7 +19,7 @@ module _ (rs : List Record) where
   unfolding roomFor
   room-records e = leb-true _ _ (both-left _ _ e)
 
-  pub room-lists : roomFor rs ≡ true → listed rs ≤ mostBodyWords
+  pub room-lists : roomFor rs ≡ true → listed rs ≤ mostListed
   unfolding roomFor
   room-lists e = leb-true _ _ (both-right (leb (length rs) mostRecords) _ e)
 
@@ -40,22 +40,22 @@ module _ (rs : List Record) where
 pub words-ok : (rs : List Record) → recordsOk rs ≡ true → registerOk (registerOf rs) ≡ true
 unfolding registerOk registerOf
 words-ok rs e =
-    both-intro (wellFormed 2 0 (registerOf rs)) _ formed (rw (records-of-words rs (room-records rs room) (room-lists rs room)) e)
+    both-intro (wellFormed headWords tailWords (registerOf rs)) _ formed (rw (records-of-words rs (room-records rs room) (room-lists rs room)) e)
   where
     room : roomFor rs ≡ true
     room = has-room rs e
 
-    formed : wellFormed 2 0 (registerOf rs) ≡ true
-    formed = encode-passes 2 0 registerWords (map entryOf rs) (entries-wide rs) (records-fit rs (room-records rs room) (room-lists rs room))
+    formed : wellFormed headWords tailWords (registerOf rs) ≡ true
+    formed = encode-passes headWords tailWords registerWords (map entryOf rs) (entries-wide rs) (records-fit rs (room-records rs room) (room-lists rs room))
 
 module _ (ws : List ℕ) (e : registerOk ws ≡ true) where
-  pub sound : Sound 2 0 ws
+  pub sound : Sound headWords tailWords ws
   unfolding registerOk
-  sound = passes-sound 2 0 ws (both-left _ _ e)
+  sound = passes-sound headWords tailWords ws (both-left _ _ e)
 
   pub records-ok : recordsOk (recordsOf ws) ≡ true
   unfolding registerOk
-  records-ok = both-right (wellFormed 2 0 ws) _ e
+  records-ok = both-right (wellFormed headWords tailWords ws) _ e
 
   pub ordered : ascends keyOf samePair beforePair (recordsOf ws) ≡ true
   ordered = in-order (recordsOf ws) records-ok

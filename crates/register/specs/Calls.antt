@@ -1,23 +1,22 @@
 -- File, Withdraw and Clear ("The calls"): the answer, and the register's words after it, for every argument and all words before.
-use Prim.Native.Nat.{ℕ, _≤_}
-use mathlib.Core.Path.{_≡_}
-use mathlib.Core.Bool.{Bool, true, not, cond}
+use Prim.Native.Nat.{ℕ}
+use mathlib.Core.Bool.{Bool, not, cond}
 use mathlib.Core.List.{List, [], _∷_}
 use mathlib.Core.Option.{Option}
 use lib.Dec.{ltb, eqb}
 use lib.ListN.{length}
 use Rattle.types.specs.declared.Refusal.{Refusal}
-use Rattle.types.specs.declared.Refusal.the-variants.{TableLength, RegisterMalformed, SourceNumber, CustomerZero, ProviderList, NoRecord, RegisterFull}
+use Rattle.types.specs.declared.Refusal.the-variants.{RegisterMalformed, SourceNumber, CustomerZero, ProviderList, NoRecord, RegisterFull}
 use Rattle.types.specs.declared.Filed.{Filed}
 use Rattle.types.specs.declared.Filed.the-variants as filed
 use Rattle.types.specs.declared.Removal.{Removal}
 use Rattle.types.specs.declared.Removal.the-variants as removal
 use Rattle.types.specs.declared.Cleared.{Cleared}
 use Rattle.types.specs.declared.Cleared.the-variants as cleared
-use Rattle.types.specs.Rows.{rowIf, firstGiven, Effect, unlessRefused}
+use Rattle.types.specs.Rows.{rowIf, lengthRow, firstGiven, Effect, unlessRefused}
 use Rattle.keyed.specs.Keyed.{samePair, beforePair, holds, put, without, countOf}
 use Rattle.rules.specs.Records.{Record}
-use Rattle.register.specs.Register.{registerWords, lastSource, recordsOf, registerOf, keyOf, positionOf, listOk, roomFor, registerOk}
+use Rattle.register.specs.Register.{registerWords, lastSource, recordsOf, registerOf, keyOf, listOk, roomFor, registerOk}
 
 -- ---- records: looked for, put in, taken out
 
@@ -42,7 +41,7 @@ countRecords source rs = countOf keyOf samePair beforePair (ofSource source) rs
 -- ---- the rows of each call
 
 abbrev pub tableRow : List ℕ → Option Refusal
-tableRow ws = rowIf (not (eqb (length ws) registerWords)) TableLength
+tableRow ws = lengthRow registerWords ws
 
 abbrev pub registerRow : List ℕ → Option Refusal
 registerRow ws = rowIf (not (registerOk ws)) RegisterMalformed
@@ -91,15 +90,6 @@ fileEffect ws source customer list =
       answer = filedAs (recordFor source customer list) (recordsOf ws);
       words = registerOf (putRecord (recordFor source customer list) (recordsOf ws));
     })
-
--- A filing that passed rows 1 to 6, and the position of its pair.
-pub record Passed (ws : List ℕ) (position source customer : ℕ) (list : List ℕ) : Type 0 where
-  pub long : length ws ≡ registerWords
-  pub ok : registerOk ws ≡ true
-  pub known : source ≤ lastSource
-  pub some : customer ≡ 0 → ⊥
-  pub rising : listOk list ≡ true
-  pub here : position ≡ positionOf customer source (recordsOf ws)
 
 unfoldable pub withdrawEffect : List ℕ → ℕ → ℕ → Effect Removal
 withdrawEffect ws source customer =

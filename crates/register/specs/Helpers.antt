@@ -1,11 +1,11 @@
 -- What the register's own functions ask of each other and count. No call's promise speaks of it.
-use Prim.Native.Nat.{ℕ, _+_, _≤_}
+use Prim.Native.Nat.{ℕ, _+_, _*_, _≤_}
 use mathlib.Core.Path.{_≡_}
 use mathlib.Core.Bool.{true, cond}
 use mathlib.Core.List.{List, [], _∷_}
 use lib.Dec.{ltb}
 use lib.ListN.{length}
-use Rattle.register.specs.Register.{recordsOf, registerOk, positionOf}
+use Rattle.register.specs.Register.{mostRecords, registerWords, lastSource, recordsOf, listOk, registerOk, positionOf}
 
 -- How often a number of a list does not stand above the one before it.
 unfoldable pub descentsFrom : ℕ → List ℕ → ℕ
@@ -23,6 +23,31 @@ pub record Within (ws : List ℕ) (customer source low high : ℕ) : Type 0 wher
   pub under : positionOf customer source (recordsOf ws) ≤ high
   pub inside : high ≤ length (recordsOf ws)
 
--- The words of hints before the first hint.
-abbrev pub headWords : ℕ
-headWords = 9
+-- A filing that passed rows 1 to 6, and the position of its pair.
+pub record Passed (ws : List ℕ) (position source customer : ℕ) (list : List ℕ) : Type 0 where
+  pub long : length ws ≡ registerWords
+  pub ok : registerOk ws ≡ true
+  pub known : source ≤ lastSource
+  pub some : customer ≡ 0 → ⊥
+  pub rising : listOk list ≡ true
+  pub here : position ≡ positionOf customer source (recordsOf ws)
+
+-- ---- the words of hints
+
+-- The words of a part, of which there are two behind the first word; the hints follow.
+abbrev pub partWords : ℕ
+partWords = 4
+
+abbrev pub upperPart : ℕ
+upperPart = 1 + partWords
+
+abbrev pub firstCell : ℕ
+firstCell = upperPart + partWords
+
+-- Cells to a record of a full register.
+abbrev pub cellsEach : ℕ
+cellsEach = 4
+
+-- The words that hold all hints; the last is behind the last cell.
+abbrev pub hintWords : ℕ
+hintWords = firstCell + cellsEach * mostRecords + 1

@@ -1,40 +1,68 @@
 -- The register ("Tables"): provider records in a packed table with two head words, customer and source, and no tail.
-use Prim.Native.Nat.{ℕ, _+_}
+use Prim.Native.Nat.{ℕ, _+_, _*_}
 use mathlib.Core.Bool.{Bool, true, cond, _&&_}
 use mathlib.Core.List.{List, [], _∷_, map}
 use lib.Dec.{leb, ltb, eqb}
 use lib.ListN.{length, getD}
-use Rattle.table.specs.Table.{Entry, bodies, encode, decode, wellFormed}
+use Rattle.table.specs.Table.{Entry, counters, width, bodies, encode, decode, wellFormed}
 use Rattle.keyed.specs.Keyed.{samePair, beforePair, ascends, rank, every}
 use Rattle.rules.specs.Records.{Record}
 
--- The limits, each named once.
-abbrev pub registerWords : ℕ
-registerWords = 12290
+-- ---- limits
 
 abbrev pub mostRecords : ℕ
 mostRecords = 1024
 
-abbrev pub mostBodyWords : ℕ
-mostBodyWords = 8192
+-- The numbers in all lists together.
+abbrev pub mostListed : ℕ
+mostListed = 8192
 
+-- The numbers in one list.
 abbrev pub mostProviders : ℕ
 mostProviders = 256
 
 abbrev pub lastSource : ℕ
 lastSource = 7
 
+-- ---- layout
+
+-- A record's slot: customer, source, where its list starts among the bodies, and how many numbers it has. The first two are its head.
+abbrev pub headWords : ℕ
+headWords = 2
+
+abbrev pub tailWords : ℕ
+tailWords = 0
+
+abbrev pub slotWords : ℕ
+slotWords = width headWords tailWords
+
+abbrev pub customerWord : ℕ
+customerWord = 0
+
+abbrev pub sourceWord : ℕ
+sourceWord = 1
+
+abbrev pub startWord : ℕ
+startWord = headWords
+
+abbrev pub countWord : ℕ
+countWord = headWords + 1
+
+-- The words of a register: two counts, and room for as many records and numbers as there may be.
+abbrev pub registerWords : ℕ
+registerWords = counters + mostRecords * slotWords + mostListed
+
 -- ---- records
 
 abbrev pub recordOf : Entry → Record
-recordOf e = record { customer = getD (e .head) 0 0; source = getD (e .head) 1 0; providers = e .body }
+recordOf e = record { customer = getD (e .head) customerWord 0; source = getD (e .head) sourceWord 0; providers = e .body }
 
 abbrev pub entryOf : Record → Entry
 entryOf r = record { head = r .customer ∷ (r .source ∷ []); body = r .providers; tail = [] }
 
 -- The records that a register's words hold, and the words that hold records.
 unfoldable pub recordsOf : List ℕ → List Record
-recordsOf ws = map recordOf (decode 2 0 ws)
+recordsOf ws = map recordOf (decode headWords tailWords ws)
 
 unfoldable pub registerOf : List Record → List ℕ
 registerOf rs = encode registerWords (map entryOf rs)
@@ -67,7 +95,7 @@ unfoldable pub rises : List ℕ → Bool
 rises [] = true
 rises (x ∷ l) = risesFrom x l
 
--- A list that may be filed: 1 to 256 numbers, ascending (row 6).
+-- A list that may be filed (row 6): one number or more, not too many, ascending.
 unfoldable pub listOk : List ℕ → Bool
 listOk l = leb 1 (length l) && (leb (length l) mostProviders && rises l)
 
@@ -76,11 +104,11 @@ recordOk r = leb 1 (r .customer) && (leb (r .source) lastSource && listOk (r .pr
 
 -- The register fits its two limits (row 8).
 unfoldable pub roomFor : List Record → Bool
-roomFor rs = leb (length rs) mostRecords && leb (listed rs) mostBodyWords
+roomFor rs = leb (length rs) mostRecords && leb (listed rs) mostListed
 
 unfoldable pub recordsOk : List Record → Bool
 recordsOk rs = roomFor rs && (every recordOk rs && ascends keyOf samePair beforePair rs)
 
 -- The word rules of a register (row 2); its length is row 1's.
 unfoldable pub registerOk : List ℕ → Bool
-registerOk ws = wellFormed 2 0 ws && recordsOk (recordsOf ws)
+registerOk ws = wellFormed headWords tailWords ws && recordsOk (recordsOf ws)

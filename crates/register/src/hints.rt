@@ -13,42 +13,60 @@
 // its first cell and the one behind its last, as indices of words. The hints follow.
 use crate::search;
 use crate::stands_before;
+use types::AsNumber;
 ghost use mathlib.Core.Path.{_≡_};
 ghost use mathlib.Core.Bool.{true};
 ghost use Prim.Native.Nat.{_^_, _≤_, _<_};
 ghost use lib.ListN.{length};
 ghost use Rattle.register.specs.Register.{recordsOf, recordAt, registerOk, positionOf};
-ghost use Rattle.register.specs.Helpers.{headWords, Within};
+ghost use Rattle.register.specs.Helpers.{upperPart, firstCell, hintWords, Within};
 
 // Cells to a record of a full register.
 const CELLS_EACH: usize = 4;
 
 const CELLS: usize = CELLS_EACH * crate::MOST_RECORDS;
 
+// The words of a part: its first customer, its width's exponent, its first cell and the one behind its last.
+const EXPONENT: usize = 1;
+
+const FIRST: usize = 2;
+
+const END: usize = 3;
+
+const PART: usize = 4;
+
 // Where the words of the lower part begin, those of the upper part, and the hints.
 const LOWER: usize = 1;
 
-const UPPER: usize = 5;
+const UPPER: usize = LOWER + PART;
 
-const FIRST_CELL: usize = 9;
+const FIRST_CELL: usize = UPPER + PART;
 
 // The words that hold all hints; the last is behind the last cell.
 pub const WORDS: usize = FIRST_CELL + CELLS + 1;
 
 // The words of the part that a customer is in.
-fn part_of(customer: u32, upper: u32) -> usize
-    ensures { λ r. ⌜ r ≤ 5 ⌝ }
+fn part_of(customer: AsNumber, upper: AsNumber) -> usize
+    ensures { λ r. ⌜ r ≤ upperPart ⌝ }
 {
-    if customer < upper {
+    let c = customer.0;
+    let u = upper.0;
+    if c < u {
         return LOWER;
     }
     UPPER
 }
 
+// A word as a number of words or cells.
 fn wide(x: u32) -> usize
     ensures { λ r. ⌜ r < 2 ^ 32 ⌝ }
 {
     x as usize
+}
+
+// How far one customer lies above another.
+fn distance(low: AsNumber, high: AsNumber) -> u32 {
+    std::num::wrapping_sub_u32(high.0, low.0)
 }
 
 // How many cells of a width lie below a distance.
@@ -59,18 +77,19 @@ fn cells_to(distance: u32, exponent: u32) -> usize
 }
 
 // A customer's cell, as an index of words.
-fn cell(hints: &[u32], customer: u32) -> usize
-    requires { ⌜ headWords ≤ length (now hints) ⌝ }
+fn cell(hints: &[u32], customer: AsNumber) -> usize
+    requires { ⌜ firstCell ≤ length (now hints) ⌝ }
     ensures { λ r. ⌜ r < 2 ^ 32 ⌝ }
 {
-    let part = part_of(customer, hints[0]);
+    let part = part_of(customer, AsNumber(hints[0]));
     let base = hints[part];
-    let first = table::word(hints, part + 2);
-    let end = table::word(hints, part + 3);
-    if customer < base {
+    let first = table::word(hints, part + FIRST);
+    let end = table::word(hints, part + END);
+    let c = customer.0;
+    if c < base {
         return first;
     }
-    let at = first + cells_to(customer - base, hints[part + 1]);
+    let at = first + cells_to(c - base, hints[part + EXPONENT]);
     if at < end {
         return at;
     }
@@ -89,11 +108,13 @@ fn exponent(range: u32, cells: usize) -> u32 {
     e
 }
 
-fn customer_at(reg: &[u32], i: usize) -> u32
+// The customer of record i.
+fn customer_at(reg: &[u32], i: usize) -> AsNumber
     requires { ⌜ (registerOk (now reg) ≡ true) × (i < length (recordsOf (now reg))) ⌝ }
-    ensures { λ r. ⌜ r ≡ recordAt (recordsOf (now (reg .entry))) i .customer ⌝ }
+    ensures { λ r. ⌜ r .0 ≡ recordAt (recordsOf (now (reg .entry))) i .customer ⌝ }
 {
-    reg[2 + i * 4]
+    let c = reg[table::COUNTERS + i * crate::WIDTH];
+    AsNumber(c)
 }
 
 // Where the upper part of the customers begins: behind their widest gap.
@@ -107,7 +128,7 @@ fn cut(reg: &[u32]) -> usize
     let mut i: usize = 1;
     while i < n {
         let here = i;
-        let gap = std::num::wrapping_sub_u32(customer_at(reg, i), customer_at(reg, i - 1));
+        let gap = distance(customer_at(reg, i - 1), customer_at(reg, i));
         i += 1;
         if widest < gap {
             widest = gap;
@@ -118,18 +139,25 @@ fn cut(reg: &[u32]) -> usize
 }
 
 // The words of a part, from its first customer, its last, its first cell and the one behind its last.
-fn set_part(hints: &mut [u32], part: usize, base: u32, last: u32, first: usize, end: usize)
-    requires { ⌜ (part ≤ 5) × (headWords ≤ length (now hints)) × (first ≤ end) × (end ≤ 65535) ⌝ }
+fn set_part(
+    hints: &mut [u32],
+    part: usize,
+    base: AsNumber,
+    last: AsNumber,
+    first: usize,
+    end: usize,
+)
+    requires { ⌜ (part ≤ upperPart) × (firstCell ≤ length (now hints)) × (first ≤ end) × (end ≤ hintWords) ⌝ }
 {
-    hints[part] = base;
-    hints[part + 1] = exponent(std::num::wrapping_sub_u32(last, base), end - first);
-    hints[part + 2] = first as u32;
-    hints[part + 3] = end as u32;
+    hints[part] = base.0;
+    hints[part + EXPONENT] = exponent(distance(base, last), end - first);
+    hints[part + FIRST] = first as u32;
+    hints[part + END] = end as u32;
 }
 
 // Behind each record's cell: how many records there are up to this one.
 fn mark(reg: &[u32], hints: &mut [u32])
-    requires { ⌜ (registerOk (now reg) ≡ true) × (headWords ≤ length (now hints)) ⌝ }
+    requires { ⌜ (registerOk (now reg) ≡ true) × (firstCell ≤ length (now hints)) ⌝ }
 {
     let n = table::word(reg, 0);
     let mut i: usize = 0;
@@ -158,7 +186,7 @@ fn spread(hints: &mut [u32]) {
 
 // Fills words that are all 0 with hints for a register.
 pub fn fill(reg: &[u32], hints: &mut [u32])
-    requires { ⌜ (registerOk (now reg) ≡ true) × (headWords ≤ length (now hints)) ⌝ }
+    requires { ⌜ (registerOk (now reg) ≡ true) × (firstCell ≤ length (now hints)) ⌝ }
 {
     let n = table::word(reg, 0);
     if n == 0 {
@@ -181,7 +209,7 @@ pub fn fill(reg: &[u32], hints: &mut [u32])
         end,
         FIRST_CELL + CELLS,
     );
-    hints[0] = middle;
+    hints[0] = middle.0;
     mark(reg, hints);
     spread(hints);
 }
@@ -200,9 +228,9 @@ fn hint_at(hints: &[u32], at: usize, n: usize) -> usize
 }
 
 // A position that is not behind the customer's: the hint at an index, if the record before it bears it out.
-fn tested(reg: &[u32], hints: &[u32], at: usize, customer: u32) -> usize
+fn tested(reg: &[u32], hints: &[u32], at: usize, customer: AsNumber) -> usize
     requires { ⌜ registerOk (now reg) ≡ true ⌝ }
-    ensures { λ r. ⌜ r ≤ positionOf customer 0 (recordsOf (now (reg .entry))) ⌝ }
+    ensures { λ r. ⌜ r ≤ positionOf (customer .0) 0 (recordsOf (now (reg .entry))) ⌝ }
 {
     let low = hint_at(hints, at, table::word(reg, 0));
     if 0 < low {
@@ -214,9 +242,9 @@ fn tested(reg: &[u32], hints: &[u32], at: usize, customer: u32) -> usize
 }
 
 // One position further, if the record there stands before the customer's.
-fn advance(reg: &[u32], low: usize, customer: u32) -> usize
-    requires { ⌜ (registerOk (now reg) ≡ true) × (low ≤ positionOf customer 0 (recordsOf (now reg))) ⌝ }
-    ensures { λ r. ⌜ r ≤ positionOf customer 0 (recordsOf (now (reg .entry))) ⌝ }
+fn advance(reg: &[u32], low: usize, customer: AsNumber) -> usize
+    requires { ⌜ (registerOk (now reg) ≡ true) × (low ≤ positionOf (customer .0) 0 (recordsOf (now reg))) ⌝ }
+    ensures { λ r. ⌜ r ≤ positionOf (customer .0) 0 (recordsOf (now (reg .entry))) ⌝ }
 {
     let mut next = low;
     if low < table::word(reg, 0) {
@@ -228,9 +256,9 @@ fn advance(reg: &[u32], low: usize, customer: u32) -> usize
 }
 
 // A position that is not behind the customer's, near its hint; without hints, the first.
-fn low_end(reg: &[u32], hints: &[u32], customer: u32) -> usize
+fn low_end(reg: &[u32], hints: &[u32], customer: AsNumber) -> usize
     requires { ⌜ registerOk (now reg) ≡ true ⌝ }
-    ensures { λ r. ⌜ r ≤ positionOf customer 0 (recordsOf (now (reg .entry))) ⌝ }
+    ensures { λ r. ⌜ r ≤ positionOf (customer .0) 0 (recordsOf (now (reg .entry))) ⌝ }
 {
     if hints.len() < FIRST_CELL {
         return 0;
@@ -240,9 +268,9 @@ fn low_end(reg: &[u32], hints: &[u32], customer: u32) -> usize
 }
 
 // No record stands before the customer's from a position on. Without hints nothing is looked at, and the answer is no.
-fn is_high_end(reg: &[u32], hints: &[u32], low: usize, customer: u32) -> bool
+fn is_high_end(reg: &[u32], hints: &[u32], low: usize, customer: AsNumber) -> bool
     requires { ⌜ registerOk (now reg) ≡ true ⌝ }
-    ensures { λ r. ⌜ (r ≡ true → positionOf customer 0 (recordsOf (now (reg .entry))) ≤ low) ⌝ }
+    ensures { λ r. ⌜ (r ≡ true → positionOf (customer .0) 0 (recordsOf (now (reg .entry))) ≤ low) ⌝ }
 {
     if hints.len() < FIRST_CELL {
         return false;
@@ -255,9 +283,9 @@ fn is_high_end(reg: &[u32], hints: &[u32], low: usize, customer: u32) -> bool
 
 // Where a customer's records begin, or would: the position that `find` answers for source 0, whatever the hints are. Without hints it
 // looks at the same records.
-pub fn find(reg: &[u32], hints: &[u32], customer: u32) -> usize
+pub fn find(reg: &[u32], hints: &[u32], customer: AsNumber) -> usize
     requires { ⌜ registerOk (now reg) ≡ true ⌝ }
-    ensures { λ r. ⌜ r ≡ positionOf customer 0 (recordsOf (now (reg .entry))) ⌝ }
+    ensures { λ r. ⌜ r ≡ positionOf (customer .0) 0 (recordsOf (now (reg .entry))) ⌝ }
 {
     let low = low_end(reg, hints, customer);
     if is_high_end(reg, hints, low, customer) {

@@ -10,28 +10,48 @@ ghost use mathlib.Core.Bool.{true, false, cond, _&&_};
 ghost use Prim.Native.Nat.{_^_, _≤_, _<_};
 ghost use lib.ListN.{length, getD};
 ghost use Rattle.table.specs.Table.{Sound};
+ghost use Rattle.types.specs.Rows.{effect};
 ghost use Rattle.keyed.specs.Keyed.{samePair, beforePair, ascends, every};
 ghost use Rattle.types.specs.declared.Hop.the-variants.{NoAttestation, ProviderPlus, NotProviderPlus};
 ghost use Rattle.rules.specs.Records.{isIn, hopOf};
-ghost use Rattle.register.specs.Register.{mostBodyWords, recordsOf, recordAt, keyOf, rises, listOk, recordOk, recordsOk, registerOk, positionOf};
-ghost use Rattle.register.specs.Helpers.{descentsIn, Within};
-ghost use Rattle.register.specs.Calls.{holdsRecord, Passed, fileEffect, withdrawEffect, clearEffect};
+ghost use Rattle.register.specs.Register.{headWords, tailWords, mostListed, recordsOf, recordAt, keyOf, rises, listOk, recordOk, recordsOk, registerOk, positionOf};
+ghost use Rattle.register.specs.Helpers.{descentsIn, Within, Passed};
+ghost use Rattle.register.specs.Calls.{holdsRecord, fileEffect, withdrawEffect, clearEffect};
 
 pub mod hints;
 
-// The words of a register.
-pub const WORDS: usize = 12290;
+// ---- limits
 
 const MOST_RECORDS: usize = 1024;
 
-const MOST_BODY_WORDS: usize = 8192;
+// The numbers in all lists together.
+const MOST_LISTED: usize = 8192;
 
+// The numbers in one list.
 const MOST_PROVIDERS: usize = 256;
 
 const LAST_SOURCE: u32 = 7;
 
-// An entry of the register ends with its count.
-const NO_TAIL: [u32; 0] = [0u32; 0];
+// ---- layout
+
+// A record's slot: customer, source, where its list starts among the bodies, and how many numbers it has. The first two are its head.
+const HEAD: usize = 2;
+
+const TAIL: usize = 0;
+
+pub const WIDTH: usize = HEAD + table::SPAN + TAIL;
+
+const SOURCE: usize = 1;
+
+const START: usize = HEAD;
+
+const COUNT: usize = HEAD + 1;
+
+// The words of a register: two counts, and room for as many records and numbers as there may be.
+pub const WORDS: usize = table::COUNTERS + MOST_RECORDS * WIDTH + MOST_LISTED;
+
+// The tail of a slot.
+const NO_TAIL: [u32; TAIL] = [0u32; TAIL];
 
 // ---- the check
 
@@ -69,13 +89,15 @@ fn is_list(list: &[u32]) -> bool
 }
 
 // The pair (c1, s1) stands before the pair (c2, s2).
-fn is_before(c1: u32, s1: u32, c2: u32, s2: u32) -> bool
-    ensures { λ r. ⌜ r ≡ beforePair (c1, s1) (c2, s2) ⌝ }
+fn is_before(c1: AsNumber, s1: u32, c2: AsNumber, s2: u32) -> bool
+    ensures { λ r. ⌜ r ≡ beforePair (c1 .0, s1) (c2 .0, s2) ⌝ }
 {
-    if c1 < c2 {
+    let a = c1.0;
+    let b = c2.0;
+    if a < b {
         return true;
     }
-    if c1 == c2 {
+    if a == b {
         return s1 < s2;
     }
     false
@@ -101,25 +123,25 @@ fn descents(list: &[u32]) -> u32
 // Each record's own rules, and their order. The lists are read in one go: each of them ascends if no two numbers descend but where
 // one list ends and the next begins.
 fn are_records(reg: &[u32]) -> bool
-    requires { ⌜ Sound 2 0 (now reg) × (getD (now reg) 1 0 ≤ mostBodyWords) ⌝ }
+    requires { ⌜ Sound headWords tailWords (now reg) × (getD (now reg) 1 0 ≤ mostListed) ⌝ }
     ensures { λ r. ⌜ r ≡ (every recordOk (recordsOf (now (reg .entry))) && ascends keyOf samePair beforePair (recordsOf (now (reg .entry)))) ⌝ }
 {
     let n = table::word(reg, 0);
-    let bodies = 2 + n * 4;
+    let bodies = table::COUNTERS + n * WIDTH;
     let mut customer: u32 = 0;
     let mut source: u32 = 0;
     let mut between: u32 = 0;
     let mut from = bodies;
     let mut i: usize = 0;
     while i < n {
-        let at = 2 + i * 4;
+        let at = table::COUNTERS + i * WIDTH;
         let c = reg[at];
-        let s = reg[at + 1];
-        let count = table::word(reg, at + 3);
+        let s = reg[at + SOURCE];
+        let count = table::word(reg, at + COUNT);
         if (c == 0) | ((LAST_SOURCE < s) | ((count < 1) | (MOST_PROVIDERS < count))) {
             return false;
         }
-        if !is_before(customer, source, c, s) {
+        if !is_before(AsNumber(customer), source, AsNumber(c), s) {
             return false;
         }
         if bodies < from {
@@ -139,13 +161,13 @@ fn are_records(reg: &[u32]) -> bool
 pub fn is_register(reg: &[u32]) -> bool
     ensures { λ r. ⌜ r ≡ registerOk (now (reg .entry)) ⌝ }
 {
-    if !table::well_formed(reg, 2, 0) {
+    if !table::well_formed(reg, HEAD, TAIL) {
         return false;
     }
     if MOST_RECORDS < table::word(reg, 0) {
         return false;
     }
-    if MOST_BODY_WORDS < table::word(reg, 1) {
+    if MOST_LISTED < table::word(reg, 1) {
         return false;
     }
     are_records(reg)
@@ -154,18 +176,19 @@ pub fn is_register(reg: &[u32]) -> bool
 // ---- look-up
 
 // Record i stands before the pair of a customer and a source.
-fn stands_before(reg: &[u32], i: usize, customer: u32, source: u32) -> bool
+fn stands_before(reg: &[u32], i: usize, customer: AsNumber, source: u32) -> bool
     requires { ⌜ (registerOk (now reg) ≡ true) × (i < length (recordsOf (now reg))) ⌝ }
-    ensures { λ r. ⌜ r ≡ beforePair (keyOf (recordAt (recordsOf (now (reg .entry))) i)) (customer, source) ⌝ }
+    ensures { λ r. ⌜ r ≡ beforePair (keyOf (recordAt (recordsOf (now (reg .entry))) i)) (customer .0, source) ⌝ }
 {
-    let at = 2 + i * 4;
-    is_before(reg[at], reg[at + 1], customer, source)
+    let at = table::COUNTERS + i * WIDTH;
+    let c = reg[at];
+    is_before(AsNumber(c), reg[at + SOURCE], customer, source)
 }
 
 // The position of a pair, which is one of from..=to, by halves.
-fn search(reg: &[u32], from: usize, to: usize, customer: u32, source: u32) -> usize
-    requires { ⌜ Within (now reg) customer source from to ⌝ }
-    ensures { λ r. ⌜ r ≡ positionOf customer source (recordsOf (now (reg .entry))) ⌝ }
+fn search(reg: &[u32], from: usize, to: usize, customer: AsNumber, source: u32) -> usize
+    requires { ⌜ Within (now reg) (customer .0) source from to ⌝ }
+    ensures { λ r. ⌜ r ≡ positionOf (customer .0) source (recordsOf (now (reg .entry))) ⌝ }
 {
     let mut low = from;
     let mut high = to;
@@ -181,9 +204,9 @@ fn search(reg: &[u32], from: usize, to: usize, customer: u32, source: u32) -> us
 }
 
 // Where the record of a customer and a source stands, or would stand: how many records come before it.
-pub fn find(reg: &[u32], customer: u32, source: u32) -> usize
+fn find(reg: &[u32], customer: AsNumber, source: u32) -> usize
     requires { ⌜ registerOk (now reg) ≡ true ⌝ }
-    ensures { λ r. ⌜ (r ≡ positionOf customer source (recordsOf (now (reg .entry)))) × (r ≤ length (recordsOf (now (reg .entry)))) ⌝ }
+    ensures { λ r. ⌜ (r ≡ positionOf (customer .0) source (recordsOf (now (reg .entry)))) × (r ≤ length (recordsOf (now (reg .entry)))) ⌝ }
 {
     search(reg, 0, table::word(reg, 0), customer, source)
 }
@@ -191,14 +214,15 @@ pub fn find(reg: &[u32], customer: u32, source: u32) -> usize
 // ---- the record at a position
 
 // Whether the record at a position that `find` answered is the one looked for.
-fn is_at(reg: &[u32], position: usize, customer: u32, source: u32) -> bool
-    requires { ⌜ (registerOk (now reg) ≡ true) × (position ≡ positionOf customer source (recordsOf (now reg))) ⌝ }
-    ensures { λ r. ⌜ r ≡ holdsRecord customer source (recordsOf (now (reg .entry))) ⌝ }
+fn is_at(reg: &[u32], position: usize, customer: AsNumber, source: u32) -> bool
+    requires { ⌜ (registerOk (now reg) ≡ true) × (position ≡ positionOf (customer .0) source (recordsOf (now reg))) ⌝ }
+    ensures { λ r. ⌜ r ≡ holdsRecord (customer .0) source (recordsOf (now (reg .entry))) ⌝ }
 {
     if position < table::word(reg, 0) {
-        let at = 2 + position * 4;
-        if reg[at] == customer {
-            return reg[at + 1] == source;
+        let at = table::COUNTERS + position * WIDTH;
+        let c = customer.0;
+        if reg[at] == c {
+            return reg[at + SOURCE] == source;
         }
     }
     false
@@ -211,18 +235,20 @@ struct Listed {
 }
 
 // The loop has no early exit, so that the compiler takes several words at a time.
-fn scan(list: &[u32], y: u32, z: u32) -> Listed
-    ensures { λ r. ⌜ (r .y ≡ isIn y (now (list .entry))) × (r .z ≡ isIn z (now (list .entry))) ⌝ }
+fn scan(list: &[u32], y: AsNumber, z: AsNumber) -> Listed
+    ensures { λ r. ⌜ (r .y ≡ isIn (y .0) (now (list .entry))) × (r .z ≡ isIn (z .0) (now (list .entry))) ⌝ }
 {
+    let a = y.0;
+    let b = z.0;
     let mut has_y = false;
     let mut has_z = false;
     let mut i: usize = 0;
     while i < list.len() {
         let p = list[i];
-        if p == y {
+        if p == a {
             has_y = true;
         }
-        if p == z {
+        if p == b {
             has_z = true;
         }
         i += 1;
@@ -250,12 +276,12 @@ fn hop_by(attested: bool, listed: bool) -> Hop
 }
 
 // The hops from x to y and to z, where x's records begin at a position that `find` answered. Each list is read once for both.
-pub fn hops_from(reg: &[u32], position: usize, x: u32, y: u32, z: u32) -> Hops
-    requires { ⌜ (registerOk (now reg) ≡ true) × (position ≡ positionOf x 0 (recordsOf (now reg))) ⌝ }
-    ensures { λ r. ⌜ (r .y ≡ hopOf (recordsOf (now (reg .entry))) x y) × (r .z ≡ hopOf (recordsOf (now (reg .entry))) x z) ⌝ }
+pub fn hops_from(reg: &[u32], position: usize, x: AsNumber, y: AsNumber, z: AsNumber) -> Hops
+    requires { ⌜ (registerOk (now reg) ≡ true) × (position ≡ positionOf (x .0) 0 (recordsOf (now reg))) ⌝ }
+    ensures { λ r. ⌜ (r .y ≡ hopOf (recordsOf (now (reg .entry))) (x .0) (y .0)) × (r .z ≡ hopOf (recordsOf (now (reg .entry))) (x .0) (z .0)) ⌝ }
 {
     let n = table::word(reg, 0);
-    let bodies = 2 + n * 4;
+    let bodies = table::COUNTERS + n * WIDTH;
     let mut has_y = false;
     let mut has_z = false;
     let mut i = position;
@@ -263,12 +289,13 @@ pub fn hops_from(reg: &[u32], position: usize, x: u32, y: u32, z: u32) -> Hops
         if n <= i {
             break;
         }
-        let at = 2 + i * 4;
-        if reg[at] != x {
+        let slot = table::COUNTERS + i * WIDTH;
+        let c = x.0;
+        if reg[slot] != c {
             break;
         }
-        let from = bodies + table::word(reg, at + 2);
-        let to = from + table::word(reg, at + 3);
+        let from = bodies + table::word(reg, slot + START);
+        let to = from + table::word(reg, slot + COUNT);
         let listed = scan(&reg[from..to], y, z);
         has_y = has_y | listed.y;
         has_z = has_z | listed.z;
@@ -282,9 +309,9 @@ pub fn hops_from(reg: &[u32], position: usize, x: u32, y: u32, z: u32) -> Hops
 }
 
 // The hop from x to y alone.
-pub fn hop_from(reg: &[u32], position: usize, x: u32, y: u32) -> Hop
-    requires { ⌜ (registerOk (now reg) ≡ true) × (position ≡ positionOf x 0 (recordsOf (now reg))) ⌝ }
-    ensures { λ r. ⌜ r ≡ hopOf (recordsOf (now (reg .entry))) x y ⌝ }
+pub fn hop_from(reg: &[u32], position: usize, x: AsNumber, y: AsNumber) -> Hop
+    requires { ⌜ (registerOk (now reg) ≡ true) × (position ≡ positionOf (x .0) 0 (recordsOf (now reg))) ⌝ }
+    ensures { λ r. ⌜ r ≡ hopOf (recordsOf (now (reg .entry))) (x .0) (y .0) ⌝ }
 {
     let hops = hops_from(reg, position, x, y, y);
     hops.y
@@ -293,38 +320,42 @@ pub fn hop_from(reg: &[u32], position: usize, x: u32, y: u32) -> Hop
 // ---- the calls
 
 // A new record goes in at its position, if there is room for it.
-fn add(reg: &mut [u32], position: usize, source: u32, customer: u32, list: &[u32]) -> Filed
-    requires { ⌜ Passed (now reg) position source customer (now list) × (holdsRecord customer source (recordsOf (now reg)) ≡ false) ⌝ }
-    ensures { λ r. ⌜ (r ≡ fileEffect (now (reg .entry)) source customer (now (list .entry)) .answer) × (now (reg .exit) ≡ fileEffect (now (reg .entry)) source customer (now (list .entry)) .words) ⌝ }
+fn add(reg: &mut [u32], position: usize, source: u32, customer: AsNumber, list: &[u32]) -> Filed
+    requires { ⌜ Passed (now reg) position source (customer .0) (now list) × (holdsRecord (customer .0) source (recordsOf (now reg)) ≡ false) ⌝ }
+    ensures { λ r. ⌜ effect r (now (reg .exit)) ≡ fileEffect (now (reg .entry)) source (customer .0) (now (list .entry)) ⌝ }
 {
     if MOST_RECORDS <= table::word(reg, 0) {
         return Filed::Refused(Refusal::RegisterFull);
     }
-    if MOST_BODY_WORDS - table::word(reg, 1) < list.len() {
+    if MOST_LISTED - table::word(reg, 1) < list.len() {
         return Filed::Refused(Refusal::RegisterFull);
     }
-    let head = [customer, source];
-    table::insert(reg, 2, 0, position, &head, list, &NO_TAIL);
+    let c = customer.0;
+    let head = [c, source];
+    table::insert(reg, HEAD, TAIL, position, &head, list, &NO_TAIL);
     Filed::New
 }
 
 // A list takes the place of the one that stands under its pair, if there is room for it.
-fn replace(reg: &mut [u32], position: usize, source: u32, customer: u32, list: &[u32]) -> Filed
-    requires { ⌜ Passed (now reg) position source customer (now list) × (holdsRecord customer source (recordsOf (now reg)) ≡ true) ⌝ }
-    ensures { λ r. ⌜ (r ≡ fileEffect (now (reg .entry)) source customer (now (list .entry)) .answer) × (now (reg .exit) ≡ fileEffect (now (reg .entry)) source customer (now (list .entry)) .words) ⌝ }
+fn replace(reg: &mut [u32], position: usize, source: u32, customer: AsNumber, list: &[u32]) -> Filed
+    requires { ⌜ Passed (now reg) position source (customer .0) (now list) × (holdsRecord (customer .0) source (recordsOf (now reg)) ≡ true) ⌝ }
+    ensures { λ r. ⌜ effect r (now (reg .exit)) ≡ fileEffect (now (reg .entry)) source (customer .0) (now (list .entry)) ⌝ }
 {
-    let others = table::word(reg, 1) - table::word(reg, 2 + position * 4 + 3);
-    if MOST_BODY_WORDS - others < list.len() {
+    let others = table::word(reg, 1) - table::word(reg, table::COUNTERS + position * WIDTH + COUNT);
+    if MOST_LISTED - others < list.len() {
         return Filed::Refused(Refusal::RegisterFull);
     }
-    let head = [customer, source];
-    table::remove(reg, 2, 0, position);
-    table::insert(reg, 2, 0, position, &head, list, &NO_TAIL);
+    let c = customer.0;
+    let head = [c, source];
+    table::remove(reg, HEAD, TAIL, position);
+    table::insert(reg, HEAD, TAIL, position, &head, list, &NO_TAIL);
     Filed::Replaced
 }
 
+// File: a list goes in under the pair of its source and customer, in the place of the one that is there; no other list changes.
+// Answers whether it is new or replaced another. Rows 1, 2, 4, 5, 6, 8.
 pub fn file(reg: &mut [u32], source: u32, customer: AsNumber, list: &[u32]) -> Filed
-    ensures { λ r. ⌜ (r ≡ fileEffect (now (reg .entry)) source (customer .0) (now (list .entry)) .answer) × (now (reg .exit) ≡ fileEffect (now (reg .entry)) source (customer .0) (now (list .entry)) .words) ⌝ }
+    ensures { λ r. ⌜ effect r (now (reg .exit)) ≡ fileEffect (now (reg .entry)) source (customer .0) (now (list .entry)) ⌝ }
 {
     if reg.len() != WORDS {
         return Filed::Refused(Refusal::TableLength);
@@ -342,15 +373,16 @@ pub fn file(reg: &mut [u32], source: u32, customer: AsNumber, list: &[u32]) -> F
     if !is_list(list) {
         return Filed::Refused(Refusal::ProviderList);
     }
-    let position = find(reg, c, source);
-    if is_at(reg, position, c, source) {
-        return replace(reg, position, source, c, list);
+    let position = find(reg, customer, source);
+    if is_at(reg, position, customer, source) {
+        return replace(reg, position, source, customer, list);
     }
-    add(reg, position, source, c, list)
+    add(reg, position, source, customer, list)
 }
 
+// Withdraw: the list of one source and customer goes out; no other changes. Rows 1, 2, 4, 5, 7.
 pub fn withdraw(reg: &mut [u32], source: u32, customer: AsNumber) -> Removal
-    ensures { λ r. ⌜ (r ≡ withdrawEffect (now (reg .entry)) source (customer .0) .answer) × (now (reg .exit) ≡ withdrawEffect (now (reg .entry)) source (customer .0) .words) ⌝ }
+    ensures { λ r. ⌜ effect r (now (reg .exit)) ≡ withdrawEffect (now (reg .entry)) source (customer .0) ⌝ }
 {
     if reg.len() != WORDS {
         return Removal::Refused(Refusal::TableLength);
@@ -365,16 +397,17 @@ pub fn withdraw(reg: &mut [u32], source: u32, customer: AsNumber) -> Removal
     if c == 0 {
         return Removal::Refused(Refusal::CustomerZero);
     }
-    let position = find(reg, c, source);
-    if !is_at(reg, position, c, source) {
+    let position = find(reg, customer, source);
+    if !is_at(reg, position, customer, source) {
         return Removal::Refused(Refusal::NoRecord);
     }
-    table::remove(reg, 2, 0, position);
+    table::remove(reg, HEAD, TAIL, position);
     Removal::Done
 }
 
+// Clear: every list of one source goes out; no other changes. Answers how many records went, zero included. Rows 1, 2, 4.
 pub fn clear(reg: &mut [u32], source: u32) -> Cleared
-    ensures { λ r. ⌜ (r ≡ clearEffect (now (reg .entry)) source .answer) × (now (reg .exit) ≡ clearEffect (now (reg .entry)) source .words) ⌝ }
+    ensures { λ r. ⌜ effect r (now (reg .exit)) ≡ clearEffect (now (reg .entry)) source ⌝ }
 {
     if reg.len() != WORDS {
         return Cleared::Refused(Refusal::TableLength);
@@ -385,6 +418,6 @@ pub fn clear(reg: &mut [u32], source: u32) -> Cleared
     if LAST_SOURCE < source {
         return Cleared::Refused(Refusal::SourceNumber);
     }
-    let gone = table::clear(reg, 2, 0, 1, source);
+    let gone = table::clear(reg, HEAD, TAIL, SOURCE, source);
     Cleared::Gone(gone as u32)
 }

@@ -17,7 +17,8 @@ use Rattle.keyed.proofs.Orders.{ordered-ℕ, both-left, both-right, both-intro}
 use Rattle.keyed.proofs.Mapping.{every-map, ascends-map}
 use Rattle.rules.specs.Hops.{HopFunction}
 use Rattle.rules.specs.Verdicts.{judged}
-use Rattle.rules.proofs.Orders.{Within, places-within}
+use Rattle.rules.specs.Laws.{Within}
+use Rattle.rules.proofs.Orders.{places-within}
 use Rattle.ledger.specs.Routes.{Route, entryOf, keyOf, pathWords, pathOk, groundOk, routeOk, roomFor, routesOk}
 use Rattle.ledger.specs.Calls.{stamped, differs}
 use Rattle.ledger.proofs.Holding.{has-room, each-ok, in-order, has-role}

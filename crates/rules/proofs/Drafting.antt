@@ -1,21 +1,33 @@
--- The numbered steps of the draft give the word of the verdict. Assumes nothing.
+-- The draft's procedure gives the answer of the rules: verdict, places, gap and ground. Assumes nothing.
 use Prim.Native.Nat.{ℕ, zero, suc, _+_, _-_, _≤_, _<_}
-use mathlib.Core.Path.{_≡_, refl, sym, ap}
-use mathlib.Core.List.{List}
+use mathlib.Core.Path.{_≡_, refl, sym, _∙_}
+use mathlib.Core.List.{List, [], _∷_}
 use mathlib.Core.Bool.{Bool, true, false, cond, _&&_}
 use native.Mathlib.Omega.{arith}
 use borrow.Author.Tests.{ltb-true, ltb-false, leb-true, le-leb, lt-leb, eqb-true}
 use lib.Dec.{ltb, leb, eqb}
 use lib.ListN.{length}
-use Rattle.types.specs.declared.Verdict.{Verdict}
+use Rattle.types.specs.declared.Ground.the-variants.{NotNeighbour, AsSet}
 use Rattle.types.specs.declared.Verdict.the-variants.{Valid}
+use Rattle.types.specs.declared.Answer.{Answer}
+use Rattle.types.specs.declared.Judged.the-variants.{Answered}
+use Rattle.as_path.specs.declared.Grounded.{Grounded}
+use Rattle.as_path.specs.declared.Grounded.the-variants.{By, Not}
+use Rattle.as_path.specs.Segments.{numberBytes, Segment, segments}
+use Rattle.as_path.specs.Grounds.{isNotNeighbour, hasSet, groundOf}
+use Rattle.as_path.specs.Merging.{mergedPath}
+use Rattle.as_path.proofs.Contents.{merged-means, content-ground}
+use Rattle.as_path.proofs.MergedPaths.{merged-first}
 use Rattle.rules.specs.Hops.{HopFunction, isPlus, isNotPlus, isUnattested, up, lowest}
-use Rattle.rules.specs.Verdicts.{rampUp, rampDown, upstream, downstream}
-use Rattle.rules.specs.Draft.{outcomeOf, some, each, largestK, smallestL, draftUpstream, draftDownstream}
+use Rattle.rules.specs.Verdicts.{rampUp, rampDown, gapOf, upstream, downstream, judged}
+use Rattle.rules.specs.Judging.{judgedRoute}
+use Rattle.rules.specs.Draft.{some, each, largestK, smallestL, draftGap, draftUpstream, draftDownstream, draftJudged, onGround, draftRoute}
+use Rattle.rules.specs.Laws.{RampUp, RampDown}
 use Rattle.rules.proofs.Searching.{lowest-is, highest-is, lowest-only, highest-only}
-use Rattle.rules.proofs.Ramps.{RampUp, RampDown, ramp-up-is, ramp-down-is}
+use Rattle.rules.proofs.Ramps.{ramp-up-is, ramp-down-is}
 use Rattle.rules.proofs.Gaps.{near}
 use Rattle.rules.proofs.Orders.{either-order}
+use Rattle.rules.proofs.Judges.{Judgement, on-ground, on-path, answered}
 
 -- Some index of i..m passes where the lowest that passes is at most m.
 pub some-is : (test : ℕ → Bool) (i n m : ℕ) → i + n ≡ suc m → some test i n ≡ leb (lowest test i n) m
@@ -51,11 +63,6 @@ each-no test i (suc n) j a b f = go (each-no test (i + 1) n j) (ltb i j) refl
         let z : i ≡ j = omega (arith, ltb-false i j l) in
         rw (z, f)
 
--- The word of a verdict goes through a test.
-pub word : (t : Bool) (x y : Verdict) → outcomeOf (cond t x y) ≡ cond t (outcomeOf x) (outcomeOf y)
-word true x y = refl
-word false x y = refl
-
 module _ (hop : HopFunction) (path : List ℕ) (one : 1 ≤ length path) where
   -- The draft's K of step 5 is the end of the climb.
   pub largest-is : largestK hop path ≡ rampUp hop path
@@ -86,15 +93,19 @@ module _ (hop : HopFunction) (path : List ℕ) (one : 1 ≤ length path) where
         first = λ j a b. each-no _ j (length path - j) (rampDown hop path - 1) (omega arith) (omega arith) (l .ends (omega arith));
       })
 
-  -- Section 6.1, steps 3 to 6, gives the word of the upstream verdict.
-  pub draft-upstream : draftUpstream hop path ≡ outcomeOf (upstream hop path)
+  -- L - K of step 7 is the gap.
+  pub draft-gap : gapOf hop path ≡ draftGap hop path
+  draft-gap = rw (largest-is, smallest-is)
+
+  -- Section 6.1, steps 3 to 5, gives the upstream verdict.
+  pub draft-upstream : upstream hop path ≡ draftUpstream hop path
   unfolding draftUpstream upstream
   draft-upstream = go (eqb (length path) 1) refl
     where
       beyond : (test : ℕ → Bool) → length path ≡ 1 → leb (lowest test 2 (length path - 1)) (length path) ≡ false
       beyond test z = lt-leb (lowest test 2 (length path - 1)) (length path) (omega (arith, lowest-is test 2 (length path - 1) .low))
 
-      go : (b : Bool) → eqb (length path) 1 ≡ b → draftUpstream hop path ≡ outcomeOf (upstream hop path)
+      go : (b : Bool) → eqb (length path) 1 ≡ b → upstream hop path ≡ draftUpstream hop path
       go true e =
           let z : length path ≡ 1 = eqb-true _ _ e in
           rw (e, beyond (λ u. isNotPlus (up hop path u)) z, beyond (λ u. isUnattested (up hop path u)) z)
@@ -103,8 +114,6 @@ module _ (hop : HopFunction) (path : List ℕ) (one : 1 ≤ length path) where
             e,
             some-is (λ u. isNotPlus (up hop path u)) 2 (length path - 1) (length path) (omega arith),
             some-is (λ u. isUnattested (up hop path u)) 2 (length path - 1) (length path) (omega arith),
-            word,
-            word,
           )
 
   -- A path of at most two is Valid downstream: K is at least 1 and L at most 2.
@@ -114,11 +123,54 @@ module _ (hop : HopFunction) (path : List ℕ) (one : 1 ≤ length path) where
       let l : RampDown hop path (rampDown hop path) = ramp-down-is hop path one in
       rw (either-order hop path one, near (rampDown hop path) (rampUp hop path) (omega arith))
 
-  -- Section 6.2, steps 3 to 8, gives the word of the downstream verdict.
-  pub draft-downstream : draftDownstream hop path ≡ outcomeOf (downstream hop path)
+  -- Section 6.2.2, steps 3 to 7, gives the downstream verdict: u_min, v_max, K and L are its places.
+  pub draft-downstream : downstream hop path ≡ draftDownstream hop path
   unfolding draftDownstream downstream
   draft-downstream = go (leb (length path) 2) refl
     where
-      go : (b : Bool) → leb (length path) 2 ≡ b → draftDownstream hop path ≡ outcomeOf (downstream hop path)
-      go true e = rw e (sym (ap outcomeOf (short-valid (leb-true _ _ e))))
-      go false e = rw (e, largest-is, smallest-is, word, word)
+      go : (b : Bool) → leb (length path) 2 ≡ b → downstream hop path ≡ draftDownstream hop path
+      go true e = rw e (short-valid (leb-true _ _ e))
+      go false e = rw (e, largest-is, smallest-is)
+
+-- The answer for a path is the draft's, in every role.
+pub draft-judged : (hop : HopFunction) (path : List ℕ) (role : ℕ) → 1 ≤ length path → judged hop path role ≡ draftJudged hop path role
+unfolding judged draftJudged
+draft-judged hop path role one = rw (draft-upstream hop path one, draft-downstream hop path one, draft-gap hop path one)
+
+-- What is answered by the ground, if there is one.
+abbrev unlessGround : Grounded → Answer → Answer
+unlessGround (By g) a = onGround g
+unlessGround Not a = a
+
+-- The draft's procedure up to step 2 goes by the grounds of the rules.
+by-ground : (hop : HopFunction) (role neighbour : ℕ) (ss : List Segment)
+    → draftRoute hop role neighbour ss ≡ unlessGround (groundOf role neighbour ss) (draftJudged hop (mergedPath ss) role)
+unfolding draftRoute groundOf
+by-ground hop role neighbour [] = refl
+by-ground hop role neighbour (s ∷ ss) = go (isNotNeighbour role neighbour s) (hasSet (s ∷ ss)) _
+  where
+    go : (b c : Bool) (x : Answer)
+        → cond b (onGround NotNeighbour) (cond c (onGround AsSet) x) ≡ unlessGround (cond b (By NotNeighbour) (cond c (By AsSet) Not)) x
+    go true c x = refl
+    go false true x = refl
+    go false false x = refl
+
+-- What a judging answers is the draft's answer to the segments of the attribute.
+pub draft-route : (hop : HopFunction) (role neighbour : ℕ) (attribute : List ℕ) (a : Answer)
+    → judgedRoute hop role neighbour attribute ≡ Answered a → draftRoute hop role neighbour (segments numberBytes attribute) ≡ a
+draft-route hop role neighbour attribute a e = by-ground hop role neighbour (segments numberBytes attribute) ∙ go (answered hop role neighbour attribute a e)
+  where
+    ss : List Segment
+    ss = segments numberBytes attribute
+
+    go : Judgement hop role neighbour attribute → unlessGround (groundOf role neighbour ss) (draftJudged hop (mergedPath ss) role) ≡ a
+    go (on-ground g c j) =
+        let f : Answered (onGround g) ≡ Answered a = sym j ∙ e in
+        let z : onGround g ≡ a = cc in
+        rw (content-ground role neighbour attribute _ _ refl refl .0 g c) z
+    go (on-path path c short j) =
+        let f : Answered (judged hop path role) ≡ Answered a = sym j ∙ e in
+        let z : judged hop path role ≡ a = cc in
+        let m = merged-means role neighbour attribute path c in
+        let n = merged-first numberBytes attribute (m .clean) (m .some) in
+        rw (content-ground role neighbour attribute _ _ refl refl .1 path c) (sym (draft-judged hop (mergedPath ss) role (n .0)) ∙ rw (m .same) at z)

@@ -14,7 +14,8 @@ use mir.Val.{SFits}
 use Rattle.types.specs.declared.Hop.the-variants.{NoAttestation, ProviderPlus}
 use Rattle.rules.specs.Hops.{HopFunction}
 use Rattle.rules.specs.Verdicts.{rampUp, rampDown, gapOf}
-use Rattle.rules.proofs.Ramps.{RampUp, RampDown, ramp-up-is, ramp-up-only, ramp-down-is, ramp-down-only}
+use Rattle.rules.specs.Laws.{RampUp, RampDown}
+use Rattle.rules.proofs.Ramps.{ramp-up-is, ramp-up-only, ramp-down-is, ramp-down-only}
 
 -- The ramps do not overlap (K at most L): the gap is a natural number.
 pub over : (l k : ℕ) → k ≤ l → pos l -ℤ pos k ≡ pos (l - k)
@@ -62,20 +63,21 @@ crosswise l k l' k' h = go (ltb l k) (ltb l' k') refl refl
         let a' : k' ≤ l' = ltb-false l' k' e' in
         rw (over l k a, over l' k' a') (record { le = le→leb (l - k) (l' - k') (omega arith) })
 
-module _ (hop : HopFunction) (path : List ℕ) (one : 1 ≤ length path) where
-  -- The gap is never below 1 - N.
-  pub gap-low : (pos 1 -ℤ pos (length path)) ≤ℤ gapOf hop path
+-- Of a path of at most n numbers.
+module _ (hop : HopFunction) (path : List ℕ) (one : 1 ≤ length path) (n : ℕ) (few : length path ≤ n) where
+  -- The gap is never below 1 - n.
+  pub gap-low : (pos 1 -ℤ pos n) ≤ℤ gapOf hop path
   gap-low =
       let k : RampUp hop path (rampUp hop path) = ramp-up-is hop path one in
       let l : RampDown hop path (rampDown hop path) = ramp-down-is hop path one in
-      crosswise 1 (length path) (rampDown hop path) (rampUp hop path) (omega arith)
+      crosswise 1 n (rampDown hop path) (rampUp hop path) (omega arith)
 
-  -- And never above N - 1.
-  pub gap-high : gapOf hop path ≤ℤ (pos (length path) -ℤ pos 1)
+  -- And never above n - 1.
+  pub gap-high : gapOf hop path ≤ℤ (pos n -ℤ pos 1)
   gap-high =
       let k : RampUp hop path (rampUp hop path) = ramp-up-is hop path one in
       let l : RampDown hop path (rampDown hop path) = ramp-down-is hop path one in
-      crosswise (rampDown hop path) (rampUp hop path) (length path) 1 (omega arith)
+      crosswise (rampDown hop path) (rampUp hop path) n 1 (omega arith)
 
 module _ (path : List ℕ) (one : 1 ≤ length path) where
   -- Where every hop is Provider+, K is N and L is 1: the least gap, at every N.

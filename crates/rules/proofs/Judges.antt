@@ -25,6 +25,11 @@ use Rattle.rules.specs.Hops.{HopFunction}
 use Rattle.rules.specs.Verdicts.{judged}
 use Rattle.rules.specs.Judging.{argumentRows, contentRow, judgeRows, answerTo, unlessGiven, judgedRoute}
 
+-- The refusal of a judging.
+abbrev pub refusalOf : Judged → Option Refusal
+refusalOf (Answered a) = none
+refusalOf (Refused r) = some r
+
 -- The first given of two lists of rows.
 pub first-append : (xs ys : List (Option Refusal)) → firstGiven (xs ++ ys) ≡ orElse (firstGiven xs) (firstGiven ys)
 unfolding firstGiven
@@ -84,3 +89,7 @@ module _ (hop : HopFunction) (role neighbour : ℕ) (attribute : List ℕ) where
   judged-arguments e =
       let given = accepted-none (judgeRows role neighbour attribute) e in
       (not-false _ (row-passed _ _ (given 0)), row-passed _ _ (given 1))
+
+  -- A judging that is answered is not refused.
+  pub answered : (a : Answer) → judgedRoute hop role neighbour attribute ≡ Answered a → Judgement
+  answered a e = judgement (sym (judged-reads refusalOf (λ r. refl) (λ a. refl)) ∙ ap refusalOf e)

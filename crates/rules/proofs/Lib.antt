@@ -5,3 +5,5 @@ pub mod Orders
 pub mod Locality
 pub mod Drafting
 pub mod Judges
+pub mod Laws
+pub mod Edges

@@ -8,13 +8,9 @@ use lib.ListN.{length}
 use Rattle.types.specs.declared.Hop.{Hop}
 use Rattle.rules.specs.Hops.{HopFunction, isPlus, isNotPlus, isUnattested, asAt, up, down, lowest, highest}
 use Rattle.rules.specs.Verdicts.{rampUp, rampDown, upstream, downstream, judged}
+use Rattle.rules.specs.Laws.{SameHops}
 use Rattle.rules.proofs.Searching.{lowest-same, highest-same}
 use Rattle.rules.proofs.Ramps.{ramp-up-lowest, ramp-down-highest}
-
--- Two hop functions say the same, both ways, of every two neighbours of the path.
-pub record SameHops (hop hop' : HopFunction) (path : List ℕ) : Type 0 where
-  pub upward : (i : ℕ) → 1 ≤ i → i < length path → hop (asAt path i) (asAt path (i + 1)) ≡ hop' (asAt path i) (asAt path (i + 1))
-  pub downward : (i : ℕ) → 1 ≤ i → i < length path → hop (asAt path (i + 1)) (asAt path i) ≡ hop' (asAt path (i + 1)) (asAt path i)
 
 module _ {hop hop' : HopFunction} {path : List ℕ} (same : SameHops hop hop' path) where
   -- A search upward of the path finds the same, whatever its test of a hop.

@@ -11,13 +11,12 @@ use lib.IntN.{pos}
 use lib.Signed.{leZ}
 use Rattle.types.specs.declared.Hop.{Hop}
 use Rattle.types.specs.declared.Hop.the-variants.{NoAttestation, ProviderPlus, NotProviderPlus}
-use Rattle.types.specs.declared.Cause.the-variants.{ByHops}
 use Rattle.types.specs.declared.Verdict.{Verdict}
 use Rattle.types.specs.declared.Verdict.the-variants.{Valid, Invalid, Unknown}
-use Rattle.types.specs.Numbers.{placeA, placeB}
 use Rattle.rules.specs.Hops.{HopFunction, isPlus, isNotPlus, up, down}
-use Rattle.rules.specs.Verdicts.{lowestNotPlus, lowestUnattested, highestNotPlus, rampUp, rampDown, gapOf, upstream, downstream}
-use Rattle.rules.proofs.Searching.{Lowest, Highest, lowest-is, highest-is}
+use Rattle.rules.specs.Verdicts.{lowestNotPlus, lowestUnattested, highestNotPlus, rampUp, rampDown, gapOf, downCause, upstream, downstream}
+use Rattle.rules.specs.Laws.{Lowest, Highest, Within}
+use Rattle.rules.proofs.Searching.{lowest-is, highest-is}
 use Rattle.rules.proofs.Ramps.{ramp-up-is, ramp-down-is}
 use Rattle.rules.proofs.Gaps.{far}
 
@@ -26,11 +25,6 @@ pub one-answer {ℓ} : {X : Type ℓ} (h : Hop) → isNotPlus h ≡ true → isP
 one-answer NoAttestation e f = absurd (true≢false (sym e))
 one-answer ProviderPlus e f = absurd (true≢false (sym e))
 one-answer NotProviderPlus e f = absurd (true≢false (sym f))
-
--- Both places of a verdict are at most n.
-pub record Within (n : ℕ) (v : Verdict) : Type 0 where
-  pub a : placeA v ≤ n
-  pub b : placeB v ≤ n
 
 -- Two tests that do not both pass may be made in either order.
 pub swapped : (s t : Bool) (x y z : Verdict) → (s ≡ true → t ≡ false) → cond s x (cond t y z) ≡ cond t y (cond s x z)
@@ -79,7 +73,7 @@ module _ (hop : HopFunction) (path : List ℕ) (one : 1 ≤ length path) where
   pub either-order :
       downstream hop path
       ≡ cond (leZ (gapOf hop path) (pos 1)) Valid
-      (cond (leb (lowestNotPlus hop path) (highestNotPlus hop path)) (Invalid (ByHops (lowestNotPlus hop path) (highestNotPlus hop path)))
+      (cond (leb (lowestNotPlus hop path) (highestNotPlus hop path)) (Invalid (downCause hop path (lowestNotPlus hop path) (highestNotPlus hop path)))
       (Unknown (rampUp hop path) (rampDown hop path)))
   unfolding downstream
   either-order = swapped _ _ _ _ _ (λ e. not-both (leb-true _ _ e))

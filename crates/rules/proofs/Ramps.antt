@@ -10,21 +10,8 @@ use lib.Dec.{ltb}
 use lib.ListN.{length}
 use Rattle.rules.specs.Hops.{HopFunction, isPlus, up, down, lowest, highest, climb, descend}
 use Rattle.rules.specs.Verdicts.{rampUp, rampDown}
-use Rattle.rules.proofs.Searching.{Lowest, Highest, lowest-is, highest-is}
-
--- The up-ramp reaches from AS(1) to AS(k): the hops up to k are Provider+, and the next, if there is one, is not.
-pub record RampUp (hop : HopFunction) (path : List ℕ) (k : ℕ) : Type 0 where
-  pub low : 1 ≤ k
-  pub high : k ≤ length path
-  pub plus : (i : ℕ) → 1 ≤ i → i < k → isPlus (up hop path (i + 1)) ≡ true
-  pub ends : k < length path → isPlus (up hop path (k + 1)) ≡ false
-
--- The down-ramp reaches from AS(N) to AS(l): the hops down to l are Provider+, and the next, if there is one, is not.
-pub record RampDown (hop : HopFunction) (path : List ℕ) (l : ℕ) : Type 0 where
-  pub low : 1 ≤ l
-  pub high : l ≤ length path
-  pub plus : (j : ℕ) → l ≤ j → j < length path → isPlus (down hop path j) ≡ true
-  pub ends : 1 < l → isPlus (down hop path (l - 1)) ≡ false
+use Rattle.rules.specs.Laws.{Lowest, Highest, RampUp, RampDown}
+use Rattle.rules.proofs.Searching.{lowest-is, highest-is}
 
 module _ (hop : HopFunction) (path : List ℕ) where
   -- The upward hop to AS(u) is not Provider+.

@@ -6,20 +6,7 @@ use native.Mathlib.Omega.{arith}
 use borrow.Author.Tests.{ltb-true, ltb-false}
 use lib.Dec.{ltb}
 use Rattle.rules.specs.Hops.{lowest, highest}
-
--- r is the lowest of the n indices from i on that passes the test, or the one after them.
-pub record Lowest (test : ℕ → Bool) (i n r : ℕ) : Type 0 where
-  pub low : i ≤ r
-  pub high : r ≤ i + n
-  pub passes : r < i + n → test r ≡ true
-  pub first : (j : ℕ) → i ≤ j → j < r → test j ≡ false
-
--- r is the highest of the n indices from i on that passes the test, or the one before them.
-pub record Highest (test : ℕ → Bool) (i n r : ℕ) : Type 0 where
-  pub low : i ≤ r + 1
-  pub high : r < i + n
-  pub passes : i ≤ r → test r ≡ true
-  pub last : (j : ℕ) → r < j → j < i + n → test j ≡ false
+use Rattle.rules.specs.Laws.{Lowest, Highest}
 
 -- The search upward finds the lowest.
 pub lowest-is : (test : ℕ → Bool) (i n : ℕ) → Lowest test i n (lowest test i n)

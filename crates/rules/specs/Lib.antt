@@ -3,4 +3,5 @@ pub mod Records
 pub mod Verdicts
 pub mod Judging
 pub mod Draft
+pub mod Laws
 pub mod Vectors

@@ -18,11 +18,11 @@ use Rattle.as_path.specs.Segments.{numberAt, numbersAt, startsFrom, starts, seg
 use Rattle.as_path.specs.Faults.{numbersFault, segmentFault, faultAmong, firstFault}
 use Rattle.as_path.specs.Grounds.{hasSet, groundOf}
 use Rattle.as_path.specs.Merging.{runsAfter, mergeRuns, mergedPath}
-use Rattle.as_path.specs.Reading.{contentOf}
+use Rattle.as_path.specs.Reading.{mostNumbers, contentOf}
 use Rattle.rules.specs.Hops.{lowest, highest, climb, descend}
 use Rattle.rules.specs.Records.{Record, isIn, attested, united, hopOf}
 use Rattle.rules.specs.Verdicts.{upstream, downstream, judged}
-use Rattle.rules.specs.Judging.{judgedRoute}
+use Rattle.rules.specs.Judging.{mostBytes, judgedRoute}
 
 -- Four bytes a number, high byte first.
 unfoldable pub bytes : List ℕ → List ℕ
@@ -56,7 +56,7 @@ pub record Vector : Type 0 where
 abbrev vector : ℕ → ℕ → List ℕ → Judged → Vector
 vector r n p a = record { role = r; neighbour = n; path = p; answer = a }
 
-abbrev plain : Verdict → Judged
+abbrev pub plain : Verdict → Judged
 plain v = Answered (Plain v)
 
 abbrev gapped : Verdict → ℤ → Judged
@@ -95,26 +95,35 @@ pub attribute-a : sequence (20 ∷ 10 ∷ []) ≡ 2 ∷ 2 ∷ 0 ∷ 0 ∷ 0 ∷ 
 unfolding bytes
 attribute-a = refl
 
--- The edges, over an empty register: a path of n numbers from x on.
-unfoldable pub count : ℕ → ℕ → List ℕ
-count zero x = []
-count (suc n) x = x ∷ count n (x + 1)
+-- ---- the edges, over an empty register
 
--- 255 numbers in two segments: 1,024 bytes. Merged, each segment is one number.
-abbrev longest : List ℕ
-longest = sequence (replicate 200 20) ++ sequence (replicate 55 20)
+unfoldable pub repeated : {A : Type 0} → ℕ → List A → List A
+repeated zero l = []
+repeated (suc n) l = l ++ repeated n l
 
-abbrev judgedEmpty : List ℕ → Judged
+-- A path of n numbers: as many segments, each of one number. No run crosses from one to the next.
+abbrev pub numbered : ℕ → List ℕ
+numbered n = repeated n (sequence (20 ∷ []))
+
+-- Two segments, of 1 and 254 numbers, are 1,024 bytes. Merged, each is one number.
+abbrev pub two : List ℕ
+two = sequence (20 ∷ []) ++ sequence (replicate 254 20)
+
+-- An attribute of the most bytes.
+abbrev pub longest : List ℕ
+longest = repeated (mostBytes / length two) two
+
+abbrev pub judgedEmpty : List ℕ → Judged
 judgedEmpty attribute = judgedRoute (hopOf []) 1 20 attribute
 
-pub edges :
-    map judgedEmpty ([] ∷ (2 ∷ []) ∷ sequence (count 64 20) ∷ sequence (count 65 20) ∷ longest ∷ (longest ++ (2 ∷ [])) ∷ [])
-    ≡ plain (Invalid (ByGround Empty))
-    ∷ Refused (Attribute CutShort 0)
-    ∷ plain (Unknown 2 0)
-    ∷ Refused PathLength
-    ∷ plain (Unknown 2 0)
-    ∷ Refused AttributeLength
-    ∷ []
-unfolding count judgedRoute firstGiven contentOf numberAt numbersAt startsFrom starts segments numbersFault segmentFault faultAmong firstFault hasSet groundOf runsAfter mergeRuns mergedPath lowest highest climb descend isIn attested united hopOf upstream downstream judged bytes
-edges = refl
+-- Written from the limits; proofs/Edges.antt has the proof.
+pub record Edges : Type 0 where
+  -- Nothing, and one byte.
+  pub empty : judgedEmpty [] ≡ plain (Invalid (ByGround Empty))
+  pub lone-byte : judgedEmpty (2 ∷ []) ≡ Refused (Attribute CutShort 0)
+  -- A path of the most numbers, and of one more.
+  pub most-numbers : judgedEmpty (numbered mostNumbers) ≡ plain (Unknown 2 0)
+  pub one-number-more : judgedEmpty (numbered (mostNumbers + 1)) ≡ Refused PathLength
+  -- An attribute of the most bytes, and of one more.
+  pub most-bytes : judgedEmpty longest ≡ plain (Unknown 2 0)
+  pub one-byte-more : judgedEmpty (longest ++ (2 ∷ [])) ≡ Refused AttributeLength

@@ -6,6 +6,7 @@ use lib.ListN.{length}
 use lib.IntN.{ℤ, pos, _-ℤ_}
 use lib.Signed.{leZ}
 use lib.Dec.{leb}
+use Rattle.types.specs.declared.Cause.{Cause}
 use Rattle.types.specs.declared.Cause.the-variants.{ByHops}
 use Rattle.types.specs.declared.Verdict.{Verdict}
 use Rattle.types.specs.declared.Verdict.the-variants.{Valid, Invalid, Unknown}
@@ -38,15 +39,22 @@ module _ (hop : HopFunction) (path : List ℕ) where
   abbrev pub gapOf : ℤ
   gapOf = pos rampDown -ℤ pos rampUp
 
+  -- The cause of an Invalid upstream at the hop to u, and downstream at the hops to u and v. A cause that says more says it here.
+  abbrev pub upCause : ℕ → Cause
+  upCause u = ByHops u 0
+
+  abbrev pub downCause : ℕ → ℕ → Cause
+  downCause u v = ByHops u v
+
   unfoldable pub upstream : Verdict
   upstream =
-      cond (leb lowestNotPlus (length path)) (Invalid (ByHops lowestNotPlus 0))
+      cond (leb lowestNotPlus (length path)) (Invalid (upCause lowestNotPlus))
       (cond (leb lowestUnattested (length path)) (Unknown lowestUnattested 0)
       Valid)
 
   unfoldable pub downstream : Verdict
   downstream =
-      cond (leb lowestNotPlus highestNotPlus) (Invalid (ByHops lowestNotPlus highestNotPlus))
+      cond (leb lowestNotPlus highestNotPlus) (Invalid (downCause lowestNotPlus highestNotPlus))
       (cond (leZ gapOf (pos 1)) Valid
       (Unknown rampUp rampDown))
 

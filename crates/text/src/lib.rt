@@ -100,7 +100,8 @@ fn pair_value(a: u8, b: u8) -> u32
 // Two digits a byte, up to the first two that are no byte.
 fn read_hex(word: &[u8], into: &mut [u8]) -> Bytes
     requires { ⌜ length (now word) ≤ 2 * length (now into) ⌝ }
-    ensures { λ r. ⌜ (r ≡ hexOf (now (word .entry))) × (now (into .exit) ≡ hexStored (now (into .entry)) (now (word .entry))) × (readCount r ≤ length (now (into .entry))) ⌝ }
+    ensures { λ r. ⌜ (r ≡ hexOf (now (word .entry))) × (now (into .exit) ≡ hexStored (now (into .entry)) (now (word .entry)))
+        × (readCount r ≤ length (now (into .entry))) ⌝ }
 {
     let mut i = 0;
     let mut n = 0;
@@ -122,7 +123,8 @@ fn read_hex(word: &[u8], into: &mut [u8]) -> Bytes
 // Lowercase hex, two digits a byte, and `-` for none.
 pub fn read_bytes(word: &[u8], into: &mut [u8]) -> Bytes
     requires { ⌜ length (now word) ≤ 2 * length (now into) ⌝ }
-    ensures { λ r. ⌜ (r ≡ bytesOf (now (word .entry))) × (now (into .exit) ≡ bytesStored (now (into .entry)) (now (word .entry))) × (readCount r ≤ length (now (into .entry))) ⌝ }
+    ensures { λ r. ⌜ (r ≡ bytesOf (now (word .entry))) × (now (into .exit) ≡ bytesStored (now (into .entry)) (now (word .entry)))
+        × (readCount r ≤ length (now (into .entry))) ⌝ }
 {
     if word.len() == 0 {
         return Bytes::Bad;

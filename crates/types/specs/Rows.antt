@@ -1,16 +1,22 @@
 -- Refusals in the order of the rows ("Refusals"): a call's rows are listed in order, and the first that is given refuses it.
 use Prim.Native.Nat.{ℕ, _≤_, _<_}
 use mathlib.Core.Path.{_≡_}
-use mathlib.Core.Bool.{Bool, cond}
+use mathlib.Core.Bool.{Bool, not, cond}
 use mathlib.Core.List.{List, [], _∷_}
 use mathlib.Core.Option.{Option, none, some}
-use lib.ListN.{getD}
+use lib.Dec.{eqb}
+use lib.ListN.{length, getD}
 use Rattle.types.specs.declared.Refusal.{Refusal}
+use Rattle.types.specs.declared.Refusal.the-variants.{TableLength}
 use Rattle.types.specs.Numbers.{refusalNumber}
 
 -- A row is given if its test passes.
 abbrev pub rowIf : Bool → Refusal → Option Refusal
 rowIf test r = cond test (some r) none
+
+-- Row 1 for one lent table, which has so many words.
+abbrev pub lengthRow : ℕ → List ℕ → Option Refusal
+lengthRow size ws = rowIf (not (eqb (length ws) size)) TableLength
 
 abbrev pub orElse : Option Refusal → Option Refusal → Option Refusal
 orElse (some r) next = some r

@@ -9,13 +9,12 @@ use lib.Dec.{leb}
 use lib.ListN.{length}
 use lib.IntN.{ℤ, pos, _-ℤ_}
 use lib.Signed.{leZ}
-use Rattle.types.specs.declared.Cause.the-variants.{ByHops}
 use Rattle.types.specs.declared.Verdict.{Verdict}
 use Rattle.types.specs.declared.Verdict.the-variants.{Valid, Invalid, Unknown}
 use Rattle.types.specs.declared.Answer.the-variants.{Plain, WithGap}
 use Rattle.types.specs.Roles.{isUpstream}
 use Rattle.rules.specs.Hops.{HopFunction, isNotPlus, up, down}
-use Rattle.rules.specs.Verdicts.{upstream, downstream, judged}
+use Rattle.rules.specs.Verdicts.{downCause, upstream, downstream, judged}
 use Rattle.rules.proofs.Searching.{lowest-is, highest-is}
 use Rattle.rules.proofs.Ramps.{ramp-up-is, ramp-down-is}
 use Rattle.rules.proofs.Gaps.{near, far}
@@ -51,7 +50,7 @@ module _ (hop : HopFunction) (path : List ℕ) (role : ℕ) where
     by-indices :
         judged hop path role
         ≡ WithGap
-        (cond (leb (r .u) (r .v)) (Invalid (ByHops (r .u) (r .v)))
+        (cond (leb (r .u) (r .v)) (Invalid (downCause hop path (r .u) (r .v)))
         (cond (leZ (pos (r .l) -ℤ pos (r .k)) (pos 1)) Valid
         (Unknown (r .k) (r .l))))
         g
@@ -59,7 +58,7 @@ module _ (hop : HopFunction) (path : List ℕ) (role : ℕ) where
     by-indices = rw (t, d, e)
 
     -- u at most v.
-    pub judged-invalid : r .u ≤ r .v → WithGap (Invalid (ByHops (r .u) (r .v))) g ≡ judged hop path role
+    pub judged-invalid : r .u ≤ r .v → WithGap (Invalid (downCause hop path (r .u) (r .v))) g ≡ judged hop path role
     judged-invalid h = rw (by-indices, le-leb (r .u) (r .v) h)
 
     -- u above v, and the gap at most 1.

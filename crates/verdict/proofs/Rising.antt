@@ -8,10 +8,9 @@ use borrow.Author.Tests.{le-leb, lt-leb}
 use lib.Dec.{ltb}
 use lib.ListN.{length}
 use Rattle.types.specs.declared.Hop.{Hop}
-use Rattle.types.specs.declared.Cause.the-variants.{ByHops}
 use Rattle.types.specs.declared.Verdict.the-variants.{Valid, Invalid, Unknown}
 use Rattle.rules.specs.Hops.{HopFunction, isNotPlus, isUnattested, asAt, up}
-use Rattle.rules.specs.Verdicts.{upstream}
+use Rattle.rules.specs.Verdicts.{upCause, upstream}
 use Rattle.verdict.proofs.Turns.{First, first-starts, first-met, first-missed, first-on, first-done}
 
 -- The upward hop to AS(i + 1), as the code reads it.
@@ -37,7 +36,7 @@ module _ {hop : HopFunction} {path : List ℕ} {a i : ℕ} (g : Rising hop path 
     read = upward hop path i ∙ sym e
 
     -- One that is Not Provider+ ends the loop.
-    pub rises-refused : isNotPlus x ≡ true → Invalid (ByHops (i + 1) 0) ≡ upstream hop path
+    pub rises-refused : isNotPlus x ≡ true → Invalid (upCause hop path (i + 1)) ≡ upstream hop path
     unfolding upstream
     rises-refused z =
         rw (first-met (g .refused) h (omega arith) (ap isNotPlus read ∙ z), le-leb (i + 1) (length path) (omega arith))

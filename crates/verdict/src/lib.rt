@@ -1,35 +1,36 @@
 // The verdict of a path over a register's records.
 use types::Answer;
+use types::AsNumber;
 use types::Cause;
 use types::Hop;
 use types::Role;
 use types::Verdict;
 ghost use mathlib.Core.Path.{_≡_};
-ghost use mathlib.Core.Bool.{true};
-ghost use Prim.Native.Nat.{_≤_};
+ghost use Prim.Native.Nat.{_+_, _≤_};
 ghost use lib.ListN.{length};
 ghost use Rattle.types.specs.Numbers.{roleNumber};
 ghost use Rattle.rules.specs.Hops.{asAt};
 ghost use Rattle.rules.specs.Records.{hopOf};
 ghost use Rattle.rules.specs.Verdicts.{judged};
 ghost use Rattle.rules.specs.Verdicts as verdicts;
-ghost use Rattle.register.specs.Register.{recordsOf, registerOk};
+ghost use Rattle.register.specs.Register.{recordsOf};
+ghost use Rattle.verdict.specs.Helpers.{longestPath, Judgeable};
 ghost use Rattle.verdict.specs.Ramps.{rampsOf, afterUp, afterDown};
 
 // Whoever has one path to judge has no hints.
 pub const NO_HINTS: [u32; 0] = [0u32; 0];
 
 // u, v, K and L of a path.
-pub struct Ramps {
-    pub u: usize,
-    pub v: usize,
-    pub k: usize,
-    pub l: usize,
+struct Ramps {
+    u: usize,
+    v: usize,
+    k: usize,
+    l: usize,
 }
 
 // Upstream, one look-up for each number but the last.
 fn upstream(reg: &[u32], hints: &[u32], path: &[u32]) -> Verdict
-    requires { ⌜ (registerOk (now reg) ≡ true) × (1 ≤ length (now path)) × (length (now path) ≤ 65535) ⌝ }
+    requires { ⌜ Judgeable (now reg) (now path) ⌝ }
     ensures { λ r. ⌜ r ≡ verdicts.upstream (hopOf (recordsOf (now (reg .entry)))) (now (path .entry)) ⌝ }
 {
     let n = path.len();
@@ -39,10 +40,11 @@ fn upstream(reg: &[u32], hints: &[u32], path: &[u32]) -> Verdict
         let u = i + 1;
         let x = path[n - i];
         let y = path[n - u];
-        let position = register::hints::find(reg, hints, x);
-        let hop = register::hop_from(reg, position, x, y);
+        let position = register::hints::find(reg, hints, AsNumber(x));
+        let hop = register::hop_from(reg, position, AsNumber(x), AsNumber(y));
         if rules::is_not_plus(hop) {
-            return Verdict::Invalid(Cause::ByHops(u as u32, 0));
+            let a = u as u32;
+            return Verdict::Invalid(Cause::ByHops(a, 0));
         }
         if rules::is_unattested(hop) & (n < unattested) {
             unattested = u;
@@ -50,14 +52,15 @@ fn upstream(reg: &[u32], hints: &[u32], path: &[u32]) -> Verdict
         i = u;
     }
     if unattested <= n {
-        return Verdict::Unknown(unattested as u32, 0);
+        let a = unattested as u32;
+        return Verdict::Unknown(a, 0);
     }
     Verdict::Valid
 }
 
 // The indices after the hop from AS(i) to AS(i + 1).
 fn after_up(r: Ramps, n: usize, i: usize, hop: Hop) -> Ramps
-    requires { ⌜ i ≤ 65535 ⌝ }
+    requires { ⌜ i ≤ longestPath ⌝ }
     ensures { λ s. ⌜ s ≡ afterUp r n i hop ⌝ }
 {
     let mut u = r.u;
@@ -78,7 +81,7 @@ fn after_up(r: Ramps, n: usize, i: usize, hop: Hop) -> Ramps
 
 // The indices after the hop from AS(i + 1) to AS(i).
 fn after_down(r: Ramps, i: usize, hop: Hop) -> Ramps
-    requires { ⌜ i ≤ 65535 ⌝ }
+    requires { ⌜ i ≤ longestPath ⌝ }
     ensures { λ s. ⌜ s ≡ afterDown r i hop ⌝ }
 {
     let mut v = r.v;
@@ -98,20 +101,21 @@ fn after_down(r: Ramps, i: usize, hop: Hop) -> Ramps
 }
 
 // AS(i), or 0 where the path ends before it.
-fn number_or_zero(path: &[u32], i: usize) -> u32
-    requires { ⌜ (1 ≤ i) × (i ≤ 65536) ⌝ }
-    ensures { λ r. ⌜ (i ≤ length (now (path .entry)) → r ≡ asAt (now (path .entry)) i) ⌝ }
+fn number_or_zero(path: &[u32], i: usize) -> AsNumber
+    requires { ⌜ (1 ≤ i) × (i ≤ longestPath + 1) ⌝ }
+    ensures { λ r. ⌜ (i ≤ length (now (path .entry)) → r .0 ≡ asAt (now (path .entry)) i) ⌝ }
 {
     let n = path.len();
     if i <= n {
-        return path[n - i];
+        let x = path[n - i];
+        return AsNumber(x);
     }
-    0
+    AsNumber(0)
 }
 
 // All four indices in one pass, with one look-up for each number on the path and one reading of its lists.
 fn find_ramps(reg: &[u32], hints: &[u32], path: &[u32]) -> Ramps
-    requires { ⌜ (registerOk (now reg) ≡ true) × (1 ≤ length (now path)) × (length (now path) ≤ 65535) ⌝ }
+    requires { ⌜ Judgeable (now reg) (now path) ⌝ }
     ensures { λ r. ⌜ r ≡ rampsOf (hopOf (recordsOf (now (reg .entry)))) (now (path .entry)) ⌝ }
 {
     let n = path.len();
@@ -123,13 +127,19 @@ fn find_ramps(reg: &[u32], hints: &[u32], path: &[u32]) -> Ramps
     };
     let mut i: usize = 1;
     let origin = path[n - 1];
-    let position = register::hints::find(reg, hints, origin);
-    let mut up = register::hop_from(reg, position, origin, number_or_zero(path, 2));
+    let position = register::hints::find(reg, hints, AsNumber(origin));
+    let mut up = register::hop_from(reg, position, AsNumber(origin), number_or_zero(path, 2));
     while i < n {
         let x = path[n - i];
         let y = path[n - (i + 1)];
-        let position = register::hints::find(reg, hints, y);
-        let hops = register::hops_from(reg, position, y, x, number_or_zero(path, i + 2));
+        let position = register::hints::find(reg, hints, AsNumber(y));
+        let hops = register::hops_from(
+            reg,
+            position,
+            AsNumber(y),
+            AsNumber(x),
+            number_or_zero(path, i + 2),
+        );
         let down = hops.y;
         r = after_up(r, n, i, up);
         r = after_down(r, i, down);
@@ -141,7 +151,7 @@ fn find_ramps(reg: &[u32], hints: &[u32], path: &[u32]) -> Ramps
 
 // The answer for a path of 1 number or more, looked up with hints for the register.
 pub fn judge_hinted(reg: &[u32], hints: &[u32], role: Role, path: &[u32]) -> Answer
-    requires { ⌜ (registerOk (now reg) ≡ true) × (1 ≤ length (now path)) × (length (now path) ≤ 65535) ⌝ }
+    requires { ⌜ Judgeable (now reg) (now path) ⌝ }
     ensures { λ r. ⌜ r ≡ judged (hopOf (recordsOf (now (reg .entry)))) (now (path .entry)) (roleNumber role) ⌝ }
 {
     if role.is_upstream() {
@@ -164,7 +174,7 @@ pub fn judge_hinted(reg: &[u32], hints: &[u32], role: Role, path: &[u32]) -> Ans
 
 // The answer for a path of 1 number or more.
 pub fn judge(reg: &[u32], role: Role, path: &[u32]) -> Answer
-    requires { ⌜ (registerOk (now reg) ≡ true) × (1 ≤ length (now path)) × (length (now path) ≤ 65535) ⌝ }
+    requires { ⌜ Judgeable (now reg) (now path) ⌝ }
     ensures { λ r. ⌜ r ≡ judged (hopOf (recordsOf (now (reg .entry)))) (now (path .entry)) (roleNumber role) ⌝ }
 {
     judge_hinted(reg, &NO_HINTS, role, path)

@@ -1,4 +1,5 @@
 -- `as_path::is_not_neighbour` meets its contract. Assumes nothing.
+use Rattle.as_path.specs.Segments.{numberBytes}
 use Rattle.types.specs.Numbers.{roleNumber}
 use mathlib.Core.Path.{_≡_, sym, _∙_, ap}
 use mathlib.Core.Bool.{not}
@@ -29,13 +30,13 @@ part-number-at-start : tie.Need-part-number-at-start
 part-number-at-start c = search needs
 
 part-number-at-end : tie.Need-part-number-at-end
-part-number-at-end c = omega (arith, first-whole 4 (c .before .before .before .before .before .args .attr .now) (c .before .before .before .before .before .pre .1) (c .before .before .before .before .before .pre .0) .some, first-whole 4 (c .before .before .before .before .before .args .attr .now) (c .before .before .before .before .before .pre .1) (c .before .before .before .before .before .pre .0) .body)
+part-number-at-end c = omega (arith, first-whole numberBytes (c .before .before .before .before .before .args .attr .now) (c .before .before .before .before .before .pre .1) (c .before .before .before .before .before .pre .0) .some, first-whole numberBytes (c .before .before .before .before .before .args .attr .now) (c .before .before .before .before .before .pre .1) (c .before .before .before .before .before .pre .0) .body)
 
 number-at-requires : tie.Need-number-at-requires
 number-at-requires c κs = search needs
 
 returns-3 : tie.Need-returns-3
-returns-3 c = ap not (ap (λ x. eqb x (c .before .before .before .before .before .before .before .args .neighbour .0)) (c .number-at .ensures ∙ number-part 4 (c .before .before .before .before .before .before .before .args .attr .now) 2 4 0 (omega arith))) ∙ sym (compared 4 (c .before .before .before .before .before .before .before .args .attr .now) (roleNumber (c .before .before .before .before .before .before .before .args .role)) (c .before .before .before .before .before .before .before .args .neighbour .0) (c .before .before .before .before .if1 .left) (sym (c .before .before .before .is-route-server .ensures) ∙ c .before .before .if2 .left) (first-whole 4 (c .before .before .before .before .before .before .before .args .attr .now) (c .before .before .before .before .before .before .before .pre .1) (c .before .before .before .before .before .before .before .pre .0) .some))
+returns-3 c = ap not (ap (λ x. eqb x (c .before .before .before .before .before .before .before .args .neighbour .0)) (c .number-at .ensures ∙ number-part 4 (c .before .before .before .before .before .before .before .args .attr .now) 2 4 0 (omega arith))) ∙ sym (compared 4 (c .before .before .before .before .before .before .before .args .attr .now) (roleNumber (c .before .before .before .before .before .before .before .args .role)) (c .before .before .before .before .before .before .before .args .neighbour .0) (c .before .before .before .before .if1 .left) (sym (c .before .before .before .is-route-server .ensures) ∙ c .before .before .if2 .left) (first-whole numberBytes (c .before .before .before .before .before .before .before .args .attr .now) (c .before .before .before .before .before .before .before .pre .1) (c .before .before .before .before .before .before .before .pre .0) .some))
 
 pub is-not-neighbour-spec : {M : Type 1} → statement M
 is-not-neighbour-spec =

@@ -1,7 +1,8 @@
 -- `c_api::aspa_file` meets its contract. Assumes nothing.
-use mathlib.Core.Path.{_∙_}
-use Rattle.c_api.proofs.Tellings.{told}
-use Rattle.c_api.specs.Answers.{filedRow, filedWords}
+use mathlib.Core.Path.{refl, ap}
+use mathlib.Core.List.{[], _∷_}
+use Rattle.c_api.proofs.Tellings.{tells}
+use Rattle.c_api.specs.Answers.{told, filedTold}
 use borrow.Author.Needs.{needs}
 use Rattle.c_api.proofs.aspa_file.Statement.{statement}
 use Rattle.c_api.proofs.aspa_file.Tie as tie
@@ -26,21 +27,21 @@ same-length c = search needs
 
 returns : tie.Need-returns
 returns c = let e = c .before .before .before .before .before .file .ensures in let m = c .before .enum-told .given .1 in
-    (told filedRow (e .0) m, told filedWords (e .0) m, e .1)
+    tells filedTold e m refl
 
 same-length-2 : tie.Need-same-length-2
 same-length-2 c = search needs
 
 returns-2 : tie.Need-returns-2
 returns-2 c = let e = c .before .before .before .before .before .file .ensures in let m = c .before .enum-told2 .given .1 in
-    (told filedRow (e .0) m, told filedWords (e .0) m, e .1)
+    tells filedTold e m refl
 
 same-length-3 : tie.Need-same-length-3
 same-length-3 c = search needs
 
 returns-3 : tie.Need-returns-3
 returns-3 c = let e = c .before .before .before .before .before .before .before .file .ensures in let m = c .before .before .before .r .given .1 in
-    (c .number .ensures ∙ told filedRow (e .0) m, told filedWords (e .0) m, e .1)
+    tells filedTold e m (ap (λ n. told n (0 ∷ [])) (c .number .ensures))
 
 pub aspa-file-spec : {M : Type 1} → statement M
 aspa-file-spec =

@@ -1,6 +1,7 @@
 -- `c_api::aspa_judge` meets its contract. Assumes nothing.
 use mathlib.Core.Path.{_∙_, ap}
-use Rattle.c_api.specs.Answers.{judgedRow, judgedWords, judgedGap}
+use Rattle.c_api.specs.Answers.{judgedTold}
+use Rattle.c_api.proofs.Tellings.{judge-below}
 use borrow.Author.Needs.{needs}
 use Rattle.c_api.proofs.aspa_judge.Statement.{statement}
 use Rattle.c_api.proofs.aspa_judge.Tie as tie
@@ -9,11 +10,11 @@ judge-requires : tie.Need-judge-requires
 judge-requires c κs = search needs
 
 tell-requires : tie.Need-tell-requires
-tell-requires c κs = search needs
+tell-requires c κs = rw (c .before .before .judge .ensures) (judge-below _ _ _ _)
 
 returns : tie.Need-returns
 returns c = let t = c .tell .ensures in let e = c .before .before .before .judge .ensures in
-    (t .0 ∙ ap judgedRow e, t .1 ∙ ap judgedWords e, t .2 ∙ ap judgedGap e)
+    t ∙ ap judgedTold e
 
 pub aspa-judge-spec : {M : Type 1} → statement M
 aspa-judge-spec = tie.close (tie.spec judge-requires tell-requires returns)

@@ -1,7 +1,8 @@
 -- `c_api::aspa_rejudge` meets its contract. Assumes nothing.
-use mathlib.Core.Path.{_∙_}
-use Rattle.c_api.proofs.Tellings.{told}
-use Rattle.c_api.specs.Answers.{rejudgedRow, rejudgedWords}
+use mathlib.Core.Path.{refl, ap}
+use mathlib.Core.List.{[], _∷_}
+use Rattle.c_api.proofs.Tellings.{tells}
+use Rattle.c_api.specs.Answers.{told, rejudgedTold}
 use borrow.Author.Needs.{needs}
 use Rattle.c_api.proofs.aspa_rejudge.Statement.{statement}
 use Rattle.c_api.proofs.aspa_rejudge.Tie as tie
@@ -23,14 +24,14 @@ same-length c = search needs
 
 returns : tie.Need-returns
 returns c = let e = c .before .before .before .before .before .before .rejudge .ensures in let m = c .before .before .n .given .1 in
-    (told rejudgedRow (e .0) m, told rejudgedWords (e .0) m, e .1)
+    tells rejudgedTold e m refl
 
 same-length-2 : tie.Need-same-length-2
 same-length-2 c = search needs
 
 returns-2 : tie.Need-returns-2
 returns-2 c = let e = c .before .before .before .before .before .before .before .rejudge .ensures in let m = c .before .before .before .r .given .1 in
-    (c .number .ensures ∙ told rejudgedRow (e .0) m, told rejudgedWords (e .0) m, e .1)
+    tells rejudgedTold e m (ap (λ n. told n (0 ∷ [])) (c .number .ensures))
 
 pub aspa-rejudge-spec : {M : Type 1} → statement M
 aspa-rejudge-spec =

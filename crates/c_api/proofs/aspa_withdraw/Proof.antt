@@ -1,7 +1,7 @@
 -- `c_api::aspa_withdraw` meets its contract. Assumes nothing.
-use mathlib.Core.Path.{_∙_}
-use Rattle.c_api.proofs.Tellings.{told}
-use Rattle.c_api.specs.Answers.{removalRow}
+use mathlib.Core.Path.{refl}
+use Rattle.c_api.proofs.Tellings.{tells}
+use Rattle.c_api.specs.Answers.{removalTold}
 use borrow.Author.Needs.{needs}
 use Rattle.c_api.proofs.aspa_withdraw.Statement.{statement}
 use Rattle.c_api.proofs.aspa_withdraw.Tie as tie
@@ -23,14 +23,14 @@ same-length c = search needs
 
 returns : tie.Need-returns
 returns c = let e = c .before .before .before .before .withdraw .ensures in
-    (told removalRow (e .0) (c .enum-told .given .1), e .1)
+    tells removalTold e (c .enum-told .given .1) refl
 
 same-length-2 : tie.Need-same-length-2
 same-length-2 c = search needs
 
 returns-2 : tie.Need-returns-2
 returns-2 c = let e = c .before .before .before .before .before .before .withdraw .ensures in
-    (c .number .ensures ∙ told removalRow (e .0) (c .before .before .r .given .1), e .1)
+    tells removalTold e (c .before .before .r .given .1) (c .number .ensures)
 
 pub aspa-withdraw-spec : {M : Type 1} → statement M
 aspa-withdraw-spec =

@@ -3,6 +3,7 @@ use mir.ValLaws.{toZ-ofZ}
 use mir.Syntax.{w32}
 use mathlib.Core.Path.{refl, ap}
 use mathlib.Core.List.{[], _∷_}
+use Rattle.c_api.proofs.Tellings.{routed}
 use borrow.Author.Needs.{needs}
 use Rattle.c_api.proofs.tell.Statement.{statement}
 use Rattle.c_api.proofs.tell.Tie as tie
@@ -26,19 +27,21 @@ enum-known-j-2 : tie.Need-enum-known-j-2
 enum-known-j-2 c = search needs
 
 place-word-requires : tie.Need-place-word-requires
-place-word-requires c κs = search needs
+place-word-requires c κs = rw (c .before .j2 .given .1) at (c .before .before .before .pre)
 
 number-requires : tie.Need-number-requires
 number-requires c κs = search needs
 
 returns : tie.Need-returns
-returns c = rw (c .before .before .before .before .before .before .j .given .1, c .before .before .before .a .given .1) (refl, c .verdict-words .ensures, refl)
+returns c = rw (c .before .before .before .before .before .before .j .given .1, c .before .before .before .a .given .1) (routed refl (c .verdict-words .ensures) refl)
 
 returns-2 : tie.Need-returns-2
-returns-2 c = rw (c .before .before .before .before .before .before .j .given .1, c .before .before .before .a2 .given .1) (refl, c .verdict-words2 .ensures, toZ-ofZ w32 _ (record { sfits = c .before .before .known-told3 .given .1 .0 .1 }))
+returns-2 c = rw (c .before .before .before .before .before .before .j .given .1, c .before .before .before .a2 .given .1) 
+    (routed refl (c .verdict-words2 .ensures) (toZ-ofZ w32 _ (record { sfits = c .before .before .known-told3 .given .1 .0 .1 })))
 
 returns-3 : tie.Need-returns-3
-returns-3 c = rw (c .before .before .before .before .j2 .given .1) (c .number .ensures, ap (λ p. 0 ∷ 0 ∷ 0 ∷ 0 ∷ 0 ∷ p ∷ []) (c .before .before .place-word .ensures), refl)
+returns-3 c = rw (c .before .before .before .before .j2 .given .1) 
+    (routed (c .number .ensures) (ap (λ p. 0 ∷ 0 ∷ 0 ∷ 0 ∷ 0 ∷ p ∷ []) (c .before .before .place-word .ensures)) refl)
 
 pub tell-spec : {M : Type 1} → statement M
 tell-spec =

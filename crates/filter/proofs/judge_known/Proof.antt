@@ -3,7 +3,7 @@ use lib.ListN.{replicate}
 use lib.Dec.{lit≤}
 use Rattle.rules.specs.Verdicts.{judged}
 use Rattle.types.specs.declared.Judged.the-variants.{Answered}
-use Rattle.as_path.specs.Reading.{contentOf}
+use Rattle.as_path.specs.Reading.{mostNumbers, contentOf}
 use Rattle.filter.specs.Calls.{hopIn}
 use native.Mathlib.Omega.{arith}
 use mathlib.Core.Path.{_≡_, sym, _∙_, ap}
@@ -43,7 +43,7 @@ slice-aggregate-judge c = let a = c .before .before .before .before .before .bef
 judge-requires : tie.Need-judge-requires
 judge-requires c κs = let a = c .before .before .before .before .before .before .before .before .before .args in
     let p = read-path (contentOf (roleNumber (a .role)) (a .neighbour .0) (a .attribute .now)) _ (sym (c .before .before .before .before .before .read .ensures .0) ∙ c .before .before .n .given .1) in
-    rw (in-buffer (roleNumber (a .role)) (a .neighbour .0) (a .attribute .now) p (replicate 64 0) _ (lit≤ tt) (c .before .before .before .before .before .read .ensures .1), p .long)
+    rw (in-buffer (roleNumber (a .role)) (a .neighbour .0) (a .attribute .now) p (replicate mostNumbers 0) _ (lit≤ tt) (c .before .before .before .before .before .read .ensures .1), p .long)
     (c .before .before .before .before .before .before .before .before .before .pre, some-numbers (roleNumber (a .role)) (a .neighbour .0) (a .attribute .now) p, omega (arith, p .few))
 
 returns : tie.Need-returns
@@ -59,7 +59,7 @@ returns-2 c = let a = c .before .before .before .before .before .before .before 
 returns-3 : tie.Need-returns-3
 returns-3 c = let a = c .before .before .before .before .before .before .before .before .before .before .args in
     let p = read-path (contentOf (roleNumber (a .role)) (a .neighbour .0) (a .attribute .now)) _ (sym (c .before .before .before .before .before .before .read .ensures .0) ∙ c .before .before .before .n .given .1) in
-    let e = in-buffer (roleNumber (a .role)) (a .neighbour .0) (a .attribute .now) p (replicate 64 0) _ (lit≤ tt) (c .before .before .before .before .before .before .read .ensures .1) in
+    let e = in-buffer (roleNumber (a .role)) (a .neighbour .0) (a .attribute .now) p (replicate mostNumbers 0) _ (lit≤ tt) (c .before .before .before .before .before .before .read .ensures .1) in
     ap Answered (c .judge .ensures ∙ ap (λ l. judged (hopIn (a .reg .now)) l (roleNumber (a .role))) e)
     ∙ path-judged (roleNumber (a .role)) (a .neighbour .0) (a .attribute .now) p (hopIn (a .reg .now))
 

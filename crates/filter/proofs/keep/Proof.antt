@@ -1,28 +1,27 @@
 -- `filter::keep` meets its contract. Assumes nothing.
 use mathlib.Core.Path.{_≡_, sym, _∙_, ap}
 use borrow.Author.Tests.{not-true, not-false}
-use Rattle.types.proofs.Refusing.{parts}
-use Rattle.filter.specs.Calls.{hopIn, keepEffect}
+use Rattle.filter.specs.Calls.{hopIn, keeping, keepEffect}
 use Rattle.filter.proofs.Judgings.{known-role, judged-refused}
-use Rattle.filter.proofs.Keepings.{keep-register-length, keep-ledger-length, keep-register-malformed, keep-ledger-malformed, keep-refused, same-parts}
+use Rattle.filter.proofs.Keepings.{keep-register-length, keep-ledger-length, keep-register-malformed, keep-ledger-malformed, keep-refused}
 use borrow.Author.Needs.{needs}
 use Rattle.filter.proofs.keep.Statement.{statement}
 use Rattle.filter.proofs.keep.Tie as tie
 
 returns : tie.Need-returns
 returns c = let a = c .before .before .before .before .args in
-    parts (keep-register-length (a .reg .now) (a .led .now) (a .number .0) (a .role) (a .neighbour .0) (a .attribute .now) (c .if1 .taken))
+    (keep-register-length (a .reg .now) (a .led .now) (keeping (a .number .0) (a .role) (a .neighbour .0) (a .attribute .now)) (c .if1 .taken))
 
 returns-2 : tie.Need-returns-2
 returns-2 c = let a = c .before .before .before .before .before .args in
-    parts (keep-ledger-length (a .reg .now) (a .led .now) (a .number .0) (a .role) (a .neighbour .0) (a .attribute .now) (c .before .if1 .left) (c .if2 .taken))
+    (keep-ledger-length (a .reg .now) (a .led .now) (keeping (a .number .0) (a .role) (a .neighbour .0) (a .attribute .now)) (c .before .if1 .left) (c .if2 .taken))
 
 is-register-requires : tie.Need-is-register-requires
 is-register-requires c κs = search needs
 
 returns-3 : tie.Need-returns-3
 returns-3 c = let a = c .before .before .before .before .before .before .before .args in
-    parts (keep-register-malformed (a .reg .now) (a .led .now) (a .number .0) (a .role) (a .neighbour .0) (a .attribute .now) (c .before .before .before .if1 .left) (c .before .before .if2 .left)
+    (keep-register-malformed (a .reg .now) (a .led .now) (keeping (a .number .0) (a .role) (a .neighbour .0) (a .attribute .now)) (c .before .before .before .if1 .left) (c .before .before .if2 .left)
     (sym (c .before .is-register .ensures) ∙ not-true _ (c .if3 .taken)))
 
 is-ledger-requires : tie.Need-is-ledger-requires
@@ -33,7 +32,7 @@ same-length c = search needs
 
 returns-4 : tie.Need-returns-4
 returns-4 c = let a = c .before .before .before .before .before .before .before .before .before .before .args in
-    parts (keep-ledger-malformed (a .reg .now) (a .led .now) (a .number .0) (a .role) (a .neighbour .0) (a .attribute .now) (c .before .before .before .before .before .before .if1 .left) (c .before .before .before .before .before .if2 .left)
+    (keep-ledger-malformed (a .reg .now) (a .led .now) (keeping (a .number .0) (a .role) (a .neighbour .0) (a .attribute .now)) (c .before .before .before .before .before .before .if1 .left) (c .before .before .before .before .before .if2 .left)
     (sym (c .before .before .before .before .is-register .ensures) ∙ not-false _ (c .before .before .before .if3 .left)) (sym (c .before .is-ledger .ensures) ∙ not-true _ (c .if4 .taken)))
 
 know-requires : tie.Need-know-requires
@@ -53,7 +52,7 @@ keep-known-requires c κs = let a = c .before .before .before .before .before .b
       ok = sym (c .before .before .before .before .before .before .before .before .before .is-register .ensures) ∙ not-false _ (c .before .before .before .before .before .before .before .before .if3 .left);
       long-ledger = c .before .before .before .before .before .before .before .before .before .before .if2 .left;
       ok-ledger = sym (c .before .before .before .before .before .before .is-ledger .ensures) ∙ not-false _ (c .before .before .before .before .before .if4 .left);
-      known = k .0;
+      argued = k .0;
     })
 
 same-length-2 : tie.Need-same-length-2
@@ -61,7 +60,7 @@ same-length-2 c = search needs
 
 returns-5 : tie.Need-returns-5
 returns-5 c = let a = c .before .before .before .before .before .before .before .before .before .before .before .before .before .before .args in
-    parts (keep-refused (a .reg .now) (a .led .now) (a .number .0) (a .role) (a .neighbour .0) (a .attribute .now) (c .before .before .before .before .before .before .before .before .before .before .if1 .left) (c .before .before .before .before .before .before .before .before .before .if2 .left)
+    (keep-refused (a .reg .now) (a .led .now) (keeping (a .number .0) (a .role) (a .neighbour .0) (a .attribute .now)) (c .before .before .before .before .before .before .before .before .before .before .if1 .left) (c .before .before .before .before .before .before .before .before .before .if2 .left)
     (sym (c .before .before .before .before .before .before .before .before .is-register .ensures) ∙ not-false _ (c .before .before .before .before .before .before .before .if3 .left)) (sym (c .before .before .before .before .before .is-ledger .ensures) ∙ not-false _ (c .before .before .before .before .if4 .left))
     (judged-refused (hopIn (a .reg .now)) (a .role) (a .neighbour .0) (a .attribute .now) _ (sym (c .before .before .before .know .ensures) ∙ c .before .r .given .1)))
 
@@ -71,7 +70,7 @@ same-length-3 c = search needs
 returns-6 : tie.Need-returns-6
 returns-6 c = let a = c .before .before .before .before .before .before .before .before .before .before .before .before .before .before .before .before .before .before .args in
     let k = known-role (a .role) (a .neighbour .0) (a .attribute .now) _ (sym (c .before .before .before .before .before .before .before .know .ensures) ∙ c .before .before .before .before .before .role .given .1) in
-    same-parts (ap (λ n. keepEffect (a .reg .now) (a .led .now) (a .number .0) n (a .neighbour .0) (a .attribute .now)) (sym (k .1))) (c .before .before .keep-known .ensures)
+    c .before .before .keep-known .ensures ∙ ap (λ n. keepEffect (a .reg .now) (a .led .now) (keeping (a .number .0) n (a .neighbour .0) (a .attribute .now))) (k .1)
 
 pub keep-spec : {M : Type 1} → statement M
 keep-spec =

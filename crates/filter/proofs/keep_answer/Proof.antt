@@ -1,7 +1,7 @@
 -- `filter::keep_answer` meets its contract. Assumes nothing.
 use Rattle.types.specs.declared.Verdict.{Verdict}
 use Rattle.ledger.specs.Routes.{Route}
-use mathlib.Core.Path.{_≡_, sym, _∙_, ap}
+use mathlib.Core.Path.{_≡_, _∙_, ap}
 use Rattle.types.specs.Numbers.{roleNumber, verdictOf}
 use Rattle.ledger.specs.Calls.{routeFor, storeEffect}
 use Rattle.filter.proofs.Keepings.{stored-done, stored-refused}
@@ -28,8 +28,9 @@ returns : tie.Need-returns
 returns c = let a = c .before .before .before .before .before .before .before .before .before .args in
     let r : Verdict → Route = λ v. routeFor (a .number .0) (roleNumber (a .role)) (a .neighbour .0) v (a .path .now) in
     let e = c .before .before .before .before .before .verdict .ensures in
-    stored-done (a .led .now) (r (verdictOf (a .answer))) (a .answer) (ap (λ s. s .words) (c .before .before .before .before .store .ensures) ∙ ap (λ v. storeEffect (a .led .now) (r v) .words) e)
-    (sym (c .enum-told .given .1) ∙ ap (λ s. s .answer) (c .before .before .before .before .store .ensures) ∙ ap (λ v. storeEffect (a .led .now) (r v) .answer) e)
+    let s = c .before .before .before .before .store .ensures in
+    stored-done (a .led .now) (r (verdictOf (a .answer))) (a .answer)
+    (s ∙ ap (λ v. storeEffect (a .led .now) (r v)) e) (c .enum-told .given .1)
 
 same-length-2 : tie.Need-same-length-2
 same-length-2 c = search needs
@@ -38,8 +39,9 @@ returns-2 : tie.Need-returns-2
 returns-2 c = let a = c .before .before .before .before .before .before .before .before .before .before .args in
     let r : Verdict → Route = λ v. routeFor (a .number .0) (roleNumber (a .role)) (a .neighbour .0) v (a .path .now) in
     let e = c .before .before .before .before .before .before .verdict .ensures in
-    stored-refused (a .led .now) (r (verdictOf (a .answer))) (a .answer) (ap (λ s. s .words) (c .before .before .before .before .before .store .ensures) ∙ ap (λ v. storeEffect (a .led .now) (r v) .words) e)
-    (sym (c .before .r .given .1) ∙ ap (λ s. s .answer) (c .before .before .before .before .before .store .ensures) ∙ ap (λ v. storeEffect (a .led .now) (r v) .answer) e)
+    let s = c .before .before .before .before .before .store .ensures in
+    stored-refused (a .led .now) (r (verdictOf (a .answer))) (a .answer)
+    (s ∙ ap (λ v. storeEffect (a .led .now) (r v)) e) (c .before .r .given .1)
 
 pub keep-answer-spec : {M : Type 1} → statement M
 keep-answer-spec =

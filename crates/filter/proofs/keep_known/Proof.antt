@@ -6,13 +6,13 @@ use lib.Seq.{length-take-le}
 use lib.Dec.{lit≤}
 use Rattle.types.specs.declared.Answer.{Answer}
 use Rattle.types.specs.Numbers.{roleNumber, verdictOf}
-use Rattle.types.proofs.Refusing.{parts}
-use Rattle.as_path.specs.Reading.{contentOf}
+use Rattle.as_path.specs.Reading.{mostNumbers, contentOf}
 use Rattle.rules.specs.Verdicts.{judged}
 use Rattle.ledger.specs.Calls.{routeFor}
-use Rattle.filter.specs.Calls.{hopIn, storedEffect}
+use Rattle.filter.specs.Calls.{hopIn}
+use Rattle.filter.specs.Helpers.{storedEffect}
 use Rattle.filter.proofs.Judgings.{read-path, some-numbers, in-buffer}
-use Rattle.filter.proofs.Keepings.{keep-faulty, keep-ground, keep-path, same-parts}
+use Rattle.filter.proofs.Keepings.{keep-faulty, keep-ground, keep-path}
 use borrow.Author.Needs.{needs}
 use Rattle.filter.proofs.keep_known.Statement.{statement}
 use Rattle.filter.proofs.keep_known.Tie as tie
@@ -54,7 +54,7 @@ slice-aggregate-judge c = let a = c .before .before .before .before .before .bef
 judge-requires : tie.Need-judge-requires
 judge-requires c κs = let a = c .before .before .before .before .before .before .before .before .before .before .args in
     let p = read-path (contentOf (roleNumber (a .role)) (a .neighbour .0) (a .attribute .now)) _ (sym (c .before .before .before .before .before .read .ensures .0) ∙ c .before .before .n .given .1) in
-    rw (in-buffer (roleNumber (a .role)) (a .neighbour .0) (a .attribute .now) p (replicate 64 0) _ (lit≤ tt) (c .before .before .before .before .before .read .ensures .1), p .long)
+    rw (in-buffer (roleNumber (a .role)) (a .neighbour .0) (a .attribute .now) p (replicate mostNumbers 0) _ (lit≤ tt) (c .before .before .before .before .before .read .ensures .1), p .long)
     (c .before .before .before .before .before .before .before .before .before .before .pre .ok, some-numbers (roleNumber (a .role)) (a .neighbour .0) (a .attribute .now) p, omega (arith, p .few))
 
 array-share-prefix-path-3 : tie.Need-array-share-prefix-path-3
@@ -72,14 +72,15 @@ keep-answer-requires-2 c κs = (c .before .before .before .before .before .befor
 
 returns : tie.Need-returns
 returns c = let a = c .before .before .before .before .before .before .before .before .before .args in
-    parts (keep-faulty (a .number .0) (c .before .before .before .before .before .before .before .before .before .pre) (sym (c .before .before .before .before .read .ensures .0) ∙ c .before .r .given .1))
+    (keep-faulty (a .number .0) (c .before .before .before .before .before .before .before .before .before .pre) (sym (c .before .before .before .before .read .ensures .0) ∙ c .before .r .given .1))
 
 same-length : tie.Need-same-length
 same-length c = search needs
 
 returns-2 : tie.Need-returns-2
 returns-2 c = let a = c .before .before .before .before .before .before .before .before .before .before .before .before .before .before .args in
-    same-parts (keep-ground (a .number .0) (c .before .before .before .before .before .before .before .before .before .before .before .before .before .before .pre) (sym (c .before .before .before .before .before .before .before .before .before .read .ensures .0) ∙ c .before .before .before .before .before .before .g .given .1)) (c .before .before .keep-answer .ensures)
+    c .before .before .keep-answer .ensures
+    ∙ keep-ground (a .number .0) (c .before .before .before .before .before .before .before .before .before .before .before .before .before .before .pre) (sym (c .before .before .before .before .before .before .before .before .before .read .ensures .0) ∙ c .before .before .before .before .before .before .g .given .1)
 
 same-length-2 : tie.Need-same-length-2
 same-length-2 c = search needs
@@ -87,10 +88,11 @@ same-length-2 c = search needs
 returns-3 : tie.Need-returns-3
 returns-3 c = let a = c .before .before .before .before .before .before .before .before .before .before .before .before .before .before .before .before .args in
     let p = read-path (contentOf (roleNumber (a .role)) (a .neighbour .0) (a .attribute .now)) _ (sym (c .before .before .before .before .before .before .before .before .before .before .before .read .ensures .0) ∙ c .before .before .before .before .before .before .before .before .n .given .1) in
-    let e = in-buffer (roleNumber (a .role)) (a .neighbour .0) (a .attribute .now) p (replicate 64 0) _ (lit≤ tt) (c .before .before .before .before .before .before .before .before .before .before .before .read .ensures .1) in
+    let e = in-buffer (roleNumber (a .role)) (a .neighbour .0) (a .attribute .now) p (replicate mostNumbers 0) _ (lit≤ tt) (c .before .before .before .before .before .before .before .before .before .before .before .read .ensures .1) in
     let j = c .before .before .before .before .before .judge .ensures ∙ ap (λ l. judged (hopIn (a .reg .now)) l (roleNumber (a .role))) e in
-    same-parts (keep-path (a .number .0) (c .before .before .before .before .before .before .before .before .before .before .before .before .before .before .before .before .pre) p)
-    (same-parts (λ i. storedEffect (a .led .now) (routeFor (a .number .0) (roleNumber (a .role)) (a .neighbour .0) (verdictOf (sym j i)) (sym e i)) (sym j i)) (c .before .before .keep-answer2 .ensures))
+    c .before .before .keep-answer2 .ensures
+    ∙ (λ i. storedEffect (a .led .now) (routeFor (a .number .0) (roleNumber (a .role)) (a .neighbour .0) (verdictOf (j i)) (e i)) (j i))
+    ∙ keep-path (a .number .0) (c .before .before .before .before .before .before .before .before .before .before .before .before .before .before .before .before .pre) p
 
 pub keep-known-spec : {M : Type 1} → statement M
 keep-known-spec =

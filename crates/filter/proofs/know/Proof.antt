@@ -16,19 +16,19 @@ enum-told c = search needs
 
 returns : tie.Need-returns
 returns c = let a = c .before .before .before .before .args in
-    know-none (a .role) (a .neighbour) (a .attribute .now) (sym (c .before .before .from-number .ensures) ∙ c .enum-told .given .1)
+    know-none (a .role) (a .neighbour .0) (a .attribute .now) (sym (c .before .before .from-number .ensures) ∙ c .enum-told .given .1)
 
 returns-2 : tie.Need-returns-2
-returns-2 c = let a = c .before .before .before .before .before .before .args in
-    know-neighbour (a .role) (a .neighbour) (a .attribute .now) (sym (c .before .before .before .before .from-number .ensures) ∙ c .before .before .role .given .1) (c .if1 .taken)
+returns-2 c = let a = c .before .before .before .before .before .before .before .args in
+    know-neighbour (a .role) (a .neighbour .0) (a .attribute .now) (sym (c .before .before .before .before .before .from-number .ensures) ∙ c .before .before .before .role .given .1) (c .if1 .taken)
 
 returns-3 : tie.Need-returns-3
-returns-3 c = let a = c .before .before .before .before .before .before .before .args in
-    know-length (a .role) (a .neighbour) (a .attribute .now) (sym (c .before .before .before .before .before .from-number .ensures) ∙ c .before .before .before .role .given .1) (c .before .if1 .left) (c .if2 .taken)
+returns-3 c = let a = c .before .before .before .before .before .before .before .before .args in
+    know-length (a .role) (a .neighbour .0) (a .attribute .now) (sym (c .before .before .before .before .before .before .from-number .ensures) ∙ c .before .before .before .before .role .given .1) (c .before .if1 .left) (c .if2 .taken)
 
 returns-4 : tie.Need-returns-4
-returns-4 c = let a = c .before .before .before .before .before .before .before .args in
-    know-role (a .role) (a .neighbour) (a .attribute .now) (sym (c .before .before .before .before .before .from-number .ensures) ∙ c .before .before .before .role .given .1) (c .before .if1 .left) (c .if2 .left)
+returns-4 c = let a = c .before .before .before .before .before .before .before .before .args in
+    know-role (a .role) (a .neighbour .0) (a .attribute .now) (sym (c .before .before .before .before .before .before .from-number .ensures) ∙ c .before .before .before .before .role .given .1) (c .before .if1 .left) (c .if2 .left)
 
 pub know-spec : {M : Type 1} → statement M
 know-spec =

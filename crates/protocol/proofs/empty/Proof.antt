@@ -4,13 +4,13 @@ use native.Mathlib.Omega.{arith}
 use lib.ListN.{take}
 use Rattle.protocol.proofs.Holding.{lends-zeros, all-cut}
 use Rattle.protocol.proofs.Performing.{performs, empties}
-use Rattle.protocol.proofs.Parsing.{other-count, right-count, does-nothing}
+use Rattle.commands.proofs.Parsing.{other-count, right-count, does-nothing}
 use Rattle.register.specs.Register.{registerWords}
 use Rattle.ledger.specs.Routes.{ledgerWords}
 use borrow.Author.Needs.{needs}
 use Rattle.protocol.proofs.empty.Statement.{statement}
 use Rattle.protocol.proofs.empty.Tie as tie
-use Rattle.protocol.proofs.tables.cut.Reads as cut-reads
+use Rattle.protocol.proofs.cut.Reads as cut-reads
 
 returns : tie.Need-returns
 returns c =

@@ -2,7 +2,7 @@
 use borrow.Author.Needs.{needs}
 use mathlib.Core.Path.{refl, ap}
 use native.Mathlib.Omega.{arith}
-use Rattle.protocol.specs.Replies.{Outcome}
+use Rattle.commands.specs.Performing.{Result}
 use Rattle.protocol.specs.Feeding.{commandIn, lentTables, lineIn}
 use Rattle.protocol.proofs.Feedings.{answers}
 use Rattle.protocol.proofs.Holding.{lent-length, lent-within}
@@ -54,7 +54,7 @@ returns c =
     let w =
     answers (lentTables (a .s .lent) (a .reg .now) (a .led .now)) (commandIn (lineIn (a .s .line) (a .line .now))) (a .out .now) (a .s .out) _ _
     (p .0) (put .ensures) (c .before .before .put2 .ensures) in
-    (ap (λ (x : Outcome). x .tables) (p .0), refl, w .0, w .1, w .2, p .1)
+    (ap (λ (x : Result). x .tables) (p .0), refl, w .0, w .1, w .2, p .1)
 
 pub end-line-spec : {M : Type 1} → statement M
 end-line-spec =

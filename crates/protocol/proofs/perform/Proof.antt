@@ -3,10 +3,10 @@ use borrow.Author.Needs.{needs}
 use mathlib.Core.Path.{sym, _∙_}
 use lib.ListN.{take}
 use Rattle.lines.specs.Words.{wordsOf}
-use Rattle.protocol.proofs.Choosing.{is-resize, is-empty, is-lent}
+use Rattle.commands.proofs.Choosing.{is-resize, is-empty, is-lent}
 use Rattle.protocol.proofs.Holding.{lent-length, lends-changed}
 use Rattle.protocol.proofs.Performing.{performs}
-use Rattle.protocol.proofs.Parsing.{does}
+use Rattle.commands.proofs.Parsing.{does}
 use Rattle.protocol.proofs.perform.Statement.{statement}
 use Rattle.protocol.proofs.perform.Tie as tie
 

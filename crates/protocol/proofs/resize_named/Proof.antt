@@ -3,11 +3,11 @@ use mathlib.Core.Path.{refl, sym, ap, _∙_}
 use lib.ListN.{take}
 use Rattle.protocol.proofs.Holding.{lends-resized}
 use Rattle.protocol.proofs.Performing.{performs, lends-same}
-use Rattle.protocol.specs.Commands.{resize}
+use Rattle.commands.specs.Commands.{resize}
 use borrow.Author.Needs.{needs}
 use Rattle.protocol.proofs.resize_named.Statement.{statement}
 use Rattle.protocol.proofs.resize_named.Tie as tie
-use Rattle.protocol.proofs.tables.cut.Reads as cut-reads
+use Rattle.protocol.proofs.cut.Reads as cut-reads
 
 enum-told : tie.Need-enum-told
 enum-told c = search needs

@@ -1,7 +1,6 @@
 -- `register::add` meets its contract. Assumes nothing.
 use native.Mathlib.Omega.{arith}
 use mathlib.Core.Path.{_≡_, sym, _∙_}
-use Rattle.types.proofs.Refusing.{parts}
 use Rattle.register.proofs.Filing.{count-word, body-word, little, full-records, full-lists, new-fits, new-done}
 use borrow.Author.Needs.{needs}
 use Rattle.register.proofs.add.Statement.{statement}
@@ -15,7 +14,7 @@ same-length c = search needs
 
 returns : tie.Need-returns
 returns c = let p = c .before .before .before .before .before .pre in
-    parts (full-records (p .0) (p .1) (omega (arith, count-word (p .0), c .before .word .ensures .0)))
+    sym (full-records (p .0) (p .1) (omega (arith, count-word (p .0), c .before .word .ensures .0)))
 
 word-requires-2 : tie.Need-word-requires-2
 word-requires-2 c κs = search needs
@@ -28,7 +27,7 @@ same-length-2 c = search needs
 
 returns-2 : tie.Need-returns-2
 returns-2 c = let p = c .before .before .before .before .before .before .before .before .pre in
-    parts (full-lists (p .0) (p .1) (omega (arith, body-word (p .0), c .before .word2 .ensures .0)))
+    sym (full-lists (p .0) (p .1) (omega (arith, body-word (p .0), c .before .word2 .ensures .0)))
 
 slice-aggregate-insert : tie.Need-slice-aggregate-insert
 slice-aggregate-insert c = search needs

@@ -1,7 +1,6 @@
 -- `register::file` meets its contract. Assumes nothing.
 use mathlib.Core.Path.{_≡_, sym, _∙_}
 use borrow.Author.Tests.{not-true, not-false}
-use Rattle.types.proofs.Refusing.{parts}
 use Rattle.register.proofs.Filing.{file-length, file-malformed, file-source, file-customer, file-list}
 use borrow.Author.Needs.{needs}
 use Rattle.register.proofs.file.Statement.{statement}
@@ -9,7 +8,7 @@ use Rattle.register.proofs.file.Tie as tie
 
 returns : tie.Need-returns
 returns c = let a = c .before .before .before .args in
-    parts (file-length (a .reg .now) (a .source) (a .customer .0) (a .list .now) (c .if1 .taken))
+    sym (file-length (a .reg .now) (a .source) (a .customer .0) (a .list .now) (c .if1 .taken))
 
 is-register-requires : tie.Need-is-register-requires
 is-register-requires c κs = search needs
@@ -19,21 +18,21 @@ same-length c = search needs
 
 returns-2 : tie.Need-returns-2
 returns-2 c = let a = c .before .before .before .before .before .before .args in
-    parts (file-malformed (a .reg .now) (a .source) (a .customer .0) (a .list .now) (c .before .before .before .if1 .left) (sym (c .before .is-register .ensures) ∙ not-true _ (c .if2 .taken)))
+    sym (file-malformed (a .reg .now) (a .source) (a .customer .0) (a .list .now) (c .before .before .before .if1 .left) (sym (c .before .is-register .ensures) ∙ not-true _ (c .if2 .taken)))
 
 same-length-2 : tie.Need-same-length-2
 same-length-2 c = search needs
 
 returns-3 : tie.Need-returns-3
 returns-3 c = let a = c .before .before .before .before .before .before .before .args in
-    parts (file-source (a .reg .now) (a .source) (a .customer .0) (a .list .now) (c .before .before .before .before .if1 .left) (sym (c .before .before .is-register .ensures) ∙ not-false _ (c .before .if2 .left)) (c .if3 .taken))
+    sym (file-source (a .reg .now) (a .source) (a .customer .0) (a .list .now) (c .before .before .before .before .if1 .left) (sym (c .before .before .is-register .ensures) ∙ not-false _ (c .before .if2 .left)) (c .if3 .taken))
 
 same-length-3 : tie.Need-same-length-3
 same-length-3 c = search needs
 
 returns-4 : tie.Need-returns-4
 returns-4 c = let a = c .before .before .before .before .before .before .before .before .args in
-    parts (file-customer (a .reg .now) (a .source) (a .customer .0) (a .list .now) (c .before .before .before .before .before .if1 .left) (sym (c .before .before .before .is-register .ensures) ∙ not-false _ (c .before .before .if2 .left)) (c .before .if3 .left) (c .if4 .taken))
+    sym (file-customer (a .reg .now) (a .source) (a .customer .0) (a .list .now) (c .before .before .before .before .before .if1 .left) (sym (c .before .before .before .is-register .ensures) ∙ not-false _ (c .before .before .if2 .left)) (c .before .if3 .left) (c .if4 .taken))
 
 is-list-requires : tie.Need-is-list-requires
 is-list-requires c κs = search needs
@@ -43,7 +42,7 @@ same-length-4 c = search needs
 
 returns-5 : tie.Need-returns-5
 returns-5 c = let a = c .before .before .before .before .before .before .before .before .before .before .args in
-    parts (file-list (a .reg .now) (a .source) (a .customer .0) (a .list .now) (c .before .before .before .before .before .before .before .if1 .left) (sym (c .before .before .before .before .before .is-register .ensures) ∙ not-false _ (c .before .before .before .before .if2 .left)) (c .before .before .before .if3 .left) (c .before .before .if4 .left) (sym (c .before .is-list .ensures) ∙ not-true _ (c .if5 .taken)))
+    sym (file-list (a .reg .now) (a .source) (a .customer .0) (a .list .now) (c .before .before .before .before .before .before .before .if1 .left) (sym (c .before .before .before .before .before .is-register .ensures) ∙ not-false _ (c .before .before .before .before .if2 .left)) (c .before .before .before .if3 .left) (c .before .before .if4 .left) (sym (c .before .is-list .ensures) ∙ not-true _ (c .if5 .taken)))
 
 find-requires : tie.Need-find-requires
 find-requires c κs = sym (c .before .before .before .before .before .before .is-register .ensures) ∙ not-false _ (c .before .before .before .before .before .if2 .left)

@@ -10,7 +10,7 @@ use Rattle.register.proofs.hops_from.Statement.{statement}
 use Rattle.register.proofs.hops_from.Tie as tie
 
 abbrev Inv-loop : tie.InvT-loop
-Inv-loop reg position x y z n bodies has-y₀ has-z₀ i₀ has-y has-z i = Passing reg position x n i × Hearing reg x y has-y i × Hearing reg x z has-z i
+Inv-loop reg position x y z n bodies has-y₀ has-z₀ i₀ has-y has-z i = Passing reg position (x .0) n i × Hearing reg (x .0) (y .0) has-y i × Hearing reg (x .0) (z .0) has-z i
 
 abbrev μ-loop : tie.MeasureT-loop
 μ-loop reg position x y z n bodies has-y₀ has-z₀ i₀ has-y has-z i = n - i
@@ -28,14 +28,14 @@ loop-holds : tie.Need-loop-holds Inv-loop μ-loop
 loop-holds c =
     let s = c .before .before in
     let r = s .args .reg .now in
-    let l = listens r (s .args .x) (s .args .position) (s .pre .0) (s .pre .1) in
-    (starts r (s .args .x) (s .args .position) (s .pre .0) (s .pre .1) _ (c .word .ensures .0), l (s .args .y), l (s .args .z))
+    let l = listens r (s .args .x .0) (s .args .position) (s .pre .0) (s .pre .1) in
+    (starts r (s .args .x .0) (s .args .position) (s .pre .0) (s .pre .1) _ (c .word .ensures .0), l (s .args .y .0), l (s .args .z .0))
 
-mul-at : tie.Need-mul-at Inv-loop μ-loop
-mul-at c = search needs
+mul-slot : tie.Need-mul-slot Inv-loop μ-loop
+mul-slot c = search needs
 
-add-at : tie.Need-add-at Inv-loop μ-loop
-add-at c = search needs
+add-slot : tie.Need-add-slot Inv-loop μ-loop
+add-slot c = search needs
 
 mul-if1 : tie.Need-mul-if1 Inv-loop μ-loop
 mul-if1 c = search needs
@@ -118,8 +118,8 @@ hops-from-spec =
     mul-bodies
     add-bodies
     loop-holds
-    mul-at
-    add-at
+    mul-slot
+    add-slot
     mul-if1
     shared-slice-read-if1
     add-word

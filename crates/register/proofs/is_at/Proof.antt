@@ -21,7 +21,7 @@ shared-slice-read-if2 : tie.Need-shared-slice-read-if2
 shared-slice-read-if2 c =
     let s = c .before .before .before .before in
     let w = c .before .before .word .ensures .0 in
-    omega (arith, there-in (s .args .reg .now) (s .pre .0) (s .args .customer) (s .args .source) (s .pre .1) w (c .before .if1 .taken))
+    omega (arith, there-in (s .args .reg .now) (s .pre .0) (s .args .customer .0) (s .args .source) (s .pre .1) w (c .before .if1 .taken))
 
 add-result : tie.Need-add-result
 add-result c = search needs
@@ -33,25 +33,25 @@ shared-slice-read-result : tie.Need-shared-slice-read-result
 shared-slice-read-result c =
     let s = c .before .before .before .before .before .before in
     let w = c .before .before .before .before .word .ensures .0 in
-    omega (arith, there-in (s .args .reg .now) (s .pre .0) (s .args .customer) (s .args .source) (s .pre .1) w (c .before .before .before .if1 .taken))
+    omega (arith, there-in (s .args .reg .now) (s .pre .0) (s .args .customer .0) (s .args .source) (s .pre .1) w (c .before .before .before .if1 .taken))
 
 returns : tie.Need-returns
 returns c =
     let s = c .before .before .before .before .before .before in
     let w = c .before .before .before .before .word .ensures .0 in
-    there (s .args .reg .now) (s .pre .0) (s .args .customer) (s .args .source) (s .pre .1) w (c .before .before .before .if1 .taken) (c .before .if2 .taken)
+    there (s .args .reg .now) (s .pre .0) (s .args .customer .0) (s .args .source) (s .pre .1) w (c .before .before .before .if1 .taken) (c .before .if2 .taken)
 
 returns-2 : tie.Need-returns-2
 returns-2 c =
     let s = c .before .before .before .before .before in
     let w = c .before .before .before .word .ensures .0 in
-    other (s .args .reg .now) (s .pre .0) (s .args .customer) (s .args .source) (s .pre .1) w (c .before .before .if1 .taken) (c .if2 .left)
+    other (s .args .reg .now) (s .pre .0) (s .args .customer .0) (s .args .source) (s .pre .1) w (c .before .before .if1 .taken) (c .if2 .left)
 
 returns-3 : tie.Need-returns-3
 returns-3 c =
     let s = c .before .before .before in
     let w = c .before .word .ensures .0 in
-    past (s .args .reg .now) (s .pre .0) (s .args .customer) (s .args .source) (s .pre .1) w (c .if1 .left)
+    past (s .args .reg .now) (s .pre .0) (s .args .customer .0) (s .args .source) (s .pre .1) w (c .if1 .left)
 
 pub is-at-spec : {M : Type 1} → statement M
 is-at-spec =

@@ -1,7 +1,6 @@
 -- `register::replace` meets its contract. Assumes nothing.
 use native.Mathlib.Omega.{arith}
 use mathlib.Core.Path.{_≡_, sym, _∙_}
-use Rattle.types.proofs.Refusing.{parts}
 use Rattle.register.proofs.Filing.{body-word, few, little, position-under, old-slot, old-word, old-within, full-over, old-goes, over-fits, over-done}
 use borrow.Author.Needs.{needs}
 use Rattle.register.proofs.replace.Statement.{statement}
@@ -35,7 +34,7 @@ same-length c = search needs
 
 returns : tie.Need-returns
 returns c = let p = c .before .before .before .before .before .before .before .pre in
-    parts (full-over (p .0) (p .1) (omega (arith, body-word (p .0), old-word (p .0) (p .1), c .before .word2 .ensures .0, c .before .before .before .word .ensures .0)))
+    sym (full-over (p .0) (p .1) (omega (arith, body-word (p .0), old-word (p .0) (p .1), c .before .word2 .ensures .0, c .before .before .before .word .ensures .0)))
 
 remove-requires : tie.Need-remove-requires
 remove-requires c κs = old-goes (c .before .before .before .before .before .before .before .before .pre .0) (c .before .before .before .before .before .before .before .before .pre .1)

@@ -10,10 +10,10 @@ use Rattle.register.proofs.scan.Statement.{statement}
 use Rattle.register.proofs.scan.Tie as tie
 
 abbrev Inv-loop : tie.InvT-loop
-Inv-loop list y z has-y₀ has-z₀ i₀ has-y has-z i = (i ≤ length list) × Seeking y list has-y i × Seeking z list has-z i
+Inv-loop list a b has-y₀ has-z₀ i₀ has-y has-z i = (i ≤ length list) × Seeking a list has-y i × Seeking b list has-z i
 
 abbrev μ-loop : tie.MeasureT-loop
-μ-loop list y z has-y₀ has-z₀ i₀ has-y has-z i = length list - i
+μ-loop list a b has-y₀ has-z₀ i₀ has-y has-z i = length list - i
 
 loop-holds : tie.Need-loop-holds Inv-loop μ-loop
 loop-holds c = (omega arith, record { says = refl }, record { says = refl })

@@ -10,7 +10,7 @@ use Rattle.register.proofs.search.Statement.{statement}
 use Rattle.register.proofs.search.Tie as tie
 
 abbrev Inv-loop : tie.InvT-loop
-Inv-loop reg from to customer source low₀ high₀ low high = Within reg customer source low high × (high ≤ mostRecords)
+Inv-loop reg from to customer source low₀ high₀ low high = Within reg (customer .0) source low high × (high ≤ mostRecords)
 
 abbrev μ-loop : tie.MeasureT-loop
 μ-loop reg from to customer source low₀ high₀ low high = high - low

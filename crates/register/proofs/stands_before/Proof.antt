@@ -13,20 +13,20 @@ mul-at c = omega (arith, few _ (c .before .pre .0), c .before .pre .1)
 add-at : tie.Need-add-at
 add-at c = omega (arith, few _ (c .before .pre .0), c .before .pre .1)
 
-mul-is-before : tie.Need-mul-is-before
-mul-is-before c = omega (arith, few _ (c .before .pre .0), c .before .pre .1)
+mul-c : tie.Need-mul-c
+mul-c c = omega (arith, few _ (c .before .pre .0), c .before .pre .1)
 
-shared-slice-read-is-before : tie.Need-shared-slice-read-is-before
-shared-slice-read-is-before c = omega (arith, slot-in _ (c .before .before .pre .0) _ (c .before .before .pre .1))
+shared-slice-read-c : tie.Need-shared-slice-read-c
+shared-slice-read-c c = omega (arith, slot-in _ (c .before .before .pre .0) _ (c .before .before .pre .1))
 
 add-is-before : tie.Need-add-is-before
 add-is-before c = omega (arith, few _ (c .before .before .pre .0), c .before .before .pre .1)
 
-mul-is-before-2 : tie.Need-mul-is-before-2
-mul-is-before-2 c = omega (arith, few _ (c .before .before .pre .0), c .before .before .pre .1)
+mul-is-before : tie.Need-mul-is-before
+mul-is-before c = omega (arith, few _ (c .before .before .pre .0), c .before .before .pre .1)
 
-shared-slice-read-is-before-2 : tie.Need-shared-slice-read-is-before-2
-shared-slice-read-is-before-2 c = omega (arith, slot-in _ (c .before .before .before .pre .0) _ (c .before .before .before .pre .1))
+shared-slice-read-is-before : tie.Need-shared-slice-read-is-before
+shared-slice-read-is-before c = omega (arith, slot-in _ (c .before .before .before .pre .0) _ (c .before .before .before .pre .1))
 
 is-before-requires : tie.Need-is-before-requires
 is-before-requires c κs = search needs
@@ -34,7 +34,7 @@ is-before-requires c κs = search needs
 returns : tie.Need-returns
 returns c =
     let s = c .before .before .before .before in
-    c .is-before .ensures ∙ (λ q. beforePair (key-is (s .args .reg .now) (s .pre .0) (s .args .i) (s .pre .1) q) (s .args .customer, s .args .source))
+    c .is-before .ensures ∙ (λ q. beforePair (key-is (s .args .reg .now) (s .pre .0) (s .args .i) (s .pre .1) q) (s .args .customer .0, s .args .source))
 
 pub stands-before-spec : {M : Type 1} → statement M
 stands-before-spec =
@@ -42,10 +42,10 @@ stands-before-spec =
     (tie.spec
     mul-at
     add-at
+    mul-c
+    shared-slice-read-c
+    add-is-before
     mul-is-before
     shared-slice-read-is-before
-    add-is-before
-    mul-is-before-2
-    shared-slice-read-is-before-2
     is-before-requires
     returns)

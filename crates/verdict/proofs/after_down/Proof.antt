@@ -1,4 +1,4 @@
--- `verify::after_down` meets its contract. Assumes nothing.
+-- `verdict::after_down` meets its contract. Assumes nothing.
 use mathlib.Core.Logic.{⊎-elim}
 use borrow.Author.Needs.{needs}
 use Rattle.verdict.proofs.after_down.Statement.{statement}

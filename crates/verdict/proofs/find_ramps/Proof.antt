@@ -1,4 +1,4 @@
--- `verify::find_ramps` meets its contract. Assumes nothing.
+-- `verdict::find_ramps` meets its contract. Assumes nothing.
 use borrow.Author.Needs.{needs}
 use Prim.Native.Nat.{_-_}
 use native.Mathlib.Omega.{arith}
@@ -75,7 +75,9 @@ after-up-requires : tie.Need-after-up-requires Inv-loop μ-loop
 after-up-requires c κs = search needs
 
 after-down-requires : tie.Need-after-down-requires Inv-loop μ-loop
-after-down-requires c κs = search needs
+after-down-requires c κs =
+    let t = c .before .before .before .before .before .before in
+    omega (arith, t .loop-test .taken, t .before .before .before .before .before .before .before .before .before .pre .2)
 
 add-i : tie.Need-add-i Inv-loop μ-loop
 add-i c =

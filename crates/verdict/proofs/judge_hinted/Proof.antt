@@ -1,4 +1,4 @@
--- `verify::judge_hinted` meets its contract. Assumes nothing.
+-- `verdict::judge_hinted` meets its contract. Assumes nothing.
 use mathlib.Core.Path.{sym, _∙_}
 use mir.Syntax.{w32}
 use mir.ValLaws.{toZ-ofZ}

@@ -1,4 +1,4 @@
--- `verify::upstream` meets its contract. Assumes nothing.
+-- `verdict::upstream` meets its contract. Assumes nothing.
 use borrow.Author.Needs.{needs}
 use Prim.Native.Nat.{_-_}
 use mathlib.Core.Path.{sym, _∙_}
@@ -51,8 +51,8 @@ hop-from-requires c κs = search needs
 is-not-plus-requires : tie.Need-is-not-plus-requires Inv-loop μ-loop
 is-not-plus-requires c κs = search needs
 
-cast-t19 : tie.Need-cast-t19 Inv-loop μ-loop
-cast-t19 c = search needs
+cast-a : tie.Need-cast-a Inv-loop μ-loop
+cast-a c = search needs
 
 returns : tie.Need-returns Inv-loop μ-loop
 returns c =
@@ -85,8 +85,8 @@ loop-again-2 c =
     rises-on (t .before .loop .inv) (t .loop-test .taken) (h .hop-from .ensures)
     (sym (b .before .is-not-plus .ensures) ∙ b .if1 .left) (rw (c .before .is-unattested .ensures) at (c .if2 .left))
 
-cast-t24 : tie.Need-cast-t24 Inv-loop μ-loop
-cast-t24 c = search needs
+cast-a-2 : tie.Need-cast-a-2 Inv-loop μ-loop
+cast-a-2 c = search needs
 
 returns-2 : tie.Need-returns-2 Inv-loop μ-loop
 returns-2 c = risen-unknown (c .before .before .loop .inv) (c .before .loop-test .left) (c .if3 .taken)
@@ -112,13 +112,13 @@ upstream-spec =
     find-requires
     hop-from-requires
     is-not-plus-requires
-    cast-t19
+    cast-a
     returns
     is-unattested-requires
     loop-less
     loop-again
     loop-less-2
     loop-again-2
-    cast-t24
+    cast-a-2
     returns-2
     returns-3)

@@ -19,7 +19,7 @@ add-next c = search needs
 returns : tie.Need-returns
 returns c =
     let s = c .before .before .before .before .before in
-    let w = starts (s .args .reg .now) (s .args .customer) 0 _ (s .pre .0) (c .before .before .before .word .ensures .0) in
+    let w = starts (s .args .reg .now) (s .args .customer .0) 0 _ (s .pre .0) (c .before .before .before .word .ensures .0) in
     goes-up w _ (c .before .before .if1 .taken) (sym (c .if2 .taken) ∙ c .before .stands-before .ensures) .over
 
 returns-2 : tie.Need-returns-2

@@ -26,17 +26,17 @@ loop-holds c =
     let e = c .word .ensures .0 ∙ count-is _ (s .pre .0) in
     (s .pre .0, e, omega (arith, e, few _ (s .pre .0)), omega arith, omega (arith, e, s .pre .1))
 
-customer-at-requires : tie.Need-customer-at-requires Inv-loop μ-loop
-customer-at-requires c κs = search needs
-
 sub-customer-at : tie.Need-sub-customer-at Inv-loop μ-loop
 sub-customer-at c = search needs
+
+customer-at-requires : tie.Need-customer-at-requires Inv-loop μ-loop
+customer-at-requires c κs = search needs
 
 customer-at-requires-2 : tie.Need-customer-at-requires-2 Inv-loop μ-loop
 customer-at-requires-2 c κs = search needs
 
-wrapping-sub-u32-requires : tie.Need-wrapping-sub-u32-requires Inv-loop μ-loop
-wrapping-sub-u32-requires c κs = search needs
+distance-requires : tie.Need-distance-requires Inv-loop μ-loop
+distance-requires c κs = search needs
 
 add-i : tie.Need-add-i Inv-loop μ-loop
 add-i c = search needs
@@ -64,10 +64,10 @@ cut-spec =
     μ-loop
     word-requires
     loop-holds
-    customer-at-requires
     sub-customer-at
+    customer-at-requires
     customer-at-requires-2
-    wrapping-sub-u32-requires
+    distance-requires
     add-i
     loop-less
     loop-again

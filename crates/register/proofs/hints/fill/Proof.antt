@@ -73,7 +73,7 @@ same-length : tie.Need-same-length
 same-length c =
     let t = c .before .before .before .before .before .before .before .before .before .before in
     c .before .before .spread .kept .0 ∙ c .before .before .before .before .before .before .mark .kept .1 .0
-    ∙ length-set (t .set-part2 .last .0) 0 (t .before .before .before .before .before .before .before .before .customer-at2 .result)
+    ∙ length-set (t .set-part2 .last .0) 0 (t .before .before .before .before .before .before .before .before .customer-at2 .result .0)
     ∙ t .set-part2 .kept .0 ∙ t .before .before .before .before .before .set-part .kept .0
 
 returns-2 : tie.Need-returns-2

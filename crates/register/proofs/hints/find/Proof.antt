@@ -20,7 +20,7 @@ word-requires c κs = omega (arith, head-within _ (c .before .before .before .be
 search-requires : tie.Need-search-requires
 search-requires c κs =
     let s = c .before .before .before .before .before .before in
-    let w = starts (s .args .reg .now) (s .args .customer) 0 _ (s .pre) (c .word .ensures .0) in
+    let w = starts (s .args .reg .now) (s .args .customer .0) 0 _ (s .pre) (c .word .ensures .0) in
     record { ok = w .ok; over = c .before .before .before .low-end .ensures; under = w .under; inside = w .inside }
 
 returns-2 : tie.Need-returns-2

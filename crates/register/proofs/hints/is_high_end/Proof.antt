@@ -21,13 +21,13 @@ stands-before-requires c κs =
 returns-2 : tie.Need-returns-2
 returns-2 c =
     let s = c .before .before .before .before .before .before in
-    let w = starts (s .args .reg .now) (s .args .customer) 0 _ (s .pre) (c .before .before .word .ensures .0) in
+    let w = starts (s .args .reg .now) (s .args .customer .0) 0 _ (s .pre) (c .before .before .word .ensures .0) in
     λ h. goes-down w _ (c .before .if2 .taken) (sym (not-true _ h) ∙ c .stands-before .ensures) .under
 
 returns-3 : tie.Need-returns-3
 returns-3 c =
     let s = c .before .before .before .before .before in
-    let w = starts (s .args .reg .now) (s .args .customer) 0 _ (s .pre) (c .before .word .ensures .0) in
+    let w = starts (s .args .reg .now) (s .args .customer .0) 0 _ (s .pre) (c .before .word .ensures .0) in
     λ _. omega (arith, w .under, c .if2 .left)
 
 pub is-high-end-spec : {M : Type 1} → statement M

@@ -6,14 +6,14 @@ use mathlib.Core.Bool.{true}
 use Prim.Native.Nat.{_-_, _≤_}
 use lib.ListN.{length}
 use Rattle.register.specs.Register.{mostRecords, recordsOf, registerOk}
-use Rattle.register.specs.Helpers.{headWords}
+use Rattle.register.specs.Helpers.{firstCell}
 use Rattle.register.proofs.Looking.{head-within, count-is, few}
 use Rattle.register.proofs.hints.mark.Statement.{statement}
 use Rattle.register.proofs.hints.mark.Tie as tie
 
 abbrev Inv-loop : tie.InvT-loop
 Inv-loop reg hints₀ n i₀ hints i =
-    (registerOk reg ≡ true) × (n ≡ length (recordsOf reg)) × (n ≤ mostRecords) × (headWords ≤ length hints) × (length hints ≡ length hints₀)
+    (registerOk reg ≡ true) × (n ≡ length (recordsOf reg)) × (n ≤ mostRecords) × (firstCell ≤ length hints) × (length hints ≡ length hints₀)
 
 abbrev μ-loop : tie.MeasureT-loop
 μ-loop reg hints₀ n i₀ hints i = n - i

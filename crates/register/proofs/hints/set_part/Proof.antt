@@ -11,8 +11,8 @@ mul-hints c = search needs
 slice-write-hints : tie.Need-slice-write-hints
 slice-write-hints c = search needs
 
-wrapping-sub-u32-requires : tie.Need-wrapping-sub-u32-requires
-wrapping-sub-u32-requires c κs = search needs
+distance-requires : tie.Need-distance-requires
+distance-requires c κs = search needs
 
 sub-exponent : tie.Need-sub-exponent
 sub-exponent c = search needs
@@ -65,7 +65,7 @@ set-part-spec =
     (tie.spec
     mul-hints
     slice-write-hints
-    wrapping-sub-u32-requires
+    distance-requires
     sub-exponent
     exponent-requires
     add-hints

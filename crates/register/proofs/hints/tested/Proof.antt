@@ -24,7 +24,7 @@ returns : tie.Need-returns
 returns c =
     let s = c .before .before .before .before .before .before .before in
     let h = c .before .before .before in
-    let w = starts (s .args .reg .now) (s .args .customer) 0 _ (s .pre) (h .before .word .ensures .0) in
+    let w = starts (s .args .reg .now) (s .args .customer .0) 0 _ (s .pre) (h .before .word .ensures .0) in
     let u = goes-up w _ (omega (arith, h .hint-at .ensures, c .before .before .if1 .taken)) (sym (c .if2 .taken) ∙ c .before .stands-before .ensures) in
     omega (arith, u .over, c .before .before .if1 .taken)
 

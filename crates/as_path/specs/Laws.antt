@@ -1,0 +1,92 @@
+-- What the documents say of reading an attribute, as statements. proofs/Laws.antt has the proof of each record.
+use Prim.Native.Nat.{ℕ, _+_, _*_, _≤_, _<_}
+use mathlib.Core.Path.{_≡_}
+use mathlib.Core.List.{List, [], _∷_, _++_, map}
+use mathlib.Core.Logic.{_⊎_}
+use lib.ListN.{length, getD}
+use Rattle.types.specs.declared.Fault.{Fault}
+use Rattle.types.specs.declared.Fault.the-variants.{CutShort, UnknownType, Confederation, NoNumbers, ZeroNumber}
+use Rattle.as_path.specs.declared.Scan.{Scan}
+use Rattle.as_path.specs.declared.Scan.the-variants.{Clean, Faulty}
+use Rattle.as_path.specs.Segments.{numberAt, typeAt, countAt, endOf, starts, Segment, segments}
+use Rattle.as_path.specs.Faults.{firstFault}
+use Rattle.as_path.specs.Merging.{mergeRuns, mergedPath}
+
+-- ---- the segment rules at any position
+
+-- A result that names an offset, q bytes further on.
+abbrev pub moved : ℕ → Scan → Scan
+moved q Clean = Clean
+moved q (Faulty f p) = Faulty f (q + p)
+
+-- After bytes a without a fault, what follows is read as it is by itself, moved along. w is the width of a number, whatever it is.
+pub record PositionLaws : Type 0 where
+  pub any-position : (w : ℕ) (a b : List ℕ) → firstFault w a ≡ Clean → firstFault w (a ++ b) ≡ moved (length a) (firstFault w b)
+  pub starts-append : (w : ℕ) (a b : List ℕ) → firstFault w a ≡ Clean → starts w (a ++ b) ≡ starts w a ++ map (λ p. length a + p) (starts w b)
+  pub segments-append : (w : ℕ) (a b : List ℕ) → firstFault w a ≡ Clean → segments w (a ++ b) ≡ segments w a ++ segments w b
+
+-- ---- what a fault says
+
+-- What holds of the bytes where a fault is: rows 12 to 16.
+abbrev pub Meaning : ℕ → List ℕ → Fault → ℕ → Type 0
+Meaning w a CutShort p = (p < length a) × ((length a < p + 2) ⊎ (length a < endOf w a p))
+Meaning w a UnknownType p = (p + 2 ≤ length a) × ((typeAt a p ≡ 0) ⊎ (4 < typeAt a p))
+Meaning w a Confederation p = (p + 2 ≤ length a) × (2 < typeAt a p) × (typeAt a p ≤ 4)
+Meaning w a NoNumbers p = (p + 2 ≤ length a) × (countAt a p ≡ 0)
+Meaning w a ZeroNumber p = (p + w ≤ length a) × (numberAt w a p ≡ 0)
+
+-- Bytes that begin with a segment's head: a set or a sequence, and some numbers.
+pub record Headed (b : List ℕ) : Type 0 where
+  pub head : 2 ≤ length b
+  pub typed : 1 ≤ typeAt b 0
+  pub known : typeAt b 0 ≤ 2
+  pub counted : countAt b 0 ≡ 0 → ⊥
+
+-- Number k of the first segment is the first that is 0.
+pub record FirstZero (w : ℕ) (b : List ℕ) (k : ℕ) : Type 0 where
+  pub whole : endOf w b 0 ≤ length b
+  pub within : k < countAt b 0
+  pub zeroed : numberAt w b (2 + w * k) ≡ 0
+  pub before : (j : ℕ) → j < k → numberAt w b (2 + w * j) ≡ 0 → ⊥
+
+-- What the first fault says of the bytes at its offset, and the other way: bytes b, after a without a fault, whose first segment has the fault.
+pub record FaultLaws : Type 0 where
+  pub fault-means : (w : ℕ) (a : List ℕ) (f : Fault) (p : ℕ) → firstFault w a ≡ Faulty f p → Meaning w a f p
+  -- The offset lies within the attribute.
+  pub fault-within : (w : ℕ) (a : List ℕ) (f : Fault) (p : ℕ) → 1 ≤ w → firstFault w a ≡ Faulty f p → p < length a
+  -- Row 12: one byte, or a body cut short.
+  pub one-byte : (w : ℕ) (a b : List ℕ) → firstFault w a ≡ Clean → length b ≡ 1 → firstFault w (a ++ b) ≡ Faulty CutShort (length a)
+  pub body-short : (w : ℕ) (a b : List ℕ) → firstFault w a ≡ Clean → Headed b → length b < endOf w b 0
+      → firstFault w (a ++ b) ≡ Faulty CutShort (length a)
+  -- Rows 13 and 14, whatever the count is.
+  pub unknown-type : (w : ℕ) (a b : List ℕ) → firstFault w a ≡ Clean → 2 ≤ length b → (typeAt b 0 ≡ 0) ⊎ (4 < typeAt b 0)
+      → firstFault w (a ++ b) ≡ Faulty UnknownType (length a)
+  pub confederation : (w : ℕ) (a b : List ℕ) → firstFault w a ≡ Clean → 2 ≤ length b → 2 < typeAt b 0 → typeAt b 0 ≤ 4
+      → firstFault w (a ++ b) ≡ Faulty Confederation (length a)
+  -- Row 15, of a known type.
+  pub no-numbers : (w : ℕ) (a b : List ℕ) → firstFault w a ≡ Clean → 2 ≤ length b → 1 ≤ typeAt b 0 → typeAt b 0 ≤ 2 → countAt b 0 ≡ 0
+      → firstFault w (a ++ b) ≡ Faulty NoNumbers (length a)
+  -- Row 16, at the number.
+  pub zero-number : (w : ℕ) (a b : List ℕ) (k : ℕ) → firstFault w a ≡ Clean → Headed b → FirstZero w b k
+      → firstFault w (a ++ b) ≡ Faulty ZeroNumber (length a + (2 + w * k))
+
+-- ---- the merged path
+
+-- The numbers of an attribute, unmerged.
+unfoldable pub numbersIn : List Segment → List ℕ
+numbersIn [] = []
+numbersIn (s ∷ ss) = s .numbers ++ numbersIn ss
+
+pub record PathLaws : Type 0 where
+  -- Of an attribute without a fault: no number is 0;
+  pub no-zero : (w : ℕ) (a : List ℕ) → firstFault w a ≡ Clean → (i : ℕ) → i < length (mergedPath (segments w a))
+      → getD (mergedPath (segments w a)) i 0 ≡ 0 → ⊥
+  -- if it has bytes, its path has numbers, and the first is the first segment's.
+  pub first-number : (w : ℕ) (a : List ℕ) → firstFault w a ≡ Clean → 0 < length a
+      → (0 < length (mergedPath (segments w a))) × (getD (mergedPath (segments w a)) 0 0 ≡ numberAt w a 2)
+  -- What a segment gives has no two equal neighbours.
+  pub no-runs : (l : List ℕ) (i : ℕ) → i + 1 < length (mergeRuns l) → getD (mergeRuns l) i 0 ≡ getD (mergeRuns l) (i + 1) 0 → ⊥
+  -- The paths of segments one after the other stand one after the other: no run crosses a boundary.
+  pub append : (ss ts : List Segment) → mergedPath (ss ++ ts) ≡ mergedPath ss ++ mergedPath ts
+  -- It is never longer than the attribute's numbers.
+  pub shorter : (ss : List Segment) → length (mergedPath ss) ≤ length (numbersIn ss)

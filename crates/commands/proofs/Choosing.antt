@@ -1,0 +1,86 @@
+-- The command that a line's first word chooses, and the table that a word names. Assumes nothing.
+use Prim.Native.Nat.{ℕ}
+use mathlib.Core.Path.{_≡_, refl, sym}
+use mathlib.Core.Bool.{true, false}
+use mathlib.Core.List.{List}
+use Rattle.text.specs.Ascii.{ascii}
+use Rattle.text.specs.Bytes.{sameBytes}
+use Rattle.commands.specs.declared.Named.the-variants.{Register, Ledger, Neither}
+use Rattle.commands.specs.Commands.{is, namedBy, fileCommand, withdrawCommand, clearCommand, judgeCommand, keepCommand, dropCommand, rejudgeCommand, showCommand, pokeCommand, resizeCommand, wordsCommand, emptyCommand, lookCommand, routeCommand, lentCommand, commandOf}
+
+module _ (word : List ℕ) where
+  pub names-register : sameBytes word (ascii "register") ≡ true → Register ≡ namedBy word
+  unfolding namedBy
+  names-register e = rw e refl
+
+  pub names-ledger : sameBytes word (ascii "register") ≡ false → sameBytes word (ascii "ledger") ≡ true → Ledger ≡ namedBy word
+  unfolding namedBy
+  names-ledger e f = rw (e, f) refl
+
+  pub names-neither : sameBytes word (ascii "register") ≡ false → sameBytes word (ascii "ledger") ≡ false → Neither ≡ namedBy word
+  unfolding namedBy
+  names-neither e f = rw (e, f) refl
+
+module _ (ws : List (List ℕ)) where
+  pub is-resize : is ws "resize" ≡ true → commandOf ws ≡ resizeCommand ws
+  unfolding commandOf
+  is-resize e = rw e refl
+
+  pub is-empty : is ws "resize" ≡ false → is ws "empty" ≡ true → commandOf ws ≡ emptyCommand ws
+  unfolding commandOf
+  is-empty e f = rw (e, f) refl
+
+  pub is-lent : is ws "resize" ≡ false → is ws "empty" ≡ false → commandOf ws ≡ lentCommand ws
+  unfolding commandOf
+  is-lent e f = rw (e, f) refl
+
+  pub is-file : is ws "file" ≡ true → lentCommand ws ≡ fileCommand ws
+  unfolding lentCommand
+  is-file e = rw e refl
+
+  module _ (e : is ws "file" ≡ false) where
+    pub is-withdraw : is ws "withdraw" ≡ true → lentCommand ws ≡ withdrawCommand ws
+    unfolding lentCommand
+    is-withdraw f = rw (e, f) refl
+
+    module _ (f : is ws "withdraw" ≡ false) where
+      pub is-clear : is ws "clear" ≡ true → lentCommand ws ≡ clearCommand ws
+      unfolding lentCommand
+      is-clear g = rw (e, f, g) refl
+
+      pub is-judge : is ws "clear" ≡ false → is ws "judge" ≡ true → lentCommand ws ≡ judgeCommand ws
+      unfolding lentCommand
+      is-judge g h = rw (e, f, g, h) refl
+
+      pub is-route : is ws "clear" ≡ false → is ws "judge" ≡ false → lentCommand ws ≡ routeCommand ws
+      unfolding lentCommand
+      is-route g h = rw (e, f, g, h) refl
+
+  pub is-keep : is ws "keep" ≡ true → routeCommand ws ≡ keepCommand ws
+  unfolding routeCommand
+  is-keep e = rw e refl
+
+  module _ (e : is ws "keep" ≡ false) where
+    pub is-drop : is ws "drop" ≡ true → routeCommand ws ≡ dropCommand ws
+    unfolding routeCommand
+    is-drop f = rw (e, f) refl
+
+    pub is-rejudge : is ws "drop" ≡ false → is ws "rejudge" ≡ true → routeCommand ws ≡ rejudgeCommand ws
+    unfolding routeCommand
+    is-rejudge f g = rw (e, f, g) refl
+
+    pub is-look : is ws "drop" ≡ false → is ws "rejudge" ≡ false → routeCommand ws ≡ lookCommand ws
+    unfolding routeCommand
+    is-look f g = rw (e, f, g) refl
+
+  pub is-poke : is ws "poke" ≡ true → lookCommand ws ≡ pokeCommand ws
+  unfolding lookCommand
+  is-poke e = rw e refl
+
+  pub is-words : is ws "poke" ≡ false → is ws "words" ≡ true → lookCommand ws ≡ wordsCommand ws
+  unfolding lookCommand
+  is-words e f = rw (e, f) refl
+
+  pub is-show : is ws "poke" ≡ false → is ws "words" ≡ false → lookCommand ws ≡ showCommand ws
+  unfolding lookCommand
+  is-show e f = rw (e, f) refl

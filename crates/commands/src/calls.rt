@@ -1,0 +1,165 @@
+// The calls of the filter, each with its arguments read from a line of n words. What is no command changes nothing.
+use crate::Reply;
+use lines::List;
+use text::Bytes;
+use text::Number;
+use types::AsNumber;
+use types::RouteNumber;
+ghost use mathlib.Core.Path.{_≡_};
+ghost use Prim.Native.Nat.{_≤_};
+ghost use lib.ListN.{length};
+ghost use Rattle.lines.specs.Words.{wordsOf};
+ghost use Rattle.commands.specs.Commands.{mostLine, mostParts, fileCommand, withdrawCommand, clearCommand, judgeCommand, keepCommand, dropCommand};
+ghost use Rattle.commands.specs.Commands.{rejudgeCommand};
+ghost use Rattle.commands.specs.Performing.{result, performedOn};
+
+// The most numbers, or bytes in hex, of a line: each takes two of its bytes.
+const MOST_PARTS: usize = crate::MOST_LINE / 2;
+
+fn no_numbers() -> [u32; MOST_PARTS]
+    ensures { λ r. ⌜ mostParts ≡ length r ⌝ }
+{
+    [0; MOST_PARTS]
+}
+
+fn no_bytes() -> [u8; MOST_PARTS]
+    ensures { λ r. ⌜ mostParts ≡ length r ⌝ }
+{
+    [0; MOST_PARTS]
+}
+
+pub fn file(line: &[u8], n: usize, reg: &mut [u32], led: &mut [u32]) -> Reply
+    requires { ⌜ (length (now line) ≤ mostLine) × (n ≡ length (wordsOf (now line))) ⌝ }
+    ensures { λ r. ⌜ result r (now (reg .exit)) (now (led .exit))
+        ≡ performedOn (now (reg .entry)) (now (led .entry)) (fileCommand (wordsOf (now (line .entry)))) ⌝ }
+{
+    if n < 3 {
+        return Reply::Error;
+    }
+    let Number::Is(source) = lines::number(line, 1) else {
+        return Reply::Error;
+    };
+    let Number::Is(customer) = lines::number(line, 2) else {
+        return Reply::Error;
+    };
+    let mut providers = no_numbers();
+    let List::Read(k) = lines::numbers(line, 3, &mut providers) else {
+        return Reply::Error;
+    };
+    let filed = filter::file(reg, source, AsNumber(customer), &providers[..k]);
+    Reply::Filed(filed)
+}
+
+pub fn withdraw(line: &[u8], n: usize, reg: &mut [u32], led: &mut [u32]) -> Reply
+    requires { ⌜ n ≡ length (wordsOf (now line)) ⌝ }
+    ensures { λ r. ⌜ result r (now (reg .exit)) (now (led .exit))
+        ≡ performedOn (now (reg .entry)) (now (led .entry)) (withdrawCommand (wordsOf (now (line .entry)))) ⌝ }
+{
+    if n != 3 {
+        return Reply::Error;
+    }
+    let Number::Is(source) = lines::number(line, 1) else {
+        return Reply::Error;
+    };
+    let Number::Is(customer) = lines::number(line, 2) else {
+        return Reply::Error;
+    };
+    let removal = filter::withdraw(reg, source, AsNumber(customer));
+    Reply::Removed(removal)
+}
+
+pub fn clear(line: &[u8], n: usize, reg: &mut [u32], led: &mut [u32]) -> Reply
+    requires { ⌜ n ≡ length (wordsOf (now line)) ⌝ }
+    ensures { λ r. ⌜ result r (now (reg .exit)) (now (led .exit))
+        ≡ performedOn (now (reg .entry)) (now (led .entry)) (clearCommand (wordsOf (now (line .entry)))) ⌝ }
+{
+    if n != 2 {
+        return Reply::Error;
+    }
+    let Number::Is(source) = lines::number(line, 1) else {
+        return Reply::Error;
+    };
+    let cleared = filter::clear(reg, source);
+    Reply::Cleared(cleared)
+}
+
+pub fn judge(line: &[u8], n: usize, reg: &mut [u32], led: &mut [u32]) -> Reply
+    requires { ⌜ (length (now line) ≤ mostLine) × (n ≡ length (wordsOf (now line))) ⌝ }
+    ensures { λ r. ⌜ result r (now (reg .exit)) (now (led .exit))
+        ≡ performedOn (now (reg .entry)) (now (led .entry)) (judgeCommand (wordsOf (now (line .entry)))) ⌝ }
+{
+    if n != 4 {
+        return Reply::Error;
+    }
+    let Number::Is(role) = lines::number(line, 1) else {
+        return Reply::Error;
+    };
+    let Number::Is(neighbour) = lines::number(line, 2) else {
+        return Reply::Error;
+    };
+    let mut attribute = no_bytes();
+    let Bytes::Read(k) = lines::bytes(line, 3, &mut attribute) else {
+        return Reply::Error;
+    };
+    let judged = filter::judge(reg, role, AsNumber(neighbour), &attribute[..k]);
+    Reply::Judged(judged)
+}
+
+pub fn keep(line: &[u8], n: usize, reg: &mut [u32], led: &mut [u32]) -> Reply
+    requires { ⌜ (length (now line) ≤ mostLine) × (n ≡ length (wordsOf (now line))) ⌝ }
+    ensures { λ r. ⌜ result r (now (reg .exit)) (now (led .exit))
+        ≡ performedOn (now (reg .entry)) (now (led .entry)) (keepCommand (wordsOf (now (line .entry)))) ⌝ }
+{
+    if n != 5 {
+        return Reply::Error;
+    }
+    let Number::Is(number) = lines::number(line, 1) else {
+        return Reply::Error;
+    };
+    let Number::Is(role) = lines::number(line, 2) else {
+        return Reply::Error;
+    };
+    let Number::Is(neighbour) = lines::number(line, 3) else {
+        return Reply::Error;
+    };
+    let mut attribute = no_bytes();
+    let Bytes::Read(k) = lines::bytes(line, 4, &mut attribute) else {
+        return Reply::Error;
+    };
+    let judged = filter::keep(
+        reg,
+        led,
+        RouteNumber(number),
+        role,
+        AsNumber(neighbour),
+        &attribute[..k],
+    );
+    Reply::Judged(judged)
+}
+
+pub fn drop(line: &[u8], n: usize, reg: &mut [u32], led: &mut [u32]) -> Reply
+    requires { ⌜ n ≡ length (wordsOf (now line)) ⌝ }
+    ensures { λ r. ⌜ result r (now (reg .exit)) (now (led .exit))
+        ≡ performedOn (now (reg .entry)) (now (led .entry)) (dropCommand (wordsOf (now (line .entry)))) ⌝ }
+{
+    if n != 2 {
+        return Reply::Error;
+    }
+    let Number::Is(number) = lines::number(line, 1) else {
+        return Reply::Error;
+    };
+    let removal = filter::drop(led, RouteNumber(number));
+    Reply::Removed(removal)
+}
+
+pub fn rejudge(line: &[u8], n: usize, reg: &mut [u32], led: &mut [u32]) -> Reply
+    requires { ⌜ n ≡ length (wordsOf (now line)) ⌝ }
+    ensures { λ r. ⌜ result r (now (reg .exit)) (now (led .exit))
+        ≡ performedOn (now (reg .entry)) (now (led .entry)) (rejudgeCommand (wordsOf (now (line .entry)))) ⌝ }
+{
+    if n != 1 {
+        return Reply::Error;
+    }
+    let rejudged = filter::rejudge(reg, led);
+    Reply::Rejudged(rejudged)
+}

@@ -1,0 +1,121 @@
+// The command of a line of n words, found by its first word, on the tables as they are lent.
+use crate::Named;
+use crate::Reply;
+use crate::calls;
+use crate::tables;
+use text::Number;
+ghost use mathlib.Core.Path.{_≡_};
+ghost use Prim.Native.Nat.{_≤_};
+ghost use lib.ListN.{length};
+ghost use Rattle.lines.specs.Words.{wordsOf, wordAt};
+ghost use Rattle.commands.specs.Commands.{mostLine, namedBy, showCommand, pokeCommand, wordsCommand, lookCommand, routeCommand, lentCommand};
+ghost use Rattle.commands.specs.Performing.{result, performedOn};
+
+pub fn named(line: &[u8], k: usize) -> Named
+    ensures { λ r. ⌜ r ≡ namedBy (wordAt (now (line .entry)) k) ⌝ }
+{
+    if lines::is_word(line, k, b"register") {
+        return Named::Register;
+    }
+    if lines::is_word(line, k, b"ledger") {
+        return Named::Ledger;
+    }
+    Named::Neither
+}
+
+fn poke(line: &[u8], n: usize, reg: &mut [u32], led: &mut [u32]) -> Reply
+    requires { ⌜ n ≡ length (wordsOf (now line)) ⌝ }
+    ensures { λ r. ⌜ result r (now (reg .exit)) (now (led .exit))
+        ≡ performedOn (now (reg .entry)) (now (led .entry)) (pokeCommand (wordsOf (now (line .entry)))) ⌝ }
+{
+    if n != 4 {
+        return Reply::Error;
+    }
+    let Number::Is(index) = lines::number(line, 2) else {
+        return Reply::Error;
+    };
+    let Number::Is(value) = lines::number(line, 3) else {
+        return Reply::Error;
+    };
+    match named(line, 1) {
+        Named::Register => tables::poke(reg, index as usize, value),
+        Named::Ledger => tables::poke(led, index as usize, value),
+        Named::Neither => Reply::Error,
+    }
+}
+
+fn words(line: &[u8], n: usize, reg: &mut [u32], led: &mut [u32]) -> Reply
+    requires { ⌜ n ≡ length (wordsOf (now line)) ⌝ }
+    ensures { λ r. ⌜ result r (now (reg .exit)) (now (led .exit))
+        ≡ performedOn (now (reg .entry)) (now (led .entry)) (wordsCommand (wordsOf (now (line .entry)))) ⌝ }
+{
+    if n != 2 {
+        return Reply::Error;
+    }
+    Reply::Sized(named(line, 1))
+}
+
+fn show(line: &[u8], n: usize, reg: &mut [u32], led: &mut [u32]) -> Reply
+    requires { ⌜ n ≡ length (wordsOf (now line)) ⌝ }
+    ensures { λ r. ⌜ result r (now (reg .exit)) (now (led .exit))
+        ≡ performedOn (now (reg .entry)) (now (led .entry)) (showCommand (wordsOf (now (line .entry)))) ⌝ }
+{
+    if n != 1 {
+        return Reply::Error;
+    }
+    Reply::Shown(named(line, 0))
+}
+
+// The commands that look at the tables, or set a word.
+fn look(line: &[u8], n: usize, reg: &mut [u32], led: &mut [u32]) -> Reply
+    requires { ⌜ n ≡ length (wordsOf (now line)) ⌝ }
+    ensures { λ r. ⌜ result r (now (reg .exit)) (now (led .exit))
+        ≡ performedOn (now (reg .entry)) (now (led .entry)) (lookCommand (wordsOf (now (line .entry)))) ⌝ }
+{
+    if lines::is_word(line, 0, b"poke") {
+        return poke(line, n, reg, led);
+    }
+    if lines::is_word(line, 0, b"words") {
+        return words(line, n, reg, led);
+    }
+    show(line, n, reg, led)
+}
+
+// The calls that are lent the ledger.
+fn route(line: &[u8], n: usize, reg: &mut [u32], led: &mut [u32]) -> Reply
+    requires { ⌜ (length (now line) ≤ mostLine) × (n ≡ length (wordsOf (now line))) ⌝ }
+    ensures { λ r. ⌜ result r (now (reg .exit)) (now (led .exit))
+        ≡ performedOn (now (reg .entry)) (now (led .entry)) (routeCommand (wordsOf (now (line .entry)))) ⌝ }
+{
+    if lines::is_word(line, 0, b"keep") {
+        return calls::keep(line, n, reg, led);
+    }
+    if lines::is_word(line, 0, b"drop") {
+        return calls::drop(line, n, reg, led);
+    }
+    if lines::is_word(line, 0, b"rejudge") {
+        return calls::rejudge(line, n, reg, led);
+    }
+    look(line, n, reg, led)
+}
+
+// Every command that leaves both lengths as they are.
+pub fn run(line: &[u8], n: usize, reg: &mut [u32], led: &mut [u32]) -> Reply
+    requires { ⌜ (length (now line) ≤ mostLine) × (n ≡ length (wordsOf (now line))) ⌝ }
+    ensures { λ r. ⌜ result r (now (reg .exit)) (now (led .exit))
+        ≡ performedOn (now (reg .entry)) (now (led .entry)) (lentCommand (wordsOf (now (line .entry)))) ⌝ }
+{
+    if lines::is_word(line, 0, b"file") {
+        return calls::file(line, n, reg, led);
+    }
+    if lines::is_word(line, 0, b"withdraw") {
+        return calls::withdraw(line, n, reg, led);
+    }
+    if lines::is_word(line, 0, b"clear") {
+        return calls::clear(line, n, reg, led);
+    }
+    if lines::is_word(line, 0, b"judge") {
+        return calls::judge(line, n, reg, led);
+    }
+    route(line, n, reg, led)
+}

@@ -1,0 +1,142 @@
+// A reply as text, from index at of a buffer on.
+use commands::Named;
+use commands::Reply;
+ghost use mathlib.Core.Path.{_≡_};
+ghost use Prim.Native.Nat.{_+_, _*_, _≤_, _<_, _^_, min};
+ghost use lib.ListN.{length, take, getD};
+ghost use lib.Seq.{sets};
+ghost use Rattle.commands.specs.Performing.{both};
+ghost use Rattle.replies.specs.Texts.{usedWords, withoutZeros, sizedText, shownText, sizedIn, replyText, mostReply};
+ghost use Rattle.commands.specs.Commands.{mostLent};
+ghost use Rattle.answers.specs.Texts.{spacedText};
+
+// The room that a reply takes at most: a table's length, its words of eleven bytes each, and ten bytes that are left over.
+pub const MOST_REPLY: usize = 20 + 11 * commands::MOST_LENT + 10;
+
+fn wide(x: u32) -> u64
+    ensures { λ r. ⌜ r ≡ x ⌝ }
+{
+    x as u64
+}
+
+fn size(x: u32) -> usize
+    ensures { λ r. ⌜ (r ≡ x) × (r < 2 ^ 32) ⌝ }
+{
+    x as usize
+}
+
+// A word; 0 past the end.
+fn word(table: &[u32], i: usize) -> usize
+    ensures { λ r. ⌜ (r ≡ getD (now (table .entry)) i 0) × (r < 2 ^ 32) ⌝ }
+{
+    if i < table.len() {
+        return size(table[i]);
+    }
+    0
+}
+
+fn least(a: usize, b: usize) -> usize
+    ensures { λ r. ⌜ (r ≡ min a b) × (r ≤ b) ⌝ }
+{
+    if a < b { a } else { b }
+}
+
+// How many words there are up to the last of the bodies, where a slot has so many words. In a malformed table the counts may lead past
+// the end: then all.
+fn used(table: &[u32], width: usize) -> usize
+    requires { ⌜ width < 2 ^ 16 ⌝ }
+    ensures { λ r. ⌜ (r ≡ min (2 + width * getD (now (table .entry)) 0 0 + getD (now (table .entry)) 1 0) (length (now (table .entry))))
+        × (r ≤ length (now (table .entry))) ⌝ }
+{
+    let slots = width * word(table, 0);
+    least(2 + slots + word(table, 1), table.len())
+}
+
+// How many words there are up to the last that is not zero.
+fn nonzero(table: &[u32]) -> usize
+    ensures { λ r. ⌜ (r ≡ length (withoutZeros (now (table .entry)))) × (take r (now (table .entry)) ≡ withoutZeros (now (table .entry)))
+        × (r ≤ length (now (table .entry))) ⌝ }
+{
+    let mut n = table.len();
+    while 0 < n {
+        if table[n - 1] != 0 {
+            return n;
+        }
+        n -= 1;
+    }
+    n
+}
+
+// Words separated by spaces.
+fn put_spaced(out: &mut [u8], at: usize, words: &[u32]) -> usize
+    requires { ⌜ (length (now words) ≤ mostLent) × (at + mostReply ≤ length (now out)) ⌝ }
+    ensures { λ r. ⌜ (r ≡ at + length (spacedText (now (words .entry))))
+        × (now (out .exit) ≡ sets (now (out .entry)) at (spacedText (now (words .entry)))) × (r ≤ at + mostReply) ⌝ }
+{
+    if words.len() == 0 {
+        return at;
+    }
+    let next = text::put_decimal(wide(words[0]), out, at);
+    answers::put_each(out, next, &words[1..])
+}
+
+// A table's length, then its words up to the last that is not zero.
+fn put_sized(out: &mut [u8], at: usize, table: &[u32]) -> usize
+    requires { ⌜ (length (now table) ≤ mostLent) × (at + mostReply ≤ length (now out)) ⌝ }
+    ensures { λ r. ⌜ (r ≡ at + length (sizedText (now (table .entry))))
+        × (now (out .exit) ≡ sets (now (out .entry)) at (sizedText (now (table .entry)))) × (r ≤ at + mostReply) ⌝ }
+{
+    let next = text::put_decimal(table.len() as u64, out, at);
+    let n = nonzero(table);
+    answers::put_each(out, next, &table[..n])
+}
+
+fn put_shown(out: &mut [u8], at: usize, named: Named, reg: &[u32], led: &[u32]) -> usize
+    requires { ⌜ (length (now reg) ≤ mostLent) × (length (now led) ≤ mostLent) × (at + mostReply ≤ length (now out)) ⌝ }
+    ensures { λ r. ⌜ (r ≡ at + length (shownText (both (now (reg .entry)) (now (led .entry))) named))
+        × (now (out .exit) ≡ sets (now (out .entry)) at (shownText (both (now (reg .entry)) (now (led .entry))) named))
+        × (r ≤ at + mostReply) ⌝ }
+{
+    match named {
+        Named::Register => {
+            let n = used(reg, register::WIDTH);
+            put_spaced(out, at, &reg[..n])
+        }
+        Named::Ledger => {
+            let n = used(led, ledger::WIDTH);
+            put_spaced(out, at, &led[..n])
+        }
+        Named::Neither => text::put(b"error", out, at),
+    }
+}
+
+fn put_all(out: &mut [u8], at: usize, named: Named, reg: &[u32], led: &[u32]) -> usize
+    requires { ⌜ (length (now reg) ≤ mostLent) × (length (now led) ≤ mostLent) × (at + mostReply ≤ length (now out)) ⌝ }
+    ensures { λ r. ⌜ (r ≡ at + length (sizedIn (both (now (reg .entry)) (now (led .entry))) named))
+        × (now (out .exit) ≡ sets (now (out .entry)) at (sizedIn (both (now (reg .entry)) (now (led .entry))) named)) × (r ≤ at + mostReply) ⌝ }
+{
+    match named {
+        Named::Register => put_sized(out, at, reg),
+        Named::Ledger => put_sized(out, at, led),
+        Named::Neither => text::put(b"error", out, at),
+    }
+}
+
+pub fn put(out: &mut [u8], at: usize, reply: Reply, reg: &[u32], led: &[u32]) -> usize
+    requires { ⌜ (length (now reg) ≤ mostLent) × (length (now led) ≤ mostLent) × (at + mostReply ≤ length (now out)) ⌝ }
+    ensures { λ r. ⌜ (r ≡ at + length (replyText (both (now (reg .entry)) (now (led .entry))) reply))
+        × (now (out .exit) ≡ sets (now (out .entry)) at (replyText (both (now (reg .entry)) (now (led .entry))) reply))
+        × (r ≤ at + mostReply) ⌝ }
+{
+    match reply {
+        Reply::Done => text::put(b"done", out, at),
+        Reply::Error => text::put(b"error", out, at),
+        Reply::Filed(a) => answers::put_filed(out, at, a),
+        Reply::Removed(a) => answers::put_removal(out, at, a),
+        Reply::Cleared(a) => answers::put_cleared(out, at, a),
+        Reply::Judged(a) => answers::put_judged(out, at, a),
+        Reply::Rejudged(a) => answers::put_rejudged(out, at, a),
+        Reply::Shown(t) => put_shown(out, at, t, reg, led),
+        Reply::Sized(t) => put_all(out, at, t, reg, led),
+    }
+}
