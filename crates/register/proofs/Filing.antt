@@ -75,7 +75,7 @@ module _ {ws : List ℕ} {position source customer : ℕ} {list : List ℕ} (p :
   file-full e =
       rw (eq-eqb (length ws) registerWords (p .long), p .ok, le-ltb lastSource source (p .known), ne-eqb customer 0 (p .some), p .rising, e)
 
-  file-done : (b : Bool) → holdsRecord customer source rs ≡ b → roomFor (putRecord r rs) ≡ true
+  pub file-done : (b : Bool) → holdsRecord customer source rs ≡ b → roomFor (putRecord r rs) ≡ true
       → fileEffect ws source customer list ≡ record { answer = cond b filed.Replaced filed.New; words = registerOf (putRecord r rs) }
   unfolding fileEffect firstGiven
   file-done b h e =
