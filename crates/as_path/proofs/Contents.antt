@@ -21,7 +21,8 @@ use Rattle.as_path.specs.Segments.{numberBytes, segments}
 use Rattle.as_path.specs.Faults.{firstFault}
 use Rattle.as_path.specs.Grounds.{groundOf}
 use Rattle.as_path.specs.Merging.{mergedPath}
-use Rattle.as_path.specs.Reading.{mostNumbers, Stored, faulty, grounded, merged, afterGround, afterScan, contentOf, readingOf}
+use Rattle.as_path.specs.Reading.{mostNumbers, faulty, grounded, merged, afterGround, afterScan, contentOf, readingOf}
+use Rattle.as_path.specs.Helpers.{Stored}
 use Rattle.as_path.proofs.Grounding.{ground-empty}
 
 module _ (role : ℕ) (neighbour : ℕ) (xs : List ℕ) where

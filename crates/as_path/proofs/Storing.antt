@@ -14,7 +14,7 @@ use Rattle.as_path.specs.declared.Scan.the-variants.{Clean}
 use Rattle.as_path.specs.Segments.{numberAt, numbersAt, countAt, starts, segmentAt, segments}
 use Rattle.as_path.specs.Faults.{faultAmong, firstFault}
 use Rattle.as_path.specs.Merging.{runsAfter, mergeRuns, mergedPath}
-use Rattle.as_path.specs.Reading.{Stored}
+use Rattle.as_path.specs.Helpers.{Stored}
 use Rattle.as_path.proofs.Walking.{Whole, Stand, left, first, next, none-left, one-more, whole-here}
 use Rattle.as_path.proofs.Scanning.{numbers-part}
 

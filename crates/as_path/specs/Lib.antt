@@ -4,3 +4,4 @@ pub mod Grounds
 pub mod Merging
 pub mod Reading
 pub mod Laws
+pub mod Helpers

@@ -1,5 +1,5 @@
 -- What an attribute is read as: its first fault, else its ground, else its merged path. Row 17 arises only of a merged path.
-use Prim.Native.Nat.{ℕ, _+_}
+use Prim.Native.Nat.{ℕ}
 use mathlib.Core.Path.{_≡_}
 use mathlib.Core.List.{List}
 use mathlib.Core.Bool.{cond}
@@ -23,11 +23,6 @@ use Rattle.as_path.specs.Merging.{mergedPath}
 -- The most numbers of a merged path.
 abbrev pub mostNumbers : ℕ
 mostNumbers = 64
-
--- `list` is stored in a buffer from index `from` on, as far as the buffer goes, and `to` is the index after it.
-pub record Stored (before : List ℕ) (from : ℕ) (list after : List ℕ) (to : ℕ) : Type 0 where
-  pub buffer : after ≡ sets before from list
-  pub index : to ≡ from + length list
 
 pub data Content : Type 0 where
   faulty : Fault → ℕ → Content

@@ -13,7 +13,8 @@ ghost use Rattle.as_path.specs.Segments.{numberBytes, numberAt, bodyNumb
 ghost use Rattle.as_path.specs.Faults.{firstFault};
 ghost use Rattle.as_path.specs.Grounds.{hasSet, groundOf, isNotNeighbour};
 ghost use Rattle.as_path.specs.Merging.{mergeRuns, mergedPath};
-ghost use Rattle.as_path.specs.Reading.{Stored, contentOf, ReadAs};
+ghost use Rattle.as_path.specs.Reading.{contentOf, ReadAs};
+ghost use Rattle.as_path.specs.Helpers.{Stored};
 
 // The most numbers of a merged path.
 pub const MOST_NUMBERS: usize = 64;

@@ -9,6 +9,7 @@ use Rattle.text.specs.Ascii.{ascii}
 use Rattle.text.specs.Numbers.{numberOf, ifNumber}
 use Rattle.text.specs.Bytes.{bytesOf, bytesIn, ifBytes, sameBytes}
 use Rattle.lines.specs.Words.{allNumbers, numbersIn}
+use Rattle.filter.specs.Calls.{keeping}
 use Rattle.history.specs.Calls.{Call, file, withdraw, clear, keep, drop as dropRoute, rejudge}
 use Rattle.commands.specs.declared.Named.{Named}
 use Rattle.commands.specs.declared.Named.the-variants.{Register, Ledger, Neither}
@@ -79,7 +80,7 @@ judgeCommand ws =
 abbrev pub keepCommand : List (List ℕ) → Command
 keepCommand ws =
     ofWords ws 5
-    (withNumber ws 1 (λ number. withNumber ws 2 (λ role. withNumber ws 3 (λ neighbour. withBytes ws 4 (λ attribute. call (keep number role neighbour attribute))))))
+    (withNumber ws 1 (λ number. withNumber ws 2 (λ role. withNumber ws 3 (λ neighbour. withBytes ws 4 (λ attribute. call (keep (keeping number role neighbour attribute)))))))
 
 abbrev pub dropCommand : List (List ℕ) → Command
 dropCommand ws = ofWords ws 2 (withNumber ws 1 (λ number. call (dropRoute number)))

@@ -17,9 +17,8 @@ use Rattle.ledger.specs.Routes.{routesOf}
 use Rattle.ledger.specs.Routes as routes
 use Rattle.history.specs.Calls.{Call, file, withdraw, clear, keep, drop, rejudge, Tables, Formed, callAt, said, KeptRoute, routeRead, findRecord, providersOf, known}
 use Rattle.history.specs.Replies.{new, replaced, shown, accepted}
-use Rattle.history.specs.Model.{Model, numberOf, refusal, answer, change, replyUnless, changeUnless, after}
+use Rattle.history.specs.Model.{Model, numberOf, findKept, refusal, answer, change, replyUnless, changeUnless, after}
 use Rattle.history.specs.Filings.{filedBy, filedList, keptBy, keptRouteAt}
-use Rattle.history.proofs.Keys.{findKept}
 use Rattle.history.proofs.Simulating.{history-replies}
 
 -- A call that is not refused is accepted.
@@ -31,7 +30,7 @@ answer-accepted m (file s c list) = go (holdsRecord c s (m .lists))
     go false = refl
 answer-accepted m (withdraw s c) = refl
 answer-accepted m (clear s) = refl
-answer-accepted m (keep n role neighbour attribute) = refl
+answer-accepted m (keep k) = refl
 answer-accepted m (drop n) = refl
 answer-accepted m rejudge = refl
 
@@ -56,7 +55,7 @@ module _ (source customer : ℕ) where
       ap providersOf (find-without keyOf samePair beforePair ordered-pairs (customer, source) (ofSource s) (m .lists))
       ∙ through (eqb source s) none (findRecord (customer, source) (m .lists))
       ∙ ap (λ b. cond b none (providersOf (findRecord (customer, source) (m .lists)))) (same-flip eqb ltb ordered-ℕ source s)
-  changed-list m (keep n role neighbour attribute) = refl
+  changed-list m (keep k) = refl
   changed-list m (drop n) = refl
   changed-list m rejudge = refl
 
@@ -85,9 +84,9 @@ module _ (number : ℕ) where
   changed-route m (file s c list) = refl
   changed-route m (withdraw s c) = refl
   changed-route m (clear s) = refl
-  changed-route m (keep n role neighbour attribute) =
-      find-put numberOf eqb ltb ordered-ℕ number (routeRead n role neighbour attribute) (m .routes)
-      ∙ ap (λ b. cond b (some (routeRead n role neighbour attribute)) (findKept number (m .routes))) (same-flip eqb ltb ordered-ℕ number n)
+  changed-route m (keep k) =
+      find-put numberOf eqb ltb ordered-ℕ number (routeRead k) (m .routes)
+      ∙ ap (λ b. cond b (some (routeRead k)) (findKept number (m .routes))) (same-flip eqb ltb ordered-ℕ number (k .number))
   changed-route m (drop n) = find-without numberOf eqb ltb ordered-ℕ number (eqb n) (m .routes)
   changed-route m rejudge = refl
 

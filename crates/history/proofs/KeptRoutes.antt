@@ -1,6 +1,6 @@
 -- The route that a keeping stores, and one that is judged anew, as the model has them. Assumes nothing.
-use Prim.Native.Nat.{ℕ, _≤_}
-use mathlib.Core.Path.{_≡_, refl, sym, ap}
+use Prim.Native.Nat.{ℕ}
+use mathlib.Core.Path.{_≡_, refl}
 use mathlib.Core.Bool.{Bool, true, false, cond}
 use mathlib.Core.List.{List}
 use mathlib.Core.Option.{none}
@@ -9,35 +9,20 @@ use lib.Dec.{eqb}
 use lib.ListN.{length}
 use Rattle.types.specs.Numbers.{verdictOf}
 use Rattle.types.specs.declared.Verdict.{Verdict}
-use Rattle.types.specs.declared.Answer.the-variants.{Plain, WithGap}
-use Rattle.types.specs.Roles.{isUpstream}
 use Rattle.types.specs.Rows.{firstGiven}
 use Rattle.keyed.proofs.Orders.{both-left, both-right}
 use Rattle.rules.specs.Hops.{HopFunction}
-use Rattle.rules.specs.Verdicts.{gapOf, upstream, downstream, judged}
-use Rattle.rules.specs.Draft.{outcomeOf, draftUpstream, draftDownstream}
+use Rattle.rules.specs.Verdicts.{judged}
 use Rattle.rules.specs.Judging.{judgeRows}
-use Rattle.rules.proofs.Drafting.{draft-upstream, draft-downstream}
 use Rattle.rules.proofs.Judges.{Judgement, on-ground, on-path, judgement}
 use Rattle.ledger.specs.Routes.{Route, groundOk, routeOk}
 use Rattle.ledger.specs.Calls.{stamped}
 use Rattle.rejudge.specs.Rejudging.{rejudgedRoute}
 use Rattle.rejudge.proofs.Rejudgements.{by-ground}
-use Rattle.filter.specs.Calls.{keeping, keptRoute, hopIn}
+use Rattle.filter.specs.Calls.{Keeping, keptRoute, hopIn}
 use Rattle.filter.proofs.KeptRoutes.{judged-ground}
 use Rattle.history.specs.Calls.{routeRead, known}
 use Rattle.history.specs.Model.{withVerdict, withWords, judgedKept}
-use Rattle.history.specs.Demands.{draftPath}
-
--- The word of a path's verdict is the draft's.
-pub judged-word : (hop : HopFunction) (path : List ℕ) (role : ℕ) → 1 ≤ length path → draftPath hop role path ≡ outcomeOf (verdictOf (judged hop path role))
-unfolding judged
-judged-word hop path role one = go (isUpstream role)
-  where
-    go : (b : Bool) → cond b (outcomeOf (draftUpstream hop path)) (outcomeOf (draftDownstream hop path))
-        ≡ outcomeOf (verdictOf (cond b (Plain (upstream hop path)) (WithGap (downstream hop path) (gapOf hop path))))
-    go true = ap outcomeOf (sym (draft-upstream hop path one))
-    go false = ap outcomeOf (sym (draft-downstream hop path one))
 
 -- ---- a route that is judged anew
 
@@ -84,11 +69,11 @@ module _ (hop : HopFunction) where
 
 -- ---- the route that a keeping stores
 
-module _ (reg : List ℕ) (number role neighbour : ℕ) (attribute : List ℕ) (e : firstGiven (judgeRows role neighbour attribute) ≡ none) where
+module _ (reg : List ℕ) (k : Keeping) (e : firstGiven (judgeRows (k .role) (k .neighbour) (k .attribute)) ≡ none) where
   -- But for the verdict it is the route that the arguments are read as.
-  pub kept-known : known (keptRoute reg (keeping number role neighbour attribute)) ≡ routeRead number role neighbour attribute
-  kept-known = go (judgement (hopIn reg) role neighbour attribute e)
+  pub kept-known : known (keptRoute reg k) ≡ routeRead k
+  kept-known = go (judgement (hopIn reg) (k .role) (k .neighbour) (k .attribute) e)
     where
-      go : Judgement (hopIn reg) role neighbour attribute → known (keptRoute reg (keeping number role neighbour attribute)) ≡ routeRead number role neighbour attribute
+      go : Judgement (hopIn reg) (k .role) (k .neighbour) (k .attribute) → known (keptRoute reg k) ≡ routeRead k
       go (on-ground g c j) = rw (j, c)
-      go (on-path path c short j) = rw (j, c, judged-ground (hopIn reg) path role)
+      go (on-path path c short j) = rw (j, c, judged-ground (hopIn reg) path (k .role))

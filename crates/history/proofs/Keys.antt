@@ -10,7 +10,7 @@ use lib.ListN.{length}
 use Rattle.types.specs.declared.Refusal.{Refusal}
 use Rattle.types.specs.declared.Refusal.the-variants.{NoRecord, RouteTaken, NoRoute}
 use Rattle.types.specs.Rows.{rowIf, orElse, firstGiven}
-use Rattle.keyed.specs.Keyed.{Ordered, samePair, beforePair, ascends, find, without, countOf}
+use Rattle.keyed.specs.Keyed.{Ordered, samePair, beforePair, ascends, without, countOf}
 use Rattle.keyed.proofs.Orders.{ordered-pairs, ordered-ℕ, same-flip}
 use Rattle.keyed.proofs.Puts.{ascends-put, ascends-without}
 use Rattle.keyed.proofs.Mapping.{ascends-map}
@@ -22,13 +22,9 @@ use Rattle.register.proofs.Holding as register-holding
 use Rattle.ledger.specs.Routes.{routesOf}
 use Rattle.ledger.specs.Routes as routes
 use Rattle.ledger.proofs.Holding as ledger-holding
-use Rattle.history.specs.Calls.{Call, file, withdraw, clear, keep, drop, rejudge, Tables, Formed, callAt, KeptRoute, routeRead, findRecord, known}
+use Rattle.history.specs.Calls.{Call, file, withdraw, clear, keep, drop, rejudge, Scope, of-pair, of-source, of-route, idle, scope, Tables, Formed, callAt, KeptRoute, routeRead, findRecord, known}
 use Rattle.history.specs.Replies.{ModelReply, new, replaced, gone}
-use Rattle.history.specs.Model.{Model, heldBy, numberOf, holdsKept, argumentRows, heldRows, answer, change, replyUnless, changeUnless}
-
--- The kept route under a number.
-abbrev pub findKept : ℕ → List KeptRoute → Option KeptRoute
-findKept number rs = find numberOf eqb ltb number rs
+use Rattle.history.specs.Model.{Model, heldBy, numberOf, findKept, holdsKept, argumentRows, heldRows, answer, change, replyUnless, changeUnless}
 
 -- A key of the lists (customer and source) or of the routes.
 pub data Key : Type 0 where
@@ -46,19 +42,15 @@ look (pair k) m = findRecord k (m .lists)
 look (route n) m = findKept n (m .routes)
 
 -- Whether a call can change what is found under the key.
-abbrev pub hits : Key → Call → Bool
-hits (pair k) (file s c list) = samePair k (c, s)
-hits (pair k) (withdraw s c) = samePair k (c, s)
-hits (pair k) (clear s) = eqb (k .1) s
-hits (pair k) (keep n role neighbour attribute) = false
-hits (pair k) (drop n) = false
-hits (pair k) rejudge = false
-hits (route k) (file s c list) = false
-hits (route k) (withdraw s c) = false
-hits (route k) (clear s) = false
-hits (route k) (keep n role neighbour attribute) = eqb k n
-hits (route k) (drop n) = eqb k n
-hits (route k) rejudge = false
+abbrev pub hits : Key → Scope → Bool
+hits (pair k) (of-pair s c) = samePair k (c, s)
+hits (pair k) (of-source s) = eqb (k .1) s
+hits (pair k) (of-route n) = false
+hits (pair k) idle = false
+hits (route k) (of-pair s c) = false
+hits (route k) (of-source s) = false
+hits (route k) (of-route n) = eqb k n
+hits (route k) idle = false
 
 -- ---- the model with room without end
 
@@ -103,13 +95,13 @@ abbrev value : (k : Key) → Call → Found k → Found k
 value (pair k) (file s c list) v = some (recordFor s c list)
 value (pair k) (withdraw s c) v = none
 value (pair k) (clear s) v = none
-value (pair k) (keep n role neighbour attribute) v = v
+value (pair k) (keep j) v = v
 value (pair k) (drop n) v = v
 value (pair k) rejudge v = v
 value (route k) (file s c list) v = v
 value (route k) (withdraw s c) v = v
 value (route k) (clear s) v = v
-value (route k) (keep n role neighbour attribute) v = unlessThere v (some (routeRead n role neighbour attribute))
+value (route k) (keep j) v = unlessThere v (some (routeRead j))
 value (route k) (drop n) v = none
 value (route k) rejudge v = v
 
@@ -120,7 +112,7 @@ blocked none x y = y
 
 -- What a call makes of what is found under the key.
 abbrev becomes : (k : Key) → Call → Found k → Found k
-becomes k c v = cond (hits k c) (blocked (firstGiven (argumentRows c)) v (value k c v)) v
+becomes k c v = cond (hits k (scope c)) (blocked (firstGiven (argumentRows c)) v (value k c v)) v
 
 -- A call that leaves what is found under a key leaves it whether refused or not.
 left-alone : (k : Key) (o : Option Refusal) (m n : Model) → look k n ≡ look k m → look k (changeUnless o m n) ≡ look k m
@@ -134,7 +126,7 @@ there none h n = let z : _≡_ {A = ℕ} 0 1 = cc in absurd (omega arith)
 
 -- A call that its arguments do not bar.
 found-own : (k : Key) (m : Model) (c : Call)
-    → look k (changeUnless (firstGiven (heldRows m c)) m (change m c)) ≡ cond (hits k c) (value k c (look k m)) (look k m)
+    → look k (changeUnless (firstGiven (heldRows m c)) m (change m c)) ≡ cond (hits k (scope c)) (value k c (look k m)) (look k m)
 unfolding firstGiven
 found-own (pair k) m (file s c list) = find-put keyOf samePair beforePair ordered-pairs k (recordFor s c list) (m .lists)
 found-own (pair k) m (withdraw s c) = go (holdsRecord c s (m .lists)) refl
@@ -149,27 +141,27 @@ found-own (pair k) m (withdraw s c) = go (holdsRecord c s (m .lists)) refl
         sym (either-way (samePair k (c, s)) _)
         ∙ at-key samePair beforePair ordered-pairs k (c, s) _ _ _ (λ q. rw q (find-none keyOf samePair beforePair (c, s) (m .lists) e))
 found-own (pair k) m (clear s) = find-without keyOf samePair beforePair ordered-pairs k (ofSource s) (m .lists)
-found-own (pair k) m (keep n role neighbour attribute) = left-alone (pair k) (firstGiven (heldRows m (keep n role neighbour attribute))) m _ refl
+found-own (pair k) m (keep j) = left-alone (pair k) (firstGiven (heldRows m (keep j))) m _ refl
 found-own (pair k) m (drop n) = left-alone (pair k) (firstGiven (heldRows m (drop n))) m _ refl
 found-own (pair k) m rejudge = refl
 found-own (route k) m (file s c list) = refl
 found-own (route k) m (withdraw s c) = left-alone (route k) (firstGiven (heldRows m (withdraw s c))) m _ refl
 found-own (route k) m (clear s) = refl
-found-own (route k) m (keep n role neighbour attribute) = go (holdsKept n (m .routes)) refl
+found-own (route k) m (keep j) = go (holdsKept (j .number) (m .routes)) refl
   where
     r : KeptRoute
-    r = routeRead n role neighbour attribute
+    r = routeRead j
 
-    go : (b : Bool) → holdsKept n (m .routes) ≡ b
-        → look (route k) (changeUnless (orElse (rowIf b RouteTaken) none) m (change m (keep n role neighbour attribute)))
-        ≡ cond (eqb k n) (unlessThere (findKept k (m .routes)) (some r)) (findKept k (m .routes))
+    go : (b : Bool) → holdsKept (j .number) (m .routes) ≡ b
+        → look (route k) (changeUnless (orElse (rowIf b RouteTaken) none) m (change m (keep j)))
+        ≡ cond (eqb k (j .number)) (unlessThere (findKept k (m .routes)) (some r)) (findKept k (m .routes))
     go true e =
-        sym (either-way (eqb k n) _)
-        ∙ at-key eqb ltb ordered-ℕ k n _ _ _ (λ q. sym (there (findKept k (m .routes))
-        (rw q (sym (find-holds numberOf eqb ltb n (m .routes)) ∙ e)) (some r)))
+        sym (either-way (eqb k (j .number)) _)
+        ∙ at-key eqb ltb ordered-ℕ k (j .number) _ _ _ (λ q. sym (there (findKept k (m .routes))
+        (rw q (sym (find-holds numberOf eqb ltb (j .number) (m .routes)) ∙ e)) (some r)))
     go false e =
         find-put numberOf eqb ltb ordered-ℕ k r (m .routes)
-        ∙ at-key eqb ltb ordered-ℕ k n _ _ _ (λ q. rw (q, find-none numberOf eqb ltb n (m .routes) e))
+        ∙ at-key eqb ltb ordered-ℕ k (j .number) _ _ _ (λ q. rw (q, find-none numberOf eqb ltb (j .number) (m .routes) e))
 found-own (route k) m (drop n) = go (holdsKept n (m .routes)) refl
   where
     go : (b : Bool) → holdsKept n (m .routes) ≡ b
@@ -189,12 +181,12 @@ unfolding freeRefusal
 found-next k m c = go (firstGiven (argumentRows c))
   where
     go : (o : Option Refusal)
-        → look k (changeUnless (orElse o (firstGiven (heldRows m c))) m (change m c)) ≡ cond (hits k c) (blocked o (look k m) (value k c (look k m))) (look k m)
+        → look k (changeUnless (orElse o (firstGiven (heldRows m c))) m (change m c)) ≡ cond (hits k (scope c)) (blocked o (look k m) (value k c (look k m))) (look k m)
     go none = found-own k m c
-    go (some r) = sym (either-way (hits k c) (look k m))
+    go (some r) = sym (either-way (hits k (scope c)) (look k m))
 
 -- So a call that misses the key changes nothing there.
-pub miss : (k : Key) (m : Model) (c : Call) → hits k c ≡ false → look k (freeNext m c) ≡ look k m
+pub miss : (k : Key) (m : Model) (c : Call) → hits k (scope c) ≡ false → look k (freeNext m c) ≡ look k m
 miss k m c h = found-next k m c ∙ rw h
 
 -- And one that hits it does the same to two models that agree there.
@@ -213,7 +205,7 @@ pub change-in-order : (m : Model) (c : Call) → InOrder m → InOrder (change m
 change-in-order m (file s c list) h = record { lists = ascends-put keyOf samePair beforePair ordered-pairs _ (m .lists) (h .lists); routes = h .routes }
 change-in-order m (withdraw s c) h = record { lists = ascends-without keyOf samePair beforePair ordered-pairs _ (m .lists) (h .lists); routes = h .routes }
 change-in-order m (clear s) h = record { lists = ascends-without keyOf samePair beforePair ordered-pairs _ (m .lists) (h .lists); routes = h .routes }
-change-in-order m (keep n role neighbour attribute) h =
+change-in-order m (keep j) h =
     record { lists = h .lists; routes = ascends-put numberOf eqb ltb ordered-ℕ _ (m .routes) (h .routes) }
 change-in-order m (drop n) h = record { lists = h .lists; routes = ascends-without numberOf eqb ltb ordered-ℕ _ (m .routes) (h .routes) }
 change-in-order m rejudge h = h
@@ -287,35 +279,27 @@ pub record SameReply (m n : Model) (c : Call) : Type 0 where
   pub reply : answer m c ≡ answer n c
 
 -- Whether a list is held.
-held-alike : (m n : Model) (s c : ℕ) → ((k : Key) → hits k (withdraw s c) ≡ true → look k m ≡ look k n) → holdsRecord c s (m .lists) ≡ holdsRecord c s (n .lists)
+held-alike : (m n : Model) (s c : ℕ) → ((k : Key) → hits k (of-pair s c) ≡ true → look k m ≡ look k n) → holdsRecord c s (m .lists) ≡ holdsRecord c s (n .lists)
 held-alike m n s c e =
     find-holds keyOf samePair beforePair (c, s) (m .lists) ∙ ap isSome (e (pair (c, s)) (ordered-pairs .same-self (c, s)))
     ∙ sym (find-holds keyOf samePair beforePair (c, s) (n .lists))
 
 -- Whether a route is held.
-kept-alike : (m n : Model) (k : ℕ) → ((j : Key) → hits j (drop k) ≡ true → look j m ≡ look j n) → holdsKept k (m .routes) ≡ holdsKept k (n .routes)
+kept-alike : (m n : Model) (k : ℕ) → ((j : Key) → hits j (of-route k) ≡ true → look j m ≡ look j n) → holdsKept k (m .routes) ≡ holdsKept k (n .routes)
 kept-alike m n k e =
     find-holds numberOf eqb ltb k (m .routes) ∙ ap isSome (e (route k) (ordered-ℕ .same-self k)) ∙ sym (find-holds numberOf eqb ltb k (n .routes))
 
 -- What a call is asked for beside its arguments.
-own-alike : (m n : Model) (c : Call) → InOrder m → InOrder n → ((k : Key) → hits k c ≡ true → look k m ≡ look k n) → SameReply m n c
-own-alike m n (file s c list) h g e = record { rows = refl; reply = ap (λ b. cond b replaced new) (held-alike m n s c (other e)) }
-  where
-    other : ((k : Key) → hits k (file s c list) ≡ true → look k m ≡ look k n) → (k : Key) → hits k (withdraw s c) ≡ true → look k m ≡ look k n
-    other e (pair k) = e (pair k)
-    other e (route k) = e (route k)
+own-alike : (m n : Model) (c : Call) → InOrder m → InOrder n → ((k : Key) → hits k (scope c) ≡ true → look k m ≡ look k n) → SameReply m n c
+own-alike m n (file s c list) h g e = record { rows = refl; reply = ap (λ b. cond b replaced new) (held-alike m n s c e) }
 own-alike m n (withdraw s c) h g e = record { rows = ap (λ b. rowIf (not b) NoRecord ∷ []) (held-alike m n s c e); reply = refl }
 own-alike m n (clear s) h g e = record { rows = refl; reply = ap gone (count-alike m n s h g (λ k. e (pair k))) }
-own-alike m n (keep k role neighbour attribute) h g e = record { rows = ap (λ b. rowIf b RouteTaken ∷ []) (kept-alike m n k (other e)); reply = refl }
-  where
-    other : ((j : Key) → hits j (keep k role neighbour attribute) ≡ true → look j m ≡ look j n) → (j : Key) → hits j (drop k) ≡ true → look j m ≡ look j n
-    other e (pair j) = e (pair j)
-    other e (route j) = e (route j)
+own-alike m n (keep k) h g e = record { rows = ap (λ b. rowIf b RouteTaken ∷ []) (kept-alike m n (k .number) e); reply = refl }
 own-alike m n (drop k) h g e = record { rows = ap (λ b. rowIf (not b) NoRoute ∷ []) (kept-alike m n k e); reply = refl }
 own-alike m n rejudge h g e = record { rows = refl; reply = refl }
 
 -- So the reply to a call depends on what is found under the keys that it hits.
-pub reply-alike : (m n : Model) (c : Call) → InOrder m → InOrder n → ((k : Key) → hits k c ≡ true → look k m ≡ look k n) → freeReply m c ≡ freeReply n c
+pub reply-alike : (m n : Model) (c : Call) → InOrder m → InOrder n → ((k : Key) → hits k (scope c) ≡ true → look k m ≡ look k n) → freeReply m c ≡ freeReply n c
 unfolding freeRefusal
 reply-alike m n c h g e =
     let s : SameReply m n c = own-alike m n c h g e in

@@ -5,6 +5,7 @@ pub mod KeptRoutes
 pub mod Simulating
 pub mod FiledLists
 pub mod FiledHops
+pub mod Entries
 pub mod Theorems
 pub mod Reordered
 pub mod Scans

@@ -16,7 +16,7 @@ use Rattle.keyed.proofs.Orders.{ordered-pairs, ordered-ℕ}
 use Rattle.rules.proofs.Judges.{first-append}
 use Rattle.register.specs.Register.{roomFor}
 use Rattle.register.specs.Calls.{recordFor, putRecord}
-use Rattle.history.specs.Calls.{Call, file, withdraw, clear, keep, drop, rejudge, Tables, Formed, callAt, routeRead}
+use Rattle.history.specs.Calls.{Call, file, withdraw, clear, keep, drop, rejudge, Scope, of-pair, of-source, of-route, idle, Tables, Formed, callAt, scopeAt, routeRead}
 use Rattle.history.specs.Replies.{refused, forRoom}
 use Rattle.history.specs.Model.{Model, heldBy, putKept, argumentRows, heldRows, roomRows, roomForRoutes, refusal, answer, change, replyUnless, changeUnless, replyTo, after, replyAt, final}
 use Rattle.history.specs.Reorderings.{OnPair, Clears, OfSource, OnRoute, Tied, same-pair, clear-first, clear-second, same-route, IsStep, StepAt, Reordering}
@@ -30,34 +30,28 @@ not-true false h = refl
 -- ---- calls on one key are tied
 
 -- How a call can hit a key of the lists.
-data HitsPair (k : ℕ × ℕ) (c : Call) : Type 0 where
+data HitsPair (k : ℕ × ℕ) (c : Scope) : Type 0 where
   on-pair : OnPair (k .1) (k .0) c → OfSource (k .1) c → HitsPair k c
   on-source : Clears (k .1) c → OfSource (k .1) c → HitsPair k c
 
 -- A call that hits a pair of customer and source is a step on it, or clears the source.
-hits-pair : (k : ℕ × ℕ) (c : Call) → hits (pair k) c ≡ true → HitsPair k c
-hits-pair k (file s c list) h =
+hits-pair : (k : ℕ × ℕ) (c : Scope) → hits (pair k) c ≡ true → HitsPair k c
+hits-pair k (of-pair s c) h =
     let e : (c, s) ≡ k = sym (ordered-pairs .same-is k (c, s) h) in
     on-pair (ap (λ x. x .1) e, ap (λ x. x .0) e) (ap (λ x. x .1) e)
-hits-pair k (withdraw s c) h =
-    let e : (c, s) ≡ k = sym (ordered-pairs .same-is k (c, s) h) in
-    on-pair (ap (λ x. x .1) e, ap (λ x. x .0) e) (ap (λ x. x .1) e)
-hits-pair k (clear s) h = let e : s ≡ k .1 = sym (ordered-ℕ .same-is (k .1) s h) in on-source e e
-hits-pair k (keep n role neighbour attribute) h = not-both refl h
-hits-pair k (drop n) h = not-both refl h
-hits-pair k rejudge h = not-both refl h
+hits-pair k (of-source s) h = let e : s ≡ k .1 = sym (ordered-ℕ .same-is (k .1) s h) in on-source e e
+hits-pair k (of-route n) h = not-both refl h
+hits-pair k idle h = not-both refl h
 
 -- A call that hits a route number is a step on it.
-hits-route : (k : ℕ) (c : Call) → hits (route k) c ≡ true → OnRoute k c
-hits-route k (file s c list) h = not-both refl h
-hits-route k (withdraw s c) h = not-both refl h
-hits-route k (clear s) h = not-both refl h
-hits-route k (keep n role neighbour attribute) h = sym (ordered-ℕ .same-is k n h)
-hits-route k (drop n) h = sym (ordered-ℕ .same-is k n h)
-hits-route k rejudge h = not-both refl h
+hits-route : (k : ℕ) (c : Scope) → hits (route k) c ≡ true → OnRoute k c
+hits-route k (of-pair s c) h = not-both refl h
+hits-route k (of-source s) h = not-both refl h
+hits-route k (of-route n) h = sym (ordered-ℕ .same-is k n h)
+hits-route k idle h = not-both refl h
 
 -- Two calls that hit one key are tied.
-hit-tied : (k : Key) (a b : Call) → hits k a ≡ true → hits k b ≡ true → Tied a b
+hit-tied : (k : Key) (a b : Scope) → hits k a ≡ true → hits k b ≡ true → Tied a b
 hit-tied (pair k) a b p q = go (hits-pair k a p) (hits-pair k b q)
   where
     go : HitsPair k a → HitsPair k b → Tied a b
@@ -68,20 +62,18 @@ hit-tied (pair k) a b p q = go (hits-pair k a p) (hits-pair k b q)
 hit-tied (route k) a b p q = same-route k (hits-route k a p) (hits-route k b q)
 
 -- A call that hits a key is a step.
-hit-step : (k : Key) (c : Call) → hits k c ≡ true → IsStep c
-hit-step k (file s c list) h = tt
-hit-step k (withdraw s c) h = tt
-hit-step k (clear s) h = tt
-hit-step k (keep n role neighbour attribute) h = tt
-hit-step k (drop n) h = tt
-hit-step (pair k) rejudge h = not-both refl h
-hit-step (route k) rejudge h = not-both refl h
+hit-step : (k : Key) (c : Scope) → hits k c ≡ true → IsStep c
+hit-step k (of-pair s c) h = tt
+hit-step k (of-source s) h = tt
+hit-step k (of-route n) h = tt
+hit-step (pair k) idle h = not-both refl h
+hit-step (route k) idle h = not-both refl h
 
 -- ---- the same is found under each key
 
 module _ (start : Model) (k : Key) where
   -- Over a stretch of calls that miss the key, nothing changes there.
-  quiet : (l : List Call) (j i : ℕ) → i ≤ j → ((x : ℕ) → i ≤ x → x < j → hits k (callAt l x) ≡ false) → look k (freeAfter start l j) ≡ look k (freeAfter start l i)
+  quiet : (l : List Call) (j i : ℕ) → i ≤ j → ((x : ℕ) → i ≤ x → x < j → hits k (scopeAt l x) ≡ false) → look k (freeAfter start l j) ≡ look k (freeAfter start l i)
   unfolding freeAfter
   quiet l zero i h q = let e : i ≡ 0 = omega arith in rw e
   quiet l (suc j) i h q = go (decLe i j) (λ p. quiet l j i p (λ x a b. q x a (omega arith)))
@@ -93,23 +85,23 @@ module _ (start : Model) (k : Key) where
 
   module _ (l m : List Call) (r : Reordering l m) where
     -- A call on the key is matched to one on the key,
-    forth : (x : ℕ) → hits k (callAt l x) ≡ true → hits k (callAt m (r .to x)) ≡ true
-    forth x h = rw (r .to-same x (hit-step k (callAt l x) h)) h
+    forth : (x : ℕ) → hits k (scopeAt l x) ≡ true → hits k (scopeAt m (r .to x)) ≡ true
+    forth x h = rw (r .to-same x (hit-step k (scopeAt l x) h)) h
 
     -- and so back.
-    back : (y : ℕ) → hits k (callAt m y) ≡ true → hits k (callAt l (r .from y)) ≡ true
-    back y h = rw (r .from-same y (hit-step k (callAt m y) h)) h
+    back : (y : ℕ) → hits k (scopeAt m y) ≡ true → hits k (scopeAt l (r .from y)) ≡ true
+    back y h = rw (r .from-same y (hit-step k (scopeAt m y) h)) h
 
     -- The calls on the key that stand before index i of l are those before index j of m.
     unfoldable Cut : ℕ → ℕ → Type 0
-    Cut i j = (x : ℕ) → hits k (callAt l x) ≡ true → (x < i → r .to x < j) × (r .to x < j → x < i)
+    Cut i j = (x : ℕ) → hits k (scopeAt l x) ≡ true → (x < i → r .to x < j) × (r .to x < j → x < i)
 
     -- Calls on the key stay in order.
-    ordered : (x y : ℕ) → hits k (callAt l x) ≡ true → hits k (callAt l y) ≡ true → x < y → r .to x < r .to y
-    ordered x y p q a = r .in-order x y (hit-step k (callAt l x) p) (hit-step k (callAt l y) q) a (hit-tied k (callAt l x) (callAt l y) p q)
+    ordered : (x y : ℕ) → hits k (scopeAt l x) ≡ true → hits k (scopeAt l y) ≡ true → x < y → r .to x < r .to y
+    ordered x y p q a = r .in-order x y (hit-step k (scopeAt l x) p) (hit-step k (scopeAt l y) q) a (hit-tied k (scopeAt l x) (scopeAt l y) p q)
 
     -- A call on the key cuts both lists alike.
-    cut-at : (i : ℕ) → hits k (callAt l i) ≡ true → Cut i (r .to i)
+    cut-at : (i : ℕ) → hits k (scopeAt l i) ≡ true → Cut i (r .to i)
     unfolding Cut
     cut-at i p x h = (ordered x i h p, λ a. go a (decLt x i) (decLt i x))
       where
@@ -122,48 +114,48 @@ module _ (start : Model) (k : Key) where
     same-found : (i j : ℕ) → Cut i j → look k (freeAfter start l i) ≡ look k (freeAfter start m j)
     unfolding Cut freeAfter
     same-found zero j cut =
-        sym (quiet m j zero (omega arith) (λ y a b. not-true (hits k (callAt m y)) (λ h.
-        let e = r .to-from y (hit-step k (callAt m y) h) in
+        sym (quiet m j zero (omega arith) (λ y a b. not-true (hits k (scopeAt m y)) (λ h.
+        let e = r .to-from y (hit-step k (scopeAt m y) h) in
         let z = cut (r .from y) (back y h) .1 (omega arith) in
         omega arith)))
-    same-found (suc i) j cut = go (hits k (callAt l i)) refl (λ n. same-found i n)
+    same-found (suc i) j cut = go (hits k (scopeAt l i)) refl (λ n. same-found i n)
       where
         -- The call at i misses the key, and another one hits it.
-        other : (x : ℕ) → hits k (callAt l i) ≡ false → hits k (callAt l x) ≡ true → x < suc i → Dec (x < i) → x < i
+        other : (x : ℕ) → hits k (scopeAt l i) ≡ false → hits k (scopeAt l x) ≡ true → x < suc i → Dec (x < i) → x < i
         other x p h z (yes a) = a
         other x p h z (no n) = let e : x ≡ i = omega arith in not-both p (rw e at h)
 
         -- No call on the key stands in m between the one matched to i and index j.
-        between : (y : ℕ) → hits k (callAt l i) ≡ true → r .to i < y → y < j → hits k (callAt m y) ≡ true → Dec (r .from y < i) → ⊥
+        between : (y : ℕ) → hits k (scopeAt l i) ≡ true → r .to i < y → y < j → hits k (scopeAt m y) ≡ true → Dec (r .from y < i) → ⊥
         between y p a b h (yes z) =
-            let e = r .to-from y (hit-step k (callAt m y) h) in
+            let e = r .to-from y (hit-step k (scopeAt m y) h) in
             let w = ordered (r .from y) i (back y h) p z in
             omega arith
         between y p a b h (no n) =
-            let e = r .to-from y (hit-step k (callAt m y) h) in
+            let e = r .to-from y (hit-step k (scopeAt m y) h) in
             let z = cut (r .from y) (back y h) .1 (omega arith) in
             let f : r .to (r .from y) ≡ r .to i = ap (r .to) (omega arith) in
             omega arith
 
-        go : (b : Bool) → hits k (callAt l i) ≡ b → ((n : ℕ) → Cut i n → look k (freeAfter start l i) ≡ look k (freeAfter start m n))
+        go : (b : Bool) → hits k (scopeAt l i) ≡ b → ((n : ℕ) → Cut i n → look k (freeAfter start l i) ≡ look k (freeAfter start m n))
             → look k (freeAfter start l (suc i)) ≡ look k (freeAfter start m j)
         go false p ih =
             miss k (freeAfter start l i) (callAt l i) p ∙ ih j (λ x h. (λ a. cut x h .0 (omega arith), λ a. other x p h (cut x h .1 a) (decLt x i)))
         go true p ih =
             alike k (freeAfter start l i) (freeAfter start m (r .to i)) (callAt l i) (ih (r .to i) (cut-at i p))
-            ∙ rw (← r .to-same i (hit-step k (callAt l i) p)) refl
+            ∙ rw (← r .to-same i (hit-step k (scopeAt l i) p)) refl
             ∙ sym (quiet m j (suc (r .to i)) (cut i p .0 (omega arith))
-            (λ y a b. not-true (hits k (callAt m y)) (λ h. between y p a b h (decLt (r .from y) i))))
+            (λ y a b. not-true (hits k (scopeAt m y)) (λ h. between y p a b h (decLt (r .from y) i))))
 
 -- A call on a key stands within its list.
-in-range : (k : Key) (l : List Call) (x : ℕ) → hits k (callAt l x) ≡ true → x < length l
+in-range : (k : Key) (l : List Call) (x : ℕ) → hits k (scopeAt l x) ≡ true → x < length l
 in-range k l x h = go (decLt x (length l))
   where
     go : Dec (x < length l) → x < length l
     go (yes a) = a
     go (no n) =
         let e : callAt l x ≡ rejudge = List·getD-eq-default l rejudge (omega arith) in
-        absurd (rw e at (hit-step k (callAt l x) h))
+        absurd (rw e at (hit-step k (scopeAt l x) h))
 
 module _ (start : Model) (ordered : InOrder start) (l m : List Call) (r : Reordering l m) where
   -- With room without end, each step is answered alike in both lists,
@@ -195,7 +187,7 @@ room-row m (file s c list) r = go (roomFor (putRecord (recordFor s c list) (m .l
     go false h = let e : RegisterFull ≡ r = cc in rw (← e)
 room-row m (withdraw s c) r = λ h. some-not-none (sym h)
 room-row m (clear s) r = λ h. some-not-none (sym h)
-room-row m (keep n role neighbour attribute) r = go (roomForRoutes (putKept (routeRead n role neighbour attribute) (m .routes)))
+room-row m (keep k) r = go (roomForRoutes (putKept (routeRead k) (m .routes)))
   where
     go : (b : Bool) → orElse (rowIf (not b) RoutesFull) none ≡ some r → forRoom (refused r) ≡ true
     go true h = some-not-none (sym h)

@@ -5,7 +5,8 @@ use mathlib.Core.List.{List, [], _∷_, _++_}
 use native.Mathlib.Omega.{arith}
 use native.Mathlib.Decide.{decLt}
 use lib.Dec.{lit<}
-use Rattle.history.specs.Calls.{Call, file, clear, keep, drop, rejudge, callAt}
+use Rattle.filter.specs.Calls.{Keeping}
+use Rattle.history.specs.Calls.{Call, file, clear, keep, drop, rejudge, Scope, scope, callAt, scopeAt}
 use Rattle.history.specs.Reorderings.{Tied, same-pair, clear-first, clear-second, same-route, StepAt, Reordering}
 
 -- A list is a reordering of itself.
@@ -40,7 +41,7 @@ chain l m n p q = record {
     back j s = rw (q .from-same j s) s
 
 -- To be tied goes both ways.
-tied-back : (a b : Call) → Tied a b → Tied b a
+tied-back : (a b : Scope) → Tied a b → Tied b a
 tied-back a b (same-pair s c p q) = same-pair s c q p
 tied-back a b (clear-first s p q) = clear-second s q p
 tied-back a b (clear-second s p q) = clear-first s q p
@@ -61,20 +62,20 @@ back l m r = record {
     step : (j : ℕ) → StepAt m j → StepAt l (r .from j)
     step j s = rw (r .from-same j s) s
 
-    order : (i j : ℕ) → StepAt m i → StepAt m j → i < j → Tied (callAt m i) (callAt m j) → r .from i < r .from j
+    order : (i j : ℕ) → StepAt m i → StepAt m j → i < j → Tied (scopeAt m i) (scopeAt m j) → r .from i < r .from j
     order i j s t h d = go (decLt (r .from i) (r .from j)) (decLt (r .from j) (r .from i))
       where
         go : Dec (r .from i < r .from j) → Dec (r .from j < r .from i) → r .from i < r .from j
         go (yes p) q = p
         go (no n) (yes q) =
             let w = r .in-order (r .from j) (r .from i) (step j t) (step i s) q
-            (rw (r .from-same j t, r .from-same i s) (tied-back (callAt m i) (callAt m j) d)) in
+            (rw (r .from-same j t, r .from-same i s) (tied-back (scopeAt m i) (scopeAt m j) d)) in
             omega (arith, r .to-from i s, r .to-from j t)
         go (no n) (no n′) =
             let e : r .to (r .from i) ≡ r .to (r .from j) = ap (r .to) (omega arith) in
             omega (arith, r .to-from i s, r .to-from j t)
 
--- A place behind one call more.
+-- An index behind one call more.
 under : (ℕ → ℕ) → ℕ → ℕ
 under f zero = 0
 under f (suc i) = suc (f i)
@@ -92,7 +93,7 @@ one-more c l m r = record {
   in-order = order;
 }
   where
-    order : (i j : ℕ) → StepAt (c ∷ l) i → StepAt (c ∷ l) j → i < j → Tied (callAt (c ∷ l) i) (callAt (c ∷ l) j) → under (r .to) i < under (r .to) j
+    order : (i j : ℕ) → StepAt (c ∷ l) i → StepAt (c ∷ l) j → i < j → Tied (scopeAt (c ∷ l) i) (scopeAt (c ∷ l) j) → under (r .to) i < under (r .to) j
     order zero zero s t h d = omega arith
     order zero (suc j) s t h d = omega arith
     order (suc i) zero s t h d = omega arith
@@ -103,14 +104,14 @@ more : (k l m : List Call) → Reordering l m → Reordering (k ++ l) (k ++ m)
 more [] l m r = r
 more (c ∷ k) l m r = one-more c (k ++ l) (k ++ m) (more k l m r)
 
--- The places of the first two calls, changed about.
+-- The indices of the first two calls, changed about.
 exchanged : ℕ → ℕ
 exchanged zero = 1
 exchanged (suc zero) = 0
 exchanged (suc (suc i)) = suc (suc i)
 
 -- The first two calls, not tied, changed about.
-swap-first : (a b : Call) (l : List Call) → (Tied a b → ⊥) → Reordering (a ∷ b ∷ l) (b ∷ a ∷ l)
+swap-first : (a b : Call) (l : List Call) → (Tied (scope a) (scope b) → ⊥) → Reordering (a ∷ b ∷ l) (b ∷ a ∷ l)
 unfolding exchanged
 swap-first a b l n = record {
   to = exchanged;
@@ -132,7 +133,7 @@ swap-first a b l n = record {
     twice (suc zero) = refl
     twice (suc (suc i)) = refl
 
-    order : (i j : ℕ) → StepAt (a ∷ b ∷ l) i → StepAt (a ∷ b ∷ l) j → i < j → Tied (callAt (a ∷ b ∷ l) i) (callAt (a ∷ b ∷ l) j) → exchanged i < exchanged j
+    order : (i j : ℕ) → StepAt (a ∷ b ∷ l) i → StepAt (a ∷ b ∷ l) j → i < j → Tied (scopeAt (a ∷ b ∷ l) i) (scopeAt (a ∷ b ∷ l) j) → exchanged i < exchanged j
     order zero zero s t h d = omega arith
     order zero (suc zero) s t h d = absurd (n d)
     order zero (suc (suc j)) s t h d = omega arith
@@ -144,10 +145,10 @@ swap-first a b l n = record {
     order (suc (suc i)) (suc (suc j)) s t h d = h
 
 -- Two neighbours that are not tied, changed about.
-pub swap : (k : List Call) (a b : Call) (l : List Call) → (Tied a b → ⊥) → Reordering (k ++ (a ∷ b ∷ l)) (k ++ (b ∷ a ∷ l))
+pub swap : (k : List Call) (a b : Call) (l : List Call) → (Tied (scope a) (scope b) → ⊥) → Reordering (k ++ (a ∷ b ∷ l)) (k ++ (b ∷ a ∷ l))
 swap k a b l n = more k (a ∷ b ∷ l) (b ∷ a ∷ l) (swap-first a b l n)
 
--- The place before.
+-- The index before.
 earlier : ℕ → ℕ
 earlier zero = 0
 earlier (suc i) = i
@@ -178,7 +179,7 @@ pub rejudge-anywhere : (k l : List Call) → Reordering (k ++ l) (k ++ (rejudge 
 rejudge-anywhere k l = more k l (rejudge ∷ l) (rejudge-first l)
 
 -- Two calls that are tied, and of which neither is the other or a re-judging, are not changed about.
-stays : (a b : Call) → StepAt (a ∷ b ∷ []) 0 → StepAt (a ∷ b ∷ []) 1 → (a ≡ b → ⊥) → (rejudge ≡ a → ⊥) → (rejudge ≡ b → ⊥) → Tied a b
+stays : (a b : Call) → StepAt (a ∷ b ∷ []) 0 → StepAt (a ∷ b ∷ []) 1 → (a ≡ b → ⊥) → (rejudge ≡ a → ⊥) → (rejudge ≡ b → ⊥) → Tied (scope a) (scope b)
     → Reordering (a ∷ b ∷ []) (b ∷ a ∷ []) → ⊥
 stays a b s t n x y d r = go (r .to 0) (r .to 1) (r .to-same 0 s) (r .to-same 1 t) (r .in-order 0 1 s t (lit< tt) d)
   where
@@ -197,8 +198,7 @@ clearing-stays source customer list =
     (λ e. let z : _≡_ {A = ℕ} 0 1 = cc in omega arith) (λ e. let z : _≡_ {A = ℕ} 0 1 = cc in omega arith) (clear-second source refl refl)
 
 -- A keeping does not pass a dropping of its number.
-pub dropping-stays : (number role neighbour : ℕ) (attribute : List ℕ)
-    → Reordering (keep number role neighbour attribute ∷ drop number ∷ []) (drop number ∷ keep number role neighbour attribute ∷ []) → ⊥
-dropping-stays number role neighbour attribute =
-    stays (keep number role neighbour attribute) (drop number) tt tt (λ e. let z : _≡_ {A = ℕ} 0 1 = cc in omega arith)
-    (λ e. let z : _≡_ {A = ℕ} 0 1 = cc in omega arith) (λ e. let z : _≡_ {A = ℕ} 0 1 = cc in omega arith) (same-route number refl refl)
+pub dropping-stays : (k : Keeping) → Reordering (keep k ∷ drop (k .number) ∷ []) (drop (k .number) ∷ keep k ∷ []) → ⊥
+dropping-stays k =
+    stays (keep k) (drop (k .number)) tt tt (λ e. let z : _≡_ {A = ℕ} 0 1 = cc in omega arith)
+    (λ e. let z : _≡_ {A = ℕ} 0 1 = cc in omega arith) (λ e. let z : _≡_ {A = ℕ} 0 1 = cc in omega arith) (same-route (k .number) refl refl)

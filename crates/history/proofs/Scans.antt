@@ -13,7 +13,7 @@ use Rattle.types.proofs.Clashes.{not-both}
 use Rattle.keyed.proofs.Orders.{both-left, both-right, both-intro}
 use Rattle.register.specs.Register.{recordsOf}
 use Rattle.ledger.specs.Routes.{routesOf}
-use Rattle.history.specs.Calls.{Call, file, withdraw, clear, keep, drop, rejudge, Tables, callAt, said, KeptRoute, routeRead, findRecord, findRoute, providersOf, known}
+use Rattle.history.specs.Calls.{Call, file, withdraw, clear, keep, drop, rejudge, Scope, scope, Tables, callAt, scopeAt, said, KeptRoute, routeRead, findRecord, findRoute, providersOf, known}
 use Rattle.history.specs.Replies.{shown, accepted}
 use Rattle.history.specs.Filings.{filedBy, filedList, keptBy, keptRouteAt}
 use Rattle.history.specs.Reorderings.{OnPair, Clears, OnRoute}
@@ -22,12 +22,12 @@ use Rattle.history.specs.Sanity.{LastFiled, by-filing, list-held-first, 
 -- ---- any scan
 
 -- What an accepted call does to the value that is looked for: it gives one, it ends it, or it leaves it.
-data Effect {X : Type 0} (by : Call → Option X → Option X) (Gives : Call → X → Type 0) (Touches : Call → Type 0) (c : Call) : Type 0 where
-  gives : (x : X) → Gives c x → Touches c → ((v : Option X) → by c v ≡ some x) → Effect by Gives Touches c
-  ends : Touches c → ((v : Option X) → by c v ≡ none) → Effect by Gives Touches c
-  misses : (Touches c → ⊥) → ((v : Option X) → by c v ≡ v) → Effect by Gives Touches c
+data Effect {X : Type 0} (by : Call → Option X → Option X) (Gives : Call → X → Type 0) (Touches : Scope → Type 0) (c : Call) : Type 0 where
+  gives : (x : X) → Gives c x → Touches (scope c) → ((v : Option X) → by c v ≡ some x) → Effect by Gives Touches c
+  ends : Touches (scope c) → ((v : Option X) → by c v ≡ none) → Effect by Gives Touches c
+  misses : (Touches (scope c) → ⊥) → ((v : Option X) → by c v ≡ v) → Effect by Gives Touches c
 
-module _ {X : Type 0} (by : Call → Option X → Option X) (Gives : Call → X → Type 0) (Touches : Call → Type 0)
+module _ {X : Type 0} (by : Call → Option X → Option X) (Gives : Call → X → Type 0) (Touches : Scope → Type 0)
     (effect : (c : Call) → Effect by Gives Touches c) (given : (c : Call) (x : X) (v : Option X) → Gives c x → by c v ≡ some x)
     (first : Option X) (t : Tables) (l : List Call) where
   -- The value after i calls, from the first one on.
@@ -37,7 +37,7 @@ module _ {X : Type 0} (by : Call → Option X → Option X) (Gives : Call → X 
 
   -- No accepted call from one index to before another touches the value.
   abbrev Stands : ℕ → ℕ → Type 0
-  Stands from i = (j : ℕ) → from ≤ j → j < i → accepted (shown (said t l j)) ≡ true → Touches (callAt l j) → ⊥
+  Stands from i = (j : ℕ) → from ≤ j → j < i → accepted (shown (said t l j)) ≡ true → Touches (scopeAt l j) → ⊥
 
   -- The last accepted call before index i that touches the value gives it, or there is none and it is the first one.
   data Last (i : ℕ) (x : X) : Type 0 where
@@ -45,14 +45,14 @@ module _ {X : Type 0} (by : Call → Option X → Option X) (Gives : Call → X 
     held-first : first ≡ some x → Stands 0 i → Last i x
 
   -- One call more that does not touch it, or is not accepted.
-  stands : (from i : ℕ) → Stands from i → (accepted (shown (said t l i)) ≡ true → Touches (callAt l i) → ⊥) → Stands from (suc i)
+  stands : (from i : ℕ) → Stands from i → (accepted (shown (said t l i)) ≡ true → Touches (scopeAt l i) → ⊥) → Stands from (suc i)
   stands from i s n j a b = go (decLt j i)
     where
-      go : Dec (j < i) → accepted (shown (said t l j)) ≡ true → Touches (callAt l j) → ⊥
+      go : Dec (j < i) → accepted (shown (said t l j)) ≡ true → Touches (scopeAt l j) → ⊥
       go (yes c) = s j a c
       go (no c) = let e : j ≡ i = omega arith in rw e n
 
-  later : (i : ℕ) (x : X) → Last i x → (accepted (shown (said t l i)) ≡ true → Touches (callAt l i) → ⊥) → Last (suc i) x
+  later : (i : ℕ) (x : X) → Last i x → (accepted (shown (said t l i)) ≡ true → Touches (scopeAt l i) → ⊥) → Last (suc i) x
   later i x (by-call index b g a s) n = by-call index (omega arith) g a (stands (suc index) i s n)
   later i x (held-first e s) n = held-first e (stands 0 i s n)
 
@@ -111,7 +111,7 @@ module _ (source customer : ℕ) where
   Files c list = c ≡ file source customer list
 
   -- A step on the pair, or a clearing of the source.
-  abbrev OnList : Call → Type 0
+  abbrev OnList : Scope → Type 0
   OnList c = OnPair source customer c ⊎ Clears source c
 
   -- The test of a pair.
@@ -144,7 +144,7 @@ module _ (source customer : ℕ) where
       go : (b : Bool) → eqb s source ≡ b → Effect (filedBy source customer) Files OnList (clear s)
       go true e = ends (inr (eqb-true _ _ e)) (λ v. rw e)
       go false e = misses (λ t. elim t [ inl f ↦ f | inr p ↦ eqb-false _ _ e p ]) (λ v. rw e)
-  file-effect (keep n role neighbour attribute) = misses (λ t. elim t [ inl f ↦ f | inr f ↦ f ]) (λ v. refl)
+  file-effect (keep k) = misses (λ t. elim t [ inl f ↦ f | inr f ↦ f ]) (λ v. refl)
   file-effect (drop n) = misses (λ t. elim t [ inl f ↦ f | inr f ↦ f ]) (λ v. refl)
   file-effect rejudge = misses (λ t. elim t [ inl f ↦ f | inr f ↦ f ]) (λ v. refl)
 
@@ -186,19 +186,12 @@ module _ (number : ℕ) where
   keep-effect (file s c list) = misses (λ f. f) (λ v. refl)
   keep-effect (withdraw s c) = misses (λ f. f) (λ v. refl)
   keep-effect (clear s) = misses (λ f. f) (λ v. refl)
-  keep-effect (keep n role neighbour attribute) = go (eqb n number) refl
+  keep-effect (keep k) = go (eqb (k .number) number) refl
     where
-      go : (b : Bool) → eqb n number ≡ b → Effect (keptBy number) (KeepsAs number) (OnRoute number) (keep n role neighbour attribute)
+      go : (b : Bool) → eqb (k .number) number ≡ b → Effect (keptBy number) (KeepsAs number) (OnRoute number) (keep k)
       go true e =
-          let p : n ≡ number = eqb-true _ _ e in
-          gives (routeRead n role neighbour attribute)
-          (record {
-            role = role;
-            neighbour = neighbour;
-            attribute = attribute;
-            keeping = ap (λ k. keep k role neighbour attribute) p;
-            reads = ap (λ k. routeRead k role neighbour attribute) p;
-          }) p (λ v. rw e)
+          let p : k .number ≡ number = eqb-true _ _ e in
+          gives (routeRead k) (record { arguments = k; under = p; keeping = refl; reads = refl }) p (λ v. rw e)
       go false e = misses (eqb-false _ _ e) (λ v. rw e)
   keep-effect (drop n) = go (eqb n number) refl
     where
@@ -209,7 +202,7 @@ module _ (number : ℕ) where
 
   -- A keeping under the number gives its route.
   keep-given : (c : Call) (r : KeptRoute) (v : Option KeptRoute) → KeepsAs number c r → keptBy number c v ≡ some r
-  keep-given c r v k = rw (k .keeping, k .reads, eq-eqb number number refl)
+  keep-given c r v k = rw (k .keeping, k .reads, eq-eqb (k .arguments .number) number (k .under))
 
   module _ (t : Tables) (l : List Call) where
     -- The route that t holds.

@@ -25,7 +25,7 @@ use Rattle.keyed.proofs.Finds.{find-put, find-without}
 use Rattle.keyed.proofs.Mapping.{find-map, holds-map, put-map, without-map}
 use Rattle.rules.specs.Records.{Record, hopOf}
 use Rattle.rules.specs.Hops.{HopFunction}
-use Rattle.rules.specs.Judging.{judgeRows, judgedRoute}
+use Rattle.rules.specs.Judging.{judgedRoute}
 use Rattle.rules.proofs.Judges.{first-append, Judgement, on-ground, on-path, judgement}
 use Rattle.register.specs.Register.{registerWords, recordsOf, recordsOk, roomFor}
 use Rattle.register.specs.Register as register
@@ -48,11 +48,11 @@ use Rattle.ledger.proofs.Changes.{put-ok, without-ok}
 use Rattle.ledger.proofs.Refusals.{Ledger, routes-ledger}
 use Rattle.rejudge.specs.Rejudging.{rejudgedRoute}
 use Rattle.rejudge.proofs.Rejudgements.{rejudged-ok}
-use Rattle.filter.specs.Calls.{keeping, hopIn, tableRows, keptRoute, keepRows, keepEffect, rejudgeEffect}
+use Rattle.filter.specs.Calls.{Keeping, hopIn, tableRows, keptRoute, keepRows, keepEffect, rejudgeEffect}
 use Rattle.filter.proofs.KeptRoutes.{kept-ok}
 use Rattle.history.specs.Calls.{Call, file, withdraw, clear, keep, drop, rejudge, rejudged, Tables, Formed, routeRead, says, leaves, blank, callAt, tables, said, last, known, findRoute}
 use Rattle.history.specs.Replies.{ModelReply, refused, done, replaced, new, shownFiled, shownRemoval, shownCleared, shownJudged, shownRejudged, shown, accepted}
-use Rattle.history.specs.Model.{Model, heldBy, numberOf, holdsKept, putKept, heldRows, roomRows, roomForRoutes, refusal, answer, change, replyUnless, changeUnless, replyTo, next, after, replyAt, final, judgedKept, written}
+use Rattle.history.specs.Model.{Model, heldBy, numberOf, holdsKept, putKept, argumentRows, heldRows, roomRows, roomForRoutes, refusal, answer, change, replyUnless, changeUnless, replyTo, next, after, replyAt, final, judgedKept, written}
 use Rattle.history.specs.Filings.{storedBy}
 use Rattle.history.proofs.Keys.{either-way}
 use Rattle.history.proofs.Ledgers.{room-known}
@@ -288,51 +288,51 @@ module _ (lists : List Record) (stored : List Route) (ok : recordsOk lists ≡ t
           (find-without keyOf eqb ltb ordered-ℕ number (eqb n) stored ∙ ap (cond (eqb n number) none) (sym (stored-before number)));
     }
 
-  module _ (n role neighbour : ℕ) (attribute : List ℕ) where
+  module _ (k : Keeping) where
     -- A keeping whose arguments bar it not asks of the model and of the ledger for the same room.
-    same-room : firstGiven (judgeRows role neighbour attribute) ≡ none
-        → ledger.roomFor (putRoute (keptRoute (register.registerOf lists) (keeping n role neighbour attribute)) stored)
-        ≡ roomForRoutes (putKept (routeRead n role neighbour attribute) (map known stored))
+    same-room : firstGiven (argumentRows (keep k)) ≡ none
+        → ledger.roomFor (putRoute (keptRoute (register.registerOf lists) k) stored)
+        ≡ roomForRoutes (putKept (routeRead k) (map known stored))
     same-room e =
-        room-known (putRoute (keptRoute (register.registerOf lists) (keeping n role neighbour attribute)) stored)
-        ∙ ap roomForRoutes (sym (put-map keyOf numberOf eqb ltb known (λ r. refl) (keptRoute (register.registerOf lists) (keeping n role neighbour attribute)) stored))
-        ∙ ap (λ r. roomForRoutes (putKept r (map known stored))) (kept-known (register.registerOf lists) n role neighbour attribute e)
+        room-known (putRoute (keptRoute (register.registerOf lists) k) stored)
+        ∙ ap roomForRoutes (sym (put-map keyOf numberOf eqb ltb known (λ r. refl) (keptRoute (register.registerOf lists) k) stored))
+        ∙ ap (λ r. roomForRoutes (putKept r (map known stored))) (kept-known (register.registerOf lists) k e)
 
     -- Keep is refused as by the model.
-    keep-refusal : firstGiven (keepRows (register.registerOf lists) (ledger.ledgerOf stored) (keeping n role neighbour attribute))
-        ≡ refusal (modelOf lists stored) (keep n role neighbour attribute)
+    keep-refusal : firstGiven (keepRows (register.registerOf lists) (ledger.ledgerOf stored) k)
+        ≡ refusal (modelOf lists stored) (keep k)
     unfolding refusal firstGiven
     keep-refusal =
-        tables-pass lists stored ok fine (judgeRows role neighbour attribute ++ store)
-        ∙ first-append (judgeRows role neighbour attribute) store
+        tables-pass lists stored ok fine (argumentRows (keep k) ++ store)
+        ∙ first-append (argumentRows (keep k)) store
         ∙ rw (
           routes-are stored fine,
-          ← holds-map keyOf numberOf eqb ltb known (λ r. refl) n stored,
-          first-append (judgeRows role neighbour attribute) (heldRows (modelOf lists stored) (keep n role neighbour attribute)
-              ++ roomRows (modelOf lists stored) (keep n role neighbour attribute)),
-        ) (go (firstGiven (judgeRows role neighbour attribute)) refl)
+          ← holds-map keyOf numberOf eqb ltb known (λ r. refl) (k .number) stored,
+          first-append (argumentRows (keep k)) (heldRows (modelOf lists stored) (keep k)
+              ++ roomRows (modelOf lists stored) (keep k)),
+        ) (go (firstGiven (argumentRows (keep k))) refl)
       where
         store : List (Option Refusal)
-        store = storeRows (ledger.ledgerOf stored) (keptRoute (register.registerOf lists) (keeping n role neighbour attribute))
+        store = storeRows (ledger.ledgerOf stored) (keptRoute (register.registerOf lists) k)
 
-        go : (o : Option Refusal) → firstGiven (judgeRows role neighbour attribute) ≡ o
-            → orElse o (orElse (rowIf (holdsKept n (map known stored)) RouteTaken)
-            (orElse (rowIf (not (ledger.roomFor (putRoute (keptRoute (register.registerOf lists) (keeping n role neighbour attribute)) stored))) RoutesFull) none))
-            ≡ orElse o (orElse (rowIf (holdsKept n (map known stored)) RouteTaken)
-            (orElse (rowIf (not (roomForRoutes (putKept (routeRead n role neighbour attribute) (map known stored)))) RoutesFull) none))
+        go : (o : Option Refusal) → firstGiven (argumentRows (keep k)) ≡ o
+            → orElse o (orElse (rowIf (holdsKept (k .number) (map known stored)) RouteTaken)
+            (orElse (rowIf (not (ledger.roomFor (putRoute (keptRoute (register.registerOf lists) k) stored))) RoutesFull) none))
+            ≡ orElse o (orElse (rowIf (holdsKept (k .number) (map known stored)) RouteTaken)
+            (orElse (rowIf (not (roomForRoutes (putKept (routeRead k) (map known stored)))) RoutesFull) none))
         go (some r) e = refl
         go none e = rw (same-room e)
 
-    -- A keeping that is not refused passed slots 9 to 17 and has room.
-    passed : refusal (modelOf lists stored) (keep n role neighbour attribute) ≡ none
-        → (firstGiven (judgeRows role neighbour attribute) ≡ none)
-        × (roomForRoutes (putKept (routeRead n role neighbour attribute) (map known stored)) ≡ true)
+    -- A keeping that is not refused passed rows 9 to 17 and has room.
+    passed : refusal (modelOf lists stored) (keep k) ≡ none
+        → (firstGiven (argumentRows (keep k)) ≡ none)
+        × (roomForRoutes (putKept (routeRead k) (map known stored)) ≡ true)
     unfolding refusal firstGiven
     passed e =
-        go (firstGiven (judgeRows role neighbour attribute)) (holdsKept n (map known stored))
-        (roomForRoutes (putKept (routeRead n role neighbour attribute) (map known stored)))
-        (sym (first-append (judgeRows role neighbour attribute) (heldRows (modelOf lists stored) (keep n role neighbour attribute)
-        ++ roomRows (modelOf lists stored) (keep n role neighbour attribute))) ∙ e)
+        go (firstGiven (argumentRows (keep k))) (holdsKept (k .number) (map known stored))
+        (roomForRoutes (putKept (routeRead k) (map known stored)))
+        (sym (first-append (argumentRows (keep k)) (heldRows (modelOf lists stored) (keep k)
+        ++ roomRows (modelOf lists stored) (keep k))) ∙ e)
       where
         go : (o : Option Refusal) (b c : Bool) → orElse o (orElse (rowIf b RouteTaken) (orElse (rowIf (not c) RoutesFull) none)) ≡ none
             → (o ≡ none) × (c ≡ true)
@@ -343,57 +343,57 @@ module _ (lists : List Record) (stored : List Route) (ok : recordsOk lists ≡ t
 
     -- Keep, as the model refuses it.
     pub keep-step :
-        keepEffect (register.registerOf lists) (ledger.ledgerOf stored) (keeping n role neighbour attribute)
-        ≡ unlessRefused (refusal (modelOf lists stored) (keep n role neighbour attribute)) judging.Refused (ledger.ledgerOf stored)
+        keepEffect (register.registerOf lists) (ledger.ledgerOf stored) k
+        ≡ unlessRefused (refusal (modelOf lists stored) (keep k)) judging.Refused (ledger.ledgerOf stored)
         (record {
-          answer = judgedRoute (hopOf lists) role neighbour attribute;
-          words = ledger.ledgerOf (putRoute (keptRoute (register.registerOf lists) (keeping n role neighbour attribute)) stored);
+          answer = judgedRoute (hopOf lists) (k .role) (k .neighbour) (k .attribute);
+          words = ledger.ledgerOf (putRoute (keptRoute (register.registerOf lists) k) stored);
         })
     unfolding keepEffect
     keep-step = rw (keep-refusal, routes-are stored fine, records-are lists ok)
 
-    -- A judging that slots 9 to 17 do not refuse is answered.
-    judged-done : firstGiven (judgeRows role neighbour attribute) ≡ none → shownJudged (judgedRoute (hopOf lists) role neighbour attribute) ≡ done
-    judged-done e = go (judgement (hopOf lists) role neighbour attribute e)
+    -- A judging that rows 9 to 17 do not refuse is answered.
+    judged-done : firstGiven (argumentRows (keep k)) ≡ none → shownJudged (judgedRoute (hopOf lists) (k .role) (k .neighbour) (k .attribute)) ≡ done
+    judged-done e = go (judgement (hopOf lists) (k .role) (k .neighbour) (k .attribute) e)
       where
-        go : Judgement (hopOf lists) role neighbour attribute → shownJudged (judgedRoute (hopOf lists) role neighbour attribute) ≡ done
+        go : Judgement (hopOf lists) (k .role) (k .neighbour) (k .attribute) → shownJudged (judgedRoute (hopOf lists) (k .role) (k .neighbour) (k .attribute)) ≡ done
         go (on-ground g c j) = rw j
         go (on-path path c short j) = rw j
 
     -- Keeping.
-    keep-simulated : Simulated (tablesOf lists stored) (modelOf lists stored) (keep n role neighbour attribute)
+    keep-simulated : Simulated (tablesOf lists stored) (modelOf lists stored) (keep k)
     keep-simulated = record {
       replies =
           ap (λ x. shownJudged (x .answer)) keep-step
-          ∙ shown-unless shownJudged judging.Refused (λ r. refl) (refusal (modelOf lists stored) (keep n role neighbour attribute)) _ _
-          ∙ answered (refusal (modelOf lists stored) (keep n role neighbour attribute)) refl;
+          ∙ shown-unless shownJudged judging.Refused (λ r. refl) (refusal (modelOf lists stored) (keep k)) _ _
+          ∙ answered (refusal (modelOf lists stored) (keep k)) refl;
       holds = rw keep-step
-          (ledger-held (refusal (modelOf lists stored) (keep n role neighbour attribute)) judging.Refused _ _ _ stays-ok (λ e. same-routes (passed e .0)));
+          (ledger-held (refusal (modelOf lists stored) (keep k)) judging.Refused _ _ _ stays-ok (λ e. same-routes (passed e .0)));
       stores = λ number.
           ap (λ x. findRoute number (routesOf (x .words))) keep-step
-          ∙ ledger-stores (refusal (modelOf lists stored) (keep n role neighbour attribute)) judging.Refused _ (putRoute r stored) number _ stays-ok
+          ∙ ledger-stores (refusal (modelOf lists stored) (keep k)) judging.Refused _ (putRoute r stored) number _ stays-ok
           (find-put keyOf eqb ltb ordered-ℕ number r stored
-          ∙ ap (λ b. cond b (some r) (findRoute number stored)) (same-flip eqb ltb ordered-ℕ number n)
-          ∙ ap (cond (eqb n number) (some r)) (sym (stored-before number)));
+          ∙ ap (λ b. cond b (some r) (findRoute number stored)) (same-flip eqb ltb ordered-ℕ number (k .number))
+          ∙ ap (cond (eqb (k .number) number) (some r)) (sym (stored-before number)));
     }
       where
         r : Route
-        r = keptRoute (register.registerOf lists) (keeping n role neighbour attribute)
+        r = keptRoute (register.registerOf lists) k
 
-        answered : (o : Option Refusal) → refusal (modelOf lists stored) (keep n role neighbour attribute) ≡ o
-            → replyUnless o (shownJudged (judgedRoute (hopOf lists) role neighbour attribute)) ≡ replyUnless o done
+        answered : (o : Option Refusal) → refusal (modelOf lists stored) (keep k) ≡ o
+            → replyUnless o (shownJudged (judgedRoute (hopOf lists) (k .role) (k .neighbour) (k .attribute))) ≡ replyUnless o done
         answered (some x) e = refl
         answered none e = judged-done (passed e .0)
 
-        stays-ok : refusal (modelOf lists stored) (keep n role neighbour attribute) ≡ none → routesOk (putRoute r stored) ≡ true
+        stays-ok : refusal (modelOf lists stored) (keep k) ≡ none → routesOk (putRoute r stored) ≡ true
         stays-ok e =
             let p = passed e in
-            put-ok stored fine r (kept-ok (register.registerOf lists) (keeping n role neighbour attribute) (p .0)) (same-room (p .0) ∙ p .1)
+            put-ok stored fine r (kept-ok (register.registerOf lists) k (p .0)) (same-room (p .0) ∙ p .1)
 
-        same-routes : firstGiven (judgeRows role neighbour attribute) ≡ none
-            → change (modelOf lists stored) (keep n role neighbour attribute) ≡ modelOf lists (putRoute r stored)
+        same-routes : firstGiven (argumentRows (keep k)) ≡ none
+            → change (modelOf lists stored) (keep k) ≡ modelOf lists (putRoute r stored)
         same-routes e =
-            ap (λ k. record { lists = lists; routes = putKept k (map known stored) }) (sym (kept-known (register.registerOf lists) n role neighbour attribute e))
+            ap (λ x. record { lists = lists; routes = putKept x (map known stored) }) (sym (kept-known (register.registerOf lists) k e))
             ∙ ap (λ rs. record { lists = lists; routes = rs }) (put-map keyOf numberOf eqb ltb known (λ r. refl) r stored)
 
   -- Re-judge, which the model does not refuse.
@@ -442,7 +442,7 @@ module _ (lists : List Record) (stored : List Route) (ok : recordsOk lists ≡ t
   any-simulated (file s c list) = file-simulated s c list
   any-simulated (withdraw s c) = withdraw-simulated s c
   any-simulated (clear s) = clear-simulated s
-  any-simulated (keep n role neighbour attribute) = keep-simulated n role neighbour attribute
+  any-simulated (keep k) = keep-simulated k
   any-simulated (drop n) = drop-simulated n
   any-simulated rejudge = rejudge-simulated
 

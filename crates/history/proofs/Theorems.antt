@@ -9,11 +9,8 @@ use borrow.Author.Tests.{eqb-true, eqb-false}
 use lib.Dec.{eqb, ltb}
 use native.Mathlib.Decide.{decLt}
 use lib.ListN.{length, List·getD-eq-default}
-use Rattle.types.specs.declared.Cause.the-variants.{ByGround}
 use Rattle.types.specs.declared.Verdict.{Verdict}
-use Rattle.types.specs.declared.Verdict.the-variants.{Valid, Invalid, Unknown}
 use Rattle.types.specs.declared.Answer.{Answer}
-use Rattle.types.specs.declared.Answer.the-variants.{Plain}
 use Rattle.types.specs.declared.Filed.{Filed}
 use Rattle.types.specs.declared.Filed.the-variants as filing
 use Rattle.types.specs.declared.Removal.{Removal}
@@ -23,9 +20,8 @@ use Rattle.types.specs.declared.Cleared.the-variants as clearing
 use Rattle.types.specs.declared.Judged.the-variants.{Answered, Refused}
 use Rattle.types.specs.declared.Rejudged.the-variants.{Changed}
 use Rattle.types.specs.declared.Refusal.{Refusal}
-use Rattle.types.specs.Numbers.{verdictNumber, verdictOf}
+use Rattle.types.specs.Numbers.{verdictNumber, placeA, placeB, verdictOf}
 use Rattle.types.specs.Rows.{firstGiven, unlessRefused}
-use Rattle.as_path.specs.Reading.{contentOf}
 use Rattle.keyed.specs.Keyed.{samePair, beforePair, find}
 use Rattle.keyed.proofs.Orders.{ordered-pairs, ordered-ℕ}
 use Rattle.keyed.proofs.Finds.{find-key, every-found, same-finds}
@@ -33,9 +29,8 @@ use Rattle.keyed.proofs.Mapping.{find-map}
 use Rattle.rules.specs.Hops.{HopFunction}
 use Rattle.rules.specs.Records.{Record, hopOf}
 use Rattle.rules.specs.Verdicts.{judged}
-use Rattle.rules.specs.Judging.{judgeRows, judgedRoute}
-use Rattle.rules.specs.Draft.{outcomeOf}
-use Rattle.rules.proofs.Judges.{judged-reads, Judgement, on-ground, on-path, judgement}
+use Rattle.rules.specs.Judging.{judgedRoute}
+use Rattle.rules.proofs.Drafting.{draft-judged, draft-route}
 use Rattle.register.specs.Register.{registerWords, recordsOf, registerOk}
 use Rattle.register.specs.Register as register
 use Rattle.register.specs.Calls.{recordFor}
@@ -45,45 +40,23 @@ use Rattle.ledger.specs.Routes.{ledgerWords, ledgerOk, Route, routesOf, routeOk
 use Rattle.ledger.specs.Routes as ledger
 use Rattle.ledger.specs.Calls.{stamped, countDiffering}
 use Rattle.ledger.proofs.Holding.{each-ok, in-order}
-use Rattle.ledger.proofs.Paths.{path-some}
+use Rattle.ledger.proofs.Holding as ledger-holding
 use Rattle.ledger.proofs.Refusals.{Ledger}
 use Rattle.rejudge.specs.Rejudging.{rejudgedRoute}
 use Rattle.rejudge.proofs.Rejudgements.{some-numbers, rejudged-ok}
-use Rattle.filter.specs.Calls.{keeping, hopIn, judgeAnswer, refusalIn, keepEffect, rejudgeEffect}
-use Rattle.filter.proofs.KeptRoutes.{path-ok}
-use Rattle.history.specs.Calls.{Call, file, withdraw, clear, keep, drop, rejudge, filed, removed, cleared, kept, rejudged, Tables, Formed, tables, says, callAt, said, last, findRecord, findRoute, providersOf, known}
+use Rattle.filter.specs.Calls.{Keeping, hopIn, judgeAnswer, keepEffect, rejudgeEffect}
+use Rattle.history.specs.Calls.{Call, file, withdraw, clear, keep, drop, rejudge, filed, removed, cleared, kept, rejudged, Scope, of-pair, of-source, of-route, idle, scope, Tables, Formed, tables, says, callAt, scopeAt, said, last, findRecord, findRoute, providersOf, known}
 use Rattle.history.specs.Replies.{ModelReply, new, replaced, done, gone, refused, shownFiled, shownRemoval, shownCleared, shown, forRoom, accepted}
-use Rattle.history.specs.Model.{numberOf, refusal, after, replyAt, written}
+use Rattle.history.specs.Model.{numberOf, findKept, refusal, after, replyAt, written}
 use Rattle.history.specs.Filings.{filedList, keptRouteAt, hopFiled, hopsAt, storedBy, storedAt}
 use Rattle.history.specs.Reorderings.{IsRegisterStep, IsStep, Reordering}
-use Rattle.history.specs.Demands.{draftWord, wordNumber, Roomy, Drafted, Demand2, Demand3, Demands}
-use Rattle.history.proofs.Keys.{findKept}
+use Rattle.history.specs.Demands.{Roomy, Drafted, Demand2, Demand3, Demands}
+use Rattle.history.proofs.Entries.{once}
 use Rattle.history.proofs.Matching.{RoomyModel, same-replies, same-final}
-use Rattle.history.proofs.KeptRoutes.{judged-word, on-a-ground, rejudged-known}
+use Rattle.history.proofs.KeptRoutes.{on-a-ground, rejudged-known}
 use Rattle.history.proofs.Simulating.{modelOf, Holds, records-are, is-register, register-passes, routes-are, is-ledger, keep-step, rejudge-step, rejudge-counts, history-holds, history-stores, history-replies, history-written}
 use Rattle.history.proofs.FiledLists.{filed-list, kept-route}
 use Rattle.history.proofs.FiledHops.{filed-hops}
-
--- A verdict that is answered without a refusal: rows 9 to 17 are not given.
-answered-rows : (hop : HopFunction) (role neighbour : ℕ) (attribute : List ℕ) (a : Answer) → judgedRoute hop role neighbour attribute ≡ Answered a
-    → firstGiven (judgeRows role neighbour attribute) ≡ none
-answered-rows hop role neighbour attribute a e = sym (judged-reads hop role neighbour attribute refusalIn (λ r. refl) (λ a. refl)) ∙ ap refusalIn e
-
--- Its word is the draft's.
-answered-word : (hop : HopFunction) (role neighbour : ℕ) (attribute : List ℕ) (a : Answer) → judgedRoute hop role neighbour attribute ≡ Answered a
-    → draftWord hop role (contentOf role neighbour attribute) ≡ some (outcomeOf (verdictOf a))
-answered-word hop role neighbour attribute a e = go (judgement hop role neighbour attribute (answered-rows hop role neighbour attribute a e))
-  where
-    go : Judgement hop role neighbour attribute → draftWord hop role (contentOf role neighbour attribute) ≡ some (outcomeOf (verdictOf a))
-    go (on-ground g c j) =
-        let f : Answered (Plain (Invalid (ByGround g))) ≡ Answered a = sym j ∙ e in
-        let z : Plain (Invalid (ByGround g)) ≡ a = cc in
-        rw (c, ← z)
-    go (on-path path c short j) =
-        let f : Answered (judged hop path role) ≡ Answered a = sym j ∙ e in
-        let z : judged hop path role ≡ a = cc in
-        let n = path-some role neighbour path (path-ok role neighbour attribute path c short) in
-        rw (c, ← z) (ap some (judged-word hop path role n))
 
 -- A keeping that is answered answers what is judged.
 keep-answered : (o : Option Refusal) (hop : HopFunction) (role neighbour : ℕ) (attribute ws ws′ : List ℕ) (a : Answer)
@@ -145,14 +118,13 @@ module _ (t : Tables) (f : Formed t) (l : List Call) (i : ℕ) where
       rw (register-is, register-passes (holds-at .lists) (holds-at .lists-ok) [], records-are (holds-at .lists) (holds-at .lists-ok), hops-are)
 
   -- So does a keeping that is answered.
-  keep-answer : (number role neighbour : ℕ) (attribute : List ℕ) (a : Answer)
-      → kept (keepEffect (tables t l i .register) (tables t l i .ledger) (keeping number role neighbour attribute) .answer) ≡ kept (Answered a)
-      → judgedRoute (hopsAt t l i) role neighbour attribute ≡ Answered a
-  keep-answer number role neighbour attribute a e =
-      let step = keep-step (holds-at .lists) (holds-at .stored) (holds-at .lists-ok) (holds-at .routes-ok) number role neighbour attribute in
-      let g : keepEffect (tables t l i .register) (tables t l i .ledger) (keeping number role neighbour attribute) .answer ≡ Answered a = cc in
-      let o : Option Refusal = refusal (modelOf (holds-at .lists) (holds-at .stored)) (keep number role neighbour attribute) in
-      rw (← hops-are) (keep-answered o _ role neighbour attribute _ _ a (rw (register-is, ledger-is, step) at g))
+  keep-answer : (k : Keeping) (a : Answer) → kept (keepEffect (tables t l i .register) (tables t l i .ledger) k .answer) ≡ kept (Answered a)
+      → judgedRoute (hopsAt t l i) (k .role) (k .neighbour) (k .attribute) ≡ Answered a
+  keep-answer k a e =
+      let step = keep-step (holds-at .lists) (holds-at .stored) (holds-at .lists-ok) (holds-at .routes-ok) k in
+      let g : keepEffect (tables t l i .register) (tables t l i .ledger) k .answer ≡ Answered a = cc in
+      let o : Option Refusal = refusal (modelOf (holds-at .lists) (holds-at .stored)) (keep k) in
+      rw (← hops-are) (keep-answered o _ (k .role) (k .neighbour) (k .attribute) _ _ a (rw (register-is, ledger-is, step) at g))
 
   -- A re-judging counts the routes that it changes.
   rejudge-count : callAt l i ≡ rejudge
@@ -224,13 +196,15 @@ demand2 t f = record {
   lists-held = λ l i source customer. ap (λ rs. providersOf (findRecord (customer, source) rs)) (lists-are t f l i) ∙ filed-list source customer t f l i;
   routes-held = kept-are t f;
   verdicts-held = λ l i number. stored-at t f l number i;
+  one-list = λ l i. once register.keyOf samePair beforePair ordered-pairs _ _ (holding.ordered _ (formed-register t f l i .1));
+  one-route = λ l i. once keyOf eqb ltb ordered-ℕ _ _ (ledger-holding.ordered _ (formed-ledger t f l i .1));
   register-formed = formed-register t f;
   ledger-formed = formed-ledger t f;
   register-exact = registers-alike t f;
   ledger-exact = ledgers-alike t f;
   judge-answers = judge-answer t f;
-  keep-answers = λ l i number role neighbour attribute a c e. keep-answer t f l i number role neighbour attribute a (rw c at e);
-  draft-answers = λ l i role neighbour attribute a e. answered-word (hopsAt t l i) role neighbour attribute a e;
+  keep-answers = λ l i k a c e. keep-answer t f l i k a (rw c at e);
+  draft-answers = λ l i role neighbour attribute a e. draft-route (hopsAt t l i) role neighbour attribute a e;
   rejudge-counts = rejudge-count t f;
 }
 
@@ -275,22 +249,20 @@ cleared-back (clearing.Gone n) = refl
 cleared-back (clearing.Refused r) = refl
 
 -- Register steps that show the same answer the same.
-same-shown : (t u : Tables) (c : Call) → IsRegisterStep c → shown (says t c) ≡ shown (says u c) → says t c ≡ says u c
+same-shown : (t u : Tables) (c : Call) → IsRegisterStep (scope c) → shown (says t c) ≡ shown (says u c) → says t c ≡ says u c
 same-shown t u (file s c list) g e = ap filed (sym (filed-back _) ∙ ap filedBack e ∙ filed-back _)
 same-shown t u (withdraw s c) g e = ap removed (sym (removal-back _) ∙ ap removalBack e ∙ removal-back _)
 same-shown t u (clear s) g e = ap cleared (sym (cleared-back _) ∙ ap clearedBack e ∙ cleared-back _)
-same-shown t u (keep n role neighbour attribute) g e = absurd g
+same-shown t u (keep k) g e = absurd g
 same-shown t u (drop n) g e = absurd g
 same-shown t u rejudge g e = absurd g
 
 -- A register step is a step.
-register-step : (c : Call) → IsRegisterStep c → IsStep c
-register-step (file s c list) g = tt
-register-step (withdraw s c) g = tt
-register-step (clear s) g = tt
-register-step (keep n role neighbour attribute) g = absurd g
-register-step (drop n) g = absurd g
-register-step rejudge g = absurd g
+register-step : (c : Scope) → IsRegisterStep c → IsStep c
+register-step (of-pair s c) g = tt
+register-step (of-source s) g = tt
+register-step (of-route n) g = absurd g
+register-step idle g = absurd g
 
 -- Past the end of a list stand re-judgings, and these are not refused.
 roomy-model : (t : Tables) → Formed t → (l : List Call) → Roomy t l → RoomyModel t l
@@ -301,13 +273,7 @@ roomy-model t f l h i = go (decLt i (length l))
     go (yes p) = ap forRoom (sym (history-replies t f l i)) ∙ h i p
     go (no n) = let e : callAt l i ≡ rejudge = List·getD-eq-default l rejudge (omega arith) in rw e
 
--- A verdict's word is its outcome's.
-word-number : (v : Verdict) → verdictNumber v ≡ wordNumber (outcomeOf v)
-word-number Valid = refl
-word-number (Invalid c) = refl
-word-number (Unknown a b) = refl
-
--- A route that is judged anew has the verdict and places of its path, and the draft's word.
+-- A route that is judged anew has the draft's verdict and places of its path.
 drafted : (hop : HopFunction) (r : Route) → routeOk r ≡ true → Drafted hop (rejudgedRoute hop r)
 drafted hop r ok = go (eqb (r .ground) 0) refl
   where
@@ -317,11 +283,12 @@ drafted hop r ok = go (eqb (r .ground) 0) refl
     go : (b : Bool) → eqb (r .ground) 0 ≡ b → Drafted hop (cond b (stamped v r) r)
     go true e =
         let g : r .ground ≡ 0 = eqb-true _ _ e in
+        let d = draft-judged hop (r .path) (r .role) (some-numbers r ok g) in
         record {
-          verdict = λ z. refl;
-          a = λ z. refl;
-          b = λ z. refl;
-          word = λ z. word-number v ∙ ap wordNumber (sym (judged-word hop (r .path) (r .role) (some-numbers r ok g)));
+          verdict = λ z. ap (λ x. verdictNumber (verdictOf x)) d;
+          a = λ z. ap (λ x. placeA (verdictOf x)) d;
+          b = λ z. ap (λ x. placeB (verdictOf x)) d;
+          rules = λ z. d;
           ground = λ z. absurd (z g);
         }
     go false e =
@@ -329,7 +296,7 @@ drafted hop r ok = go (eqb (r .ground) 0) refl
           verdict = λ z. absurd (eqb-false _ _ e z);
           a = λ z. absurd (eqb-false _ _ e z);
           b = λ z. absurd (eqb-false _ _ e z);
-          word = λ z. absurd (eqb-false _ _ e z);
+          rules = λ z. absurd (eqb-false _ _ e z);
           ground = λ z. on-a-ground r ok e;
         }
 
@@ -366,14 +333,14 @@ last-verdicts t f l number r e = rw (← hops-are t f l (length l)) (go (findRou
 
 module _ (t : Tables) (f : Formed t) (l m : List Call) (r : Reordering l m) (g : Roomy t l) (h : Roomy t m) where
   -- Each step is done in both lists or refused alike.
-  ends-alike : (i : ℕ) → IsStep (callAt l i) → shown (said t l i) ≡ shown (said t m (r .to i))
+  ends-alike : (i : ℕ) → IsStep (scopeAt l i) → shown (said t l i) ≡ shown (said t m (r .to i))
   ends-alike i s =
       history-replies t f l i ∙ same-replies t f l m r (roomy-model t f l g) (roomy-model t f m h) i s ∙ sym (history-replies t f m (r .to i))
 
   -- Each register step gets the same answer.
-  answers-alike : (i : ℕ) → IsRegisterStep (callAt l i) → said t l i ≡ said t m (r .to i)
+  answers-alike : (i : ℕ) → IsRegisterStep (scopeAt l i) → said t l i ≡ said t m (r .to i)
   answers-alike i s =
-      let k : IsStep (callAt l i) = register-step (callAt l i) s in
+      let k : IsStep (scopeAt l i) = register-step (scopeAt l i) s in
       let c : callAt m (r .to i) ≡ callAt l i = r .to-same i k in
       rw c (same-shown (tables t l i) (tables t m (r .to i)) (callAt l i) s (rw c at (ends-alike i k)))
 
@@ -387,6 +354,8 @@ pub demand3 : (t : Tables) → Formed t → Demand3 t
 demand3 t f = record {
   as-model = history-replies t f;
   lists-filed = λ l i source customer. filed-list source customer t f l i;
+  routes-kept = λ l i number. kept-route number t f l i;
+  register-written = λ l i. register-is t f l i ∙ ap register.registerOf (sym (ap (λ m. m .lists) (holds-at t f l i .model-is)));
   written-out = history-written t f;
   verdicts = last-verdicts t f;
   same-answers = answers-alike t f;

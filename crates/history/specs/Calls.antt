@@ -21,14 +21,14 @@ use Rattle.register.specs.Calls.{fileEffect, withdrawEffect, clearEffect}
 use Rattle.ledger.specs.Routes.{ledgerWords, Route, ledgerOk}
 use Rattle.ledger.specs.Routes as ledger
 use Rattle.ledger.specs.Calls.{dropEffect}
-use Rattle.filter.specs.Calls.{pathIn, keeping, keepEffect, rejudgeEffect}
+use Rattle.filter.specs.Calls.{pathIn, Keeping, keepEffect, rejudgeEffect}
 
 -- The calls that can change a table, with their arguments: any numbers and any bytes.
 pub data Call : Type 0 where
   file : (source customer : ℕ) → (list : List ℕ) → Call
   withdraw : (source customer : ℕ) → Call
   clear : (source : ℕ) → Call
-  keep : (number role neighbour : ℕ) → (attribute : List ℕ) → Call
+  keep : Keeping → Call
   drop : (number : ℕ) → Call
   rejudge : Call
 
@@ -50,19 +50,41 @@ abbrev pub says : Tables → Call → Reply
 says t (file source customer list) = filed (fileEffect (t .register) source customer list .answer)
 says t (withdraw source customer) = removed (withdrawEffect (t .register) source customer .answer)
 says t (clear source) = cleared (clearEffect (t .register) source .answer)
-says t (keep number role neighbour attribute) = kept (keepEffect (t .register) (t .ledger) (keeping number role neighbour attribute) .answer)
+says t (keep k) = kept (keepEffect (t .register) (t .ledger) k .answer)
 says t (drop number) = removed (dropEffect (t .ledger) number .answer)
 says t rejudge = rejudged (rejudgeEffect (t .register) (t .ledger) .answer)
 
+-- The tables with another register, or with another ledger.
+abbrev pub withRegister : Tables → List ℕ → Tables
+withRegister t words = record { register = words; ledger = t .ledger }
+
+abbrev pub withLedger : Tables → List ℕ → Tables
+withLedger t words = record { register = t .register; ledger = words }
+
 -- The tables as it leaves them. A table that it is not lent, or is lent only to be read, stays.
 abbrev pub leaves : Tables → Call → Tables
-leaves t (file source customer list) = record { register = fileEffect (t .register) source customer list .words; ledger = t .ledger }
-leaves t (withdraw source customer) = record { register = withdrawEffect (t .register) source customer .words; ledger = t .ledger }
-leaves t (clear source) = record { register = clearEffect (t .register) source .words; ledger = t .ledger }
-leaves t (keep number role neighbour attribute) =
-    record { register = t .register; ledger = keepEffect (t .register) (t .ledger) (keeping number role neighbour attribute) .words }
-leaves t (drop number) = record { register = t .register; ledger = dropEffect (t .ledger) number .words }
-leaves t rejudge = record { register = t .register; ledger = rejudgeEffect (t .register) (t .ledger) .words }
+leaves t (file source customer list) = withRegister t (fileEffect (t .register) source customer list .words)
+leaves t (withdraw source customer) = withRegister t (withdrawEffect (t .register) source customer .words)
+leaves t (clear source) = withRegister t (clearEffect (t .register) source .words)
+leaves t (keep k) = withLedger t (keepEffect (t .register) (t .ledger) k .words)
+leaves t (drop number) = withLedger t (dropEffect (t .ledger) number .words)
+leaves t rejudge = withLedger t (rejudgeEffect (t .register) (t .ledger) .words)
+
+-- What a call can change: a source's list for one customer, every list of a source, the route under a number, or nothing that other calls read.
+pub data Scope : Type 0 where
+  of-pair : (source customer : ℕ) → Scope
+  of-source : (source : ℕ) → Scope
+  of-route : (number : ℕ) → Scope
+  idle : Scope
+
+-- (A re-judging changes verdicts, and no call but another one reads these.)
+abbrev pub scope : Call → Scope
+scope (file source customer list) = of-pair source customer
+scope (withdraw source customer) = of-pair source customer
+scope (clear source) = of-source source
+scope (keep k) = of-route (k .number)
+scope (drop number) = of-route number
+scope rejudge = idle
 
 -- ---- where a list of calls can start
 
@@ -82,6 +104,10 @@ blank = record { register = replicate registerWords 0; ledger = replicate ledger
 -- The call at index i of a list; past its end a re-judging.
 abbrev pub callAt : List Call → ℕ → Call
 callAt l i = getD l i rejudge
+
+-- Its scope.
+abbrev pub scopeAt : List Call → ℕ → Scope
+scopeAt l i = scope (callAt l i)
 
 -- The tables after the first i calls.
 unfoldable pub tables : Tables → List Call → ℕ → Tables
@@ -113,14 +139,14 @@ groundIn (grounded g) = groundNumber g
 groundIn (merged path) = 0
 
 -- The route that a keeping's arguments are read as.
-abbrev pub routeRead : ℕ → ℕ → ℕ → List ℕ → KeptRoute
-routeRead number role neighbour attribute =
+abbrev pub routeRead : Keeping → KeptRoute
+routeRead k =
     record {
-      number = number;
-      role = role;
-      neighbour = neighbour;
-      ground = groundIn (contentOf role neighbour attribute);
-      path = pathIn (contentOf role neighbour attribute);
+      number = k .number;
+      role = k .role;
+      neighbour = k .neighbour;
+      ground = groundIn (contentOf (k .role) (k .neighbour) (k .attribute));
+      path = pathIn (contentOf (k .role) (k .neighbour) (k .attribute));
     }
 
 -- ---- what tables hold

@@ -1,50 +1,36 @@
 -- Demands 2 and 3, clause by clause (docs/PROOFS.md has the demands), for lists of calls from the tables t on.
 use Prim.Native.Nat.{ℕ, suc, _<_}
 use mathlib.Core.Path.{_≡_}
-use mathlib.Core.Bool.{true, false, cond}
+use mathlib.Core.Bool.{true, false}
 use mathlib.Core.List.{List}
-use mathlib.Core.Option.{Option, none, some, Option·map}
+use mathlib.Core.Option.{some, Option·map}
 use lib.ListN.{length}
 use Rattle.types.specs.declared.Answer.{Answer}
 use Rattle.types.specs.declared.Judged.the-variants.{Answered}
 use Rattle.types.specs.declared.Rejudged.the-variants.{Changed}
 use Rattle.types.specs.Numbers.{verdictNumber, placeA, placeB, verdictOf}
-use Rattle.types.specs.Roles.{isUpstream}
-use Rattle.as_path.specs.Reading.{Content, faulty, grounded, merged, contentOf}
+use Rattle.as_path.specs.Segments.{segments}
 use Rattle.rules.specs.Hops.{HopFunction}
 use Rattle.rules.specs.Verdicts.{judged}
 use Rattle.rules.specs.Judging.{judgedRoute}
-use Rattle.rules.specs.Draft.{Outcome, outcomeOf, draftUpstream, draftDownstream}
-use Rattle.rules.specs.Draft as draft
-use Rattle.register.specs.Register.{registerWords, recordsOf, registerOk}
-use Rattle.ledger.specs.Routes.{ledgerWords, Route, routesOf, ledgerOk}
+use Rattle.rules.specs.Draft.{draftJudged, draftRoute}
+use Rattle.register.specs.Register.{registerWords, recordsOf, recordAt, registerOk}
+use Rattle.register.specs.Register as register
+use Rattle.ledger.specs.Routes.{ledgerWords, Route, routesOf, routeAt, ledgerOk}
+use Rattle.ledger.specs.Routes as ledger
 use Rattle.ledger.specs.Calls.{countDiffering}
-use Rattle.filter.specs.Calls.{judgeAnswer}
-use Rattle.history.specs.Calls.{Call, keep, rejudge, kept, rejudged, Tables, Formed, tables, callAt, said, last, findRecord, findRoute, providersOf, known}
+use Rattle.filter.specs.Calls.{Keeping, judgeAnswer}
+use Rattle.history.specs.Calls.{Call, keep, rejudge, kept, rejudged, Tables, Formed, tables, callAt, scopeAt, said, last, findRecord, findRoute, providersOf, known}
 use Rattle.history.specs.Replies.{shown, forRoom}
-use Rattle.history.specs.Model.{after, replyAt, final, written}
+use Rattle.history.specs.Model.{findKept, after, replyAt, final, written}
 use Rattle.history.specs.Filings.{filedList, keptRouteAt, hopsAt, storedAt}
 use Rattle.history.specs.Reorderings.{IsRegisterStep, StepAt, Reordering}
 
--- ---- the draft's word
-
--- Roles 3 and 6 go by section 6.2, the others by 6.1.
-abbrev pub draftPath : HopFunction → ℕ → List ℕ → Outcome
-draftPath hop role path = cond (isUpstream role) (outcomeOf (draftUpstream hop path)) (outcomeOf (draftDownstream hop path))
-
--- A ground makes the route Invalid. An attribute with a fault has no word.
-abbrev pub draftWord : HopFunction → ℕ → Content → Option Outcome
-draftWord hop role (faulty f p) = none
-draftWord hop role (grounded g) = some draft.Invalid
-draftWord hop role (merged path) = some (draftPath hop role path)
-
--- The number of the draft's word.
-abbrev pub wordNumber : Outcome → ℕ
-wordNumber draft.Valid = 0
-wordNumber draft.Invalid = 1
-wordNumber draft.Unknown = 2
-
 -- ---- demand 2
+
+-- No key twice among n entries.
+abbrev pub Once : {K : Type 0} → (ℕ → K) → ℕ → Type 0
+Once keyAt n = (x y : ℕ) → x < n → y < n → keyAt x ≡ keyAt y → x ≡ y
 
 pub record Demand2 (t : Tables) : Type 0 where
   -- The register has, for each source and customer, the last list that was accepted and neither withdrawn nor cleared since.
@@ -57,6 +43,11 @@ pub record Demand2 (t : Tables) : Type 0 where
   -- Both tables keep the word rules: rows 1 to 3 are never given.
   pub register-formed : (l : List Call) (i : ℕ) → (length (tables t l i .register) ≡ registerWords) × (registerOk (tables t l i .register) ≡ true)
   pub ledger-formed : (l : List Call) (i : ℕ) → (length (tables t l i .ledger) ≡ ledgerWords) × (ledgerOk (tables t l i .ledger) ≡ true)
+  -- At most one list for a customer and a source, and one route for a number.
+  pub one-list : (l : List Call) (i : ℕ)
+      → Once (λ x. register.keyOf (recordAt (recordsOf (tables t l i .register)) x)) (length (recordsOf (tables t l i .register)))
+  pub one-route : (l : List Call) (i : ℕ)
+      → Once (λ x. ledger.keyOf (routeAt (routesOf (tables t l i .ledger)) x)) (length (routesOf (tables t l i .ledger)))
   -- They hold nothing else: what is filed makes up the register's words, and what is stored the ledger's, whatever the calls were.
   pub register-exact : (l m : List Call) (i j : ℕ) → ((source customer : ℕ) → filedList t l i source customer ≡ filedList t m j source customer)
       → tables t l i .register ≡ tables t m j .register
@@ -64,13 +55,12 @@ pub record Demand2 (t : Tables) : Type 0 where
   -- Every verdict that is given, by Judge at any time or by a keeping, with its ground or places, is the rules' for the union of those lists.
   pub judge-answers : (l : List Call) (i role neighbour : ℕ) (attribute : List ℕ)
       → judgeAnswer (tables t l i .register) role neighbour attribute ≡ judgedRoute (hopsAt t l i) role neighbour attribute
-  pub keep-answers : (l : List Call) (i number role neighbour : ℕ) (attribute : List ℕ) (a : Answer)
-      → callAt l i ≡ keep number role neighbour attribute → said t l i ≡ kept (Answered a)
-      → judgedRoute (hopsAt t l i) role neighbour attribute ≡ Answered a
-  -- Its word is the draft's: Valid exactly where the draft says Valid, and so for Invalid and Unknown.
+  pub keep-answers : (l : List Call) (i : ℕ) (k : Keeping) (a : Answer) → callAt l i ≡ keep k → said t l i ≡ kept (Answered a)
+      → judgedRoute (hopsAt t l i) (k .role) (k .neighbour) (k .attribute) ≡ Answered a
+  -- It is the draft's own, from the attribute's segments on: word, ground or places, and gap.
   pub draft-answers : (l : List Call) (i role neighbour : ℕ) (attribute : List ℕ) (a : Answer)
       → judgedRoute (hopsAt t l i) role neighbour attribute ≡ Answered a
-      → draftWord (hopsAt t l i) role (contentOf role neighbour attribute) ≡ some (outcomeOf (verdictOf a))
+      → draftRoute (hopsAt t l i) role neighbour (segments 4 attribute) ≡ a
   -- A re-judging is never refused, and answers how many routes differ between the ledger before and after it.
   pub rejudge-counts : (l : List Call) (i : ℕ) → callAt l i ≡ rejudge
       → said t l i ≡ rejudged (Changed (countDiffering (routesOf (tables t l i .ledger)) (routesOf (tables t l (suc i) .ledger))))
@@ -81,12 +71,12 @@ pub record Demand2 (t : Tables) : Type 0 where
 abbrev pub Roomy : Tables → List Call → Type 0
 Roomy t l = (i : ℕ) → i < length l → forRoom (shown (said t l i)) ≡ false
 
--- The verdict and places of a stored route: the rules' for its role and path over these hops, and the draft's word; under a ground Invalid, 0, 0.
+-- The verdict and places of a stored route: the draft's for its role and path over these hops, which are the rules'; under a ground Invalid, 0, 0.
 pub record Drafted (hop : HopFunction) (r : Route) : Type 0 where
-  pub verdict : r .ground ≡ 0 → r .verdict ≡ verdictNumber (verdictOf (judged hop (r .path) (r .role)))
-  pub a : r .ground ≡ 0 → r .a ≡ placeA (verdictOf (judged hop (r .path) (r .role)))
-  pub b : r .ground ≡ 0 → r .b ≡ placeB (verdictOf (judged hop (r .path) (r .role)))
-  pub word : r .ground ≡ 0 → r .verdict ≡ wordNumber (draftPath hop (r .role) (r .path))
+  pub verdict : r .ground ≡ 0 → r .verdict ≡ verdictNumber (verdictOf (draftJudged hop (r .path) (r .role)))
+  pub a : r .ground ≡ 0 → r .a ≡ placeA (verdictOf (draftJudged hop (r .path) (r .role)))
+  pub b : r .ground ≡ 0 → r .b ≡ placeB (verdictOf (draftJudged hop (r .path) (r .role)))
+  pub rules : r .ground ≡ 0 → judged hop (r .path) (r .role) ≡ draftJudged hop (r .path) (r .role)
   pub ground : (r .ground ≡ 0 → ⊥) → (r .verdict ≡ 1) × (r .a ≡ 0) × (r .b ≡ 0)
 
 pub record Demand3 (t : Tables) : Type 0 where
@@ -95,12 +85,16 @@ pub record Demand3 (t : Tables) : Type 0 where
   -- The model's lists are those that demand 2 speaks of.
   pub lists-filed : (l : List Call) (i source customer : ℕ)
       → providersOf (findRecord (customer, source) (after t l i .lists)) ≡ filedList t l i source customer
+  -- Its routes are those that demand 2 speaks of.
+  pub routes-kept : (l : List Call) (i number : ℕ) → findKept number (after t l i .routes) ≡ keptRouteAt t l i number
+  -- At every step the register is the model's lists written out.
+  pub register-written : (l : List Call) (i : ℕ) → tables t l i .register ≡ register.registerOf (after t l i .lists)
   -- After every list and one last re-judging both tables are the model written out.
   pub written-out : (l : List Call) → last t l ≡ written (final t l)
   -- Every verdict in them, with its places, is the draft's over the lists that demand 2 speaks of.
   pub verdicts : (l : List Call) (number : ℕ) (r : Route) → findRoute number (routesOf (last t l .ledger)) ≡ some r → Drafted (hopsAt t l (length l)) r
   -- Two lists, one a reordering of the other, neither refused for room: each register call gets the same answer in both;
-  pub same-answers : (l m : List Call) (r : Reordering l m) → Roomy t l → Roomy t m → (i : ℕ) → IsRegisterStep (callAt l i) → said t l i ≡ said t m (r .to i)
+  pub same-answers : (l m : List Call) (r : Reordering l m) → Roomy t l → Roomy t m → (i : ℕ) → IsRegisterStep (scopeAt l i) → said t l i ≡ said t m (r .to i)
   -- each keeping and dropping is done in both, or refused in both by the same row and place;
   pub same-ends : (l m : List Call) (r : Reordering l m) → Roomy t l → Roomy t m → (i : ℕ) → StepAt l i → shown (said t l i) ≡ shown (said t m (r .to i))
   -- and after one last re-judging in each, both tables are equal word for word.

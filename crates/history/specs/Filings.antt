@@ -24,7 +24,7 @@ abbrev pub filedBy : ℕ → ℕ → Call → Option (List ℕ) → Option (List
 filedBy source customer (file s c list) earlier = cond (eqb c customer && eqb s source) (some list) earlier
 filedBy source customer (withdraw s c) earlier = cond (eqb c customer && eqb s source) none earlier
 filedBy source customer (clear s) earlier = cond (eqb s source) none earlier
-filedBy source customer (keep number role neighbour attribute) earlier = earlier
+filedBy source customer (keep k) earlier = earlier
 filedBy source customer (drop number) earlier = earlier
 filedBy source customer rejudge earlier = earlier
 
@@ -40,7 +40,7 @@ abbrev pub keptBy : ℕ → Call → Option KeptRoute → Option KeptRoute
 keptBy number (file s c list) earlier = earlier
 keptBy number (withdraw s c) earlier = earlier
 keptBy number (clear s) earlier = earlier
-keptBy number (keep n role neighbour attribute) earlier = cond (eqb n number) (some (routeRead n role neighbour attribute)) earlier
+keptBy number (keep k) earlier = cond (eqb (k .number) number) (some (routeRead k)) earlier
 keptBy number (drop n) earlier = cond (eqb n number) none earlier
 keptBy number rejudge earlier = earlier
 
@@ -79,9 +79,10 @@ abbrev pub storedBy : HopFunction → ℕ → Call → Option Route → Option R
 storedBy hop number (file s c list) earlier = earlier
 storedBy hop number (withdraw s c) earlier = earlier
 storedBy hop number (clear s) earlier = earlier
-storedBy hop number (keep n role neighbour attribute) earlier =
-    cond (eqb n number)
-    (some (routeFor n role neighbour (verdictIn (judgedRoute hop role neighbour attribute)) (pathIn (contentOf role neighbour attribute))))
+storedBy hop number (keep k) earlier =
+    cond (eqb (k .number) number)
+    (some (routeFor (k .number) (k .role) (k .neighbour) (verdictIn (judgedRoute hop (k .role) (k .neighbour) (k .attribute)))
+    (pathIn (contentOf (k .role) (k .neighbour) (k .attribute)))))
     earlier
 storedBy hop number (drop n) earlier = cond (eqb n number) none earlier
 storedBy hop number rejudge earlier = Option·map (rejudgedRoute hop) earlier

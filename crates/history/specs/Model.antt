@@ -10,7 +10,7 @@ use Rattle.types.specs.declared.Refusal.{Refusal}
 use Rattle.types.specs.declared.Refusal.the-variants.{ProviderList, NoRecord, RegisterFull, RouteTaken, NoRoute, RoutesFull}
 use Rattle.types.specs.Numbers.{verdictNumber, placeA, placeB, verdictOf}
 use Rattle.types.specs.Rows.{rowIf, firstGiven}
-use Rattle.keyed.specs.Keyed.{holds, put, without}
+use Rattle.keyed.specs.Keyed.{find, holds, put, without}
 use Rattle.rules.specs.Hops.{HopFunction}
 use Rattle.rules.specs.Records.{Record, hopOf}
 use Rattle.rules.specs.Verdicts.{judged}
@@ -38,6 +38,9 @@ heldBy t = record { lists = recordsOf (t .register); routes = map known (routesO
 abbrev pub numberOf : KeptRoute → ℕ
 numberOf r = r .number
 
+abbrev pub findKept : ℕ → List KeptRoute → Option KeptRoute
+findKept number rs = find numberOf eqb ltb number rs
+
 abbrev pub holdsKept : ℕ → List KeptRoute → Bool
 holdsKept number rs = holds numberOf eqb ltb number rs
 
@@ -54,7 +57,7 @@ abbrev pub argumentRows : Call → List (Option Refusal)
 argumentRows (file source customer list) = sourceRow source ∷ customerRow customer ∷ rowIf (not (register.listOk list)) ProviderList ∷ []
 argumentRows (withdraw source customer) = sourceRow source ∷ customerRow customer ∷ []
 argumentRows (clear source) = sourceRow source ∷ []
-argumentRows (keep number role neighbour attribute) = judgeRows role neighbour attribute
+argumentRows (keep k) = judgeRows (k .role) (k .neighbour) (k .attribute)
 argumentRows (drop number) = []
 argumentRows rejudge = []
 
@@ -63,7 +66,7 @@ abbrev pub heldRows : Model → Call → List (Option Refusal)
 heldRows m (file source customer list) = []
 heldRows m (withdraw source customer) = rowIf (not (holdsRecord customer source (m .lists))) NoRecord ∷ []
 heldRows m (clear source) = []
-heldRows m (keep number role neighbour attribute) = rowIf (holdsKept number (m .routes)) RouteTaken ∷ []
+heldRows m (keep k) = rowIf (holdsKept (k .number) (m .routes)) RouteTaken ∷ []
 heldRows m (drop number) = rowIf (not (holdsKept number (m .routes))) NoRoute ∷ []
 heldRows m rejudge = []
 
@@ -81,8 +84,7 @@ abbrev pub roomRows : Model → Call → List (Option Refusal)
 roomRows m (file source customer list) = rowIf (not (register.roomFor (putRecord (recordFor source customer list) (m .lists)))) RegisterFull ∷ []
 roomRows m (withdraw source customer) = []
 roomRows m (clear source) = []
-roomRows m (keep number role neighbour attribute) =
-    rowIf (not (roomForRoutes (putKept (routeRead number role neighbour attribute) (m .routes)))) RoutesFull ∷ []
+roomRows m (keep k) = rowIf (not (roomForRoutes (putKept (routeRead k) (m .routes)))) RoutesFull ∷ []
 roomRows m (drop number) = []
 roomRows m rejudge = []
 
@@ -97,7 +99,7 @@ abbrev pub answer : Model → Call → ModelReply
 answer m (file source customer list) = cond (holdsRecord customer source (m .lists)) replaced new
 answer m (withdraw source customer) = done
 answer m (clear source) = gone (countRecords source (m .lists))
-answer m (keep number role neighbour attribute) = done
+answer m (keep k) = done
 answer m (drop number) = done
 answer m rejudge = done
 
@@ -105,8 +107,7 @@ abbrev pub change : Model → Call → Model
 change m (file source customer list) = record { lists = putRecord (recordFor source customer list) (m .lists); routes = m .routes }
 change m (withdraw source customer) = record { lists = eraseRecord customer source (m .lists); routes = m .routes }
 change m (clear source) = record { lists = clearRecords source (m .lists); routes = m .routes }
-change m (keep number role neighbour attribute) =
-    record { lists = m .lists; routes = putKept (routeRead number role neighbour attribute) (m .routes) }
+change m (keep k) = record { lists = m .lists; routes = putKept (routeRead k) (m .routes) }
 change m (drop number) = record { lists = m .lists; routes = eraseKept number (m .routes) }
 change m rejudge = m
 

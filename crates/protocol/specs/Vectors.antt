@@ -17,6 +17,7 @@ use Rattle.types.specs.declared.Refusal.the-variants.{RegisterFull, Attribute}
 use Rattle.types.specs.declared.Judged.{Judged}
 use Rattle.types.specs.declared.Judged.the-variants.{Answered, Refused}
 use Rattle.answers.specs.Texts.{eachText, judgedText, spacedText}
+use Rattle.filter.specs.Calls.{keeping}
 use Rattle.history.specs.Calls.{Tables, file, withdraw, clear, keep, drop, rejudge}
 use Rattle.commands.specs.declared.Named.the-variants.{Register, Ledger, Neither}
 use Rattle.commands.specs.Commands.{Command, call, judge, show, words, poke, resize, empty, bad, namedBy, ofWords, withNumber, withBytes, withNumbers, upTo, lookCommand, routeCommand, lentCommand, commandOf}
@@ -35,7 +36,7 @@ pub commands :
     ∷ call (clear 7)
     ∷ judge 3 64500 (2 ∷ 2 ∷ [])
     ∷ judge 3 64500 []
-    ∷ call (keep 4294967295 1 64500 (2 ∷ []))
+    ∷ call (keep (keeping 4294967295 1 64500 (2 ∷ [])))
     ∷ call (drop 9)
     ∷ call rejudge
     ∷ show Register

@@ -9,7 +9,7 @@ use borrow.Author.Tests.{le-leb, lt-leb, leb-true, ltb-true, ltb-false, eqb-true
 use lib.Dec.{leb, ltb, eqb}
 use lib.ListN.{length, getD, take, drop, drop-of-length-le}
 use lib.Seq.{drop-cons}
-use Rattle.table.specs.Table.{Sound, wellFormed}
+use Rattle.table.specs.Table.{counters, Sound, wellFormed}
 use Rattle.table.proofs.Sounds.{body-is}
 use Rattle.table.proofs.Exact.{passes-sound}
 use Rattle.keyed.specs.Keyed.{samePair, beforePair, ascends, ascendsFrom, every}
@@ -115,23 +115,23 @@ rules-step k l r rs x =
 
 -- The numbers in the lists that end at from.
 abbrev pub passed : List ℕ → ℕ → ℕ → List ℕ
-passed ws n from = take (from - (2 + n * slotWords)) (drop (2 + n * slotWords) ws)
+passed ws n from = take (from - (counters + n * slotWords)) (drop (counters + n * slotWords) ws)
 
 -- The loop over the records: the rules of those that are left are what is left to find, and that numbers descended only between lists.
 pub record Checked (ws : List ℕ) (n customer source between from i : ℕ) : Type 0 where
   pub sound : Sound headWords tailWords ws
   pub count : n ≡ length (recordsOf ws)
   pub within : i ≤ n
-  pub start : from ≡ 2 + n * slotWords + listed (take i (recordsOf ws))
+  pub start : from ≡ counters + n * slotWords + listed (take i (recordsOf ws))
   pub few : between ≤ i
   pub over : between ≤ descentsIn (passed ws n from)
   pub same : (rulesFrom customer source (drop i (recordsOf ws)) && eqb (descentsIn (passed ws n from)) between) ≡ rules (recordsOf ws)
 
 -- The loop starts at (0, 0), before the first record.
-pub checks : {ws : List ℕ} {n : ℕ} → Sound headWords tailWords ws → n ≡ getD ws 0 0 → Checked ws n 0 0 0 (2 + n * slotWords) 0
+pub checks : {ws : List ℕ} {n : ℕ} → Sound headWords tailWords ws → n ≡ getD ws 0 0 → Checked ws n 0 0 0 (counters + n * slotWords) 0
 unfolding listed descentsIn
 checks {ws} {n} s e =
-    let z : 2 + n * slotWords - (2 + n * slotWords) ≡ 0 = omega arith in
+    let z : counters + n * slotWords - (counters + n * slotWords) ≡ 0 = omega arith in
     record {
       sound = s;
       count = e ∙ record-count ws s;
@@ -144,7 +144,7 @@ checks {ws} {n} s e =
 
 module _ {ws : List ℕ} {n customer source between from i : ℕ} (g : Checked ws n customer source between from i) where
   -- The lists passed hold no more numbers than word 1 says.
-  pub lists-few : from - (2 + n * slotWords) ≤ getD ws 1 0
+  pub lists-few : from - (counters + n * slotWords) ≤ getD ws 1 0
   lists-few = omega (arith, listed-take (recordsOf ws) i, list-count ws (g .sound))
 
   -- They end within the words.
@@ -166,18 +166,18 @@ module _ {ws : List ℕ} {n customer source between from i : ℕ} (g : Checked w
     inside = omega (arith, g .count)
 
     -- The slot lies within the words.
-    pub slot-inside : 2 + i * slotWords + slotWords ≤ length ws
+    pub slot-inside : counters + i * slotWords + slotWords ≤ length ws
     slot-inside = slot-within ws (g .sound) i inside
 
     -- Its customer, as read.
     abbrev cust : ℕ
-    cust = getD ws (2 + i * slotWords) 0
+    cust = getD ws (counters + i * slotWords) 0
 
     -- Its source, as read.
     abbrev src : ℕ
-    src = getD ws (2 + i * slotWords + sourceWord) 0
+    src = getD ws (counters + i * slotWords + sourceWord) 0
 
-    module _ {m : ℕ} (e : m ≡ getD ws (2 + i * slotWords + countWord) 0) where
+    module _ {m : ℕ} (e : m ≡ getD ws (counters + i * slotWords + countWord) 0) where
       -- The count read is the list's length.
       count-is : m ≡ length (recordAt (recordsOf ws) i .providers)
       count-is = e ∙ length-is ws (g .sound) i inside
@@ -236,18 +236,18 @@ module _ {ws : List ℕ} {n customer source between from i : ℕ} (g : Checked w
               }
 
           -- A record with no list before it.
-          pub checks-first : from ≤ 2 + n * slotWords → now ≡ between → Checked ws n cust src now (from + m) (i + 1)
+          pub checks-first : from ≤ counters + n * slotWords → now ≡ between → Checked ws n cust src now (from + m) (i + 1)
           checks-first p t =
-              checks-on 0 (omega arith) (omega arith) (join-first ws (2 + n * slotWords) from m (omega arith) p)
+              checks-on 0 (omega arith) (omega arith) (join-first ws (counters + n * slotWords) from m (omega arith) p)
 
           -- A record with lists before it.
-          pub checks-next : 2 + n * slotWords < from → now ≡ between + fall (getD ws (from - 1) 0) (getD ws from 0)
+          pub checks-next : counters + n * slotWords < from → now ≡ between + fall (getD ws (from - 1) 0) (getD ws from 0)
               → Checked ws n cust src now (from + m) (i + 1)
           checks-next p t =
               let x = getD ws (from - 1) 0 in
               let y = getD ws from 0 in
               checks-on (fall x y) (fall-small x y) t
-              (join-next ws (2 + n * slotWords) from m (omega arith) p not-empty list-inside)
+              (join-next ws (counters + n * slotWords) from m (omega arith) p not-empty list-inside)
 
 -- ---- the whole register
 

@@ -4,7 +4,7 @@ use mathlib.Core.Path.{_≡_, refl, sym, _∙_, ap}
 use mathlib.Core.List.{List, [], _∷_, map}
 use native.Mathlib.Omega.{arith}
 use lib.ListN.{length, getD, take, drop, length-append, length-map}
-use Rattle.table.specs.Table.{Entry, bodies, decode, Wide, Sound}
+use Rattle.table.specs.Table.{counters, Entry, bodies, decode, Wide, Sound}
 use Rattle.table.proofs.Sounds.{nth}
 use Rattle.table.proofs.Typed
 use Rattle.table.proofs.Typed.{Typing, no-words}
@@ -61,7 +61,7 @@ length-entries rs = length-map rs entryOf
 
 -- Records within both limits fit into a register.
 pub records-fit : (rs : List Record) → length rs ≤ mostRecords → listed rs ≤ mostListed
-    → 2 + length (map entryOf rs) * slotWords + length (bodies (map entryOf rs)) ≤ registerWords
+    → counters + length (map entryOf rs) * slotWords + length (bodies (map entryOf rs)) ≤ registerWords
 records-fit rs h h' = omega (arith, length-entries rs, bodies-listed rs)
 
 -- What is written is read back.
@@ -102,38 +102,38 @@ module _ (ws : List ℕ) (s : Sound headWords tailWords ws) where
 
   module _ (i : ℕ) (h : i < length (recordsOf ws)) where
     -- Row i lies within the words.
-    pub slot-within : 2 + i * slotWords + slotWords ≤ length ws
+    pub slot-within : counters + i * slotWords + slotWords ≤ length ws
     unfolding recordsOf
     slot-within = Typed.slot-within typing ws s i h
 
     -- The first word of slot i is the customer.
-    pub customer-is : getD ws (2 + i * slotWords) 0 ≡ recordAt (recordsOf ws) i .customer
+    pub customer-is : getD ws (counters + i * slotWords) 0 ≡ recordAt (recordsOf ws) i .customer
     unfolding recordsOf
     customer-is = Typed.first-word typing ws s i h (omega arith)
 
     -- The second is the source.
-    pub source-is : getD ws (2 + i * slotWords + sourceWord) 0 ≡ recordAt (recordsOf ws) i .source
+    pub source-is : getD ws (counters + i * slotWords + sourceWord) 0 ≡ recordAt (recordsOf ws) i .source
     unfolding recordsOf
     source-is = Typed.head-word typing ws s i h sourceWord (omega arith)
 
     -- The fourth counts the numbers in the list.
-    pub length-is : getD ws (2 + i * slotWords + countWord) 0 ≡ length (recordAt (recordsOf ws) i .providers)
+    pub length-is : getD ws (counters + i * slotWords + countWord) 0 ≡ length (recordAt (recordsOf ws) i .providers)
     unfolding recordsOf
     length-is = ap (λ k. getD ws k 0) (omega arith) ∙ Typed.length-word typing ws s i h
 
     -- The third counts those in the lists before it.
-    pub list-start : getD ws (2 + i * slotWords + startWord) 0 ≡ listed (take i (recordsOf ws))
+    pub list-start : getD ws (counters + i * slotWords + startWord) 0 ≡ listed (take i (recordsOf ws))
     unfolding recordsOf
     list-start = Typed.start-word typing ws s i h ∙ bodies-listed (take i (recordsOf ws))
 
     -- A record's list, as the part of the words that it is.
     pub list-is :
-        take (length (recordAt (recordsOf ws) i .providers)) (drop (2 + length (recordsOf ws) * slotWords + listed (take i (recordsOf ws))) ws)
+        take (length (recordAt (recordsOf ws) i .providers)) (drop (counters + length (recordsOf ws) * slotWords + listed (take i (recordsOf ws))) ws)
         ≡ recordAt (recordsOf ws) i .providers
     unfolding recordsOf
     list-is = rw (← bodies-listed (take i (recordsOf ws))) (Typed.body-part typing ws s i h)
 
     -- It ends within the words.
-    pub list-within : 2 + length (recordsOf ws) * slotWords + listed (take i (recordsOf ws)) + length (recordAt (recordsOf ws) i .providers) ≤ length ws
+    pub list-within : counters + length (recordsOf ws) * slotWords + listed (take i (recordsOf ws)) + length (recordAt (recordsOf ws) i .providers) ≤ length ws
     unfolding recordsOf
     list-within = rw (← bodies-listed (take i (recordsOf ws))) (Typed.body-within typing ws s i h)

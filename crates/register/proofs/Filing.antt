@@ -16,7 +16,7 @@ use Rattle.types.specs.declared.Removal.the-variants as removal
 use Rattle.types.specs.declared.Cleared.{Cleared}
 use Rattle.types.specs.declared.Cleared.the-variants as cleared
 use Rattle.types.specs.Rows.{firstGiven, Effect, effect}
-use Rattle.table.specs.Table.{Entry, bodies, encode, decode, Sound, Insertable, Removable, Clearable, stayingEntries, insertAt, removeAt}
+use Rattle.table.specs.Table.{counters, Entry, bodies, encode, decode, Sound, Insertable, Removable, Clearable, stayingEntries, insertAt, removeAt}
 use Rattle.table.proofs.After.{removed}
 use Rattle.keyed.specs.Keyed.{samePair, beforePair, ascends, without}
 use Rattle.keyed.proofs.Orders.{ordered-pairs, both-intro}
@@ -154,11 +154,11 @@ module _ {ws : List ℕ} {position source customer : ℕ} {list : List ℕ} (p :
     pub position-under : position < length rs
     position-under = rw (p .here) (position-within r rs asc taken)
 
-    pub old-slot : 2 + position * slotWords + slotWords ≤ length ws
+    pub old-slot : counters + position * slotWords + slotWords ≤ length ws
     old-slot = slot-within ws s position position-under
 
     -- The numbers of the list that goes.
-    pub old-word : getD ws (2 + position * slotWords + countWord) 0 ≡ length (recordAt rs position .providers)
+    pub old-word : getD ws (counters + position * slotWords + countWord) 0 ≡ length (recordAt rs position .providers)
     old-word = length-is ws s position position-under
 
     pub old-within : length (recordAt rs position .providers) ≤ listed rs

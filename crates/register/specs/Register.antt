@@ -4,7 +4,7 @@ use mathlib.Core.Bool.{Bool, true, cond, _&&_}
 use mathlib.Core.List.{List, [], _∷_, map}
 use lib.Dec.{leb, ltb, eqb}
 use lib.ListN.{length, getD}
-use Rattle.table.specs.Table.{Entry, width, bodies, encode, decode, wellFormed}
+use Rattle.table.specs.Table.{Entry, counters, width, bodies, encode, decode, wellFormed}
 use Rattle.keyed.specs.Keyed.{samePair, beforePair, ascends, rank, every}
 use Rattle.rules.specs.Records.{Record}
 
@@ -50,7 +50,7 @@ countWord = headWords + 1
 
 -- The words of a register: two counts, and room for as many records and numbers as there may be.
 abbrev pub registerWords : ℕ
-registerWords = 2 + mostRecords * slotWords + mostListed
+registerWords = counters + mostRecords * slotWords + mostListed
 
 -- ---- records
 

@@ -113,7 +113,7 @@ fn customer_at(reg: &[u32], i: usize) -> AsNumber
     requires { ⌜ (registerOk (now reg) ≡ true) × (i < length (recordsOf (now reg))) ⌝ }
     ensures { λ r. ⌜ r .0 ≡ recordAt (recordsOf (now (reg .entry))) i .customer ⌝ }
 {
-    let c = reg[2 + i * crate::WIDTH];
+    let c = reg[table::COUNTERS + i * crate::WIDTH];
     AsNumber(c)
 }
 

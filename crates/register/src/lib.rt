@@ -39,7 +39,7 @@ const HEAD: usize = 2;
 
 const TAIL: usize = 0;
 
-pub const WIDTH: usize = HEAD + 2 + TAIL;
+pub const WIDTH: usize = HEAD + table::SPAN + TAIL;
 
 const SOURCE: usize = 1;
 
@@ -48,7 +48,7 @@ const START: usize = HEAD;
 const COUNT: usize = HEAD + 1;
 
 // The words of a register: two counts, and room for as many records and numbers as there may be.
-pub const WORDS: usize = 2 + MOST_RECORDS * WIDTH + MOST_LISTED;
+pub const WORDS: usize = table::COUNTERS + MOST_RECORDS * WIDTH + MOST_LISTED;
 
 // The tail of a slot.
 const NO_TAIL: [u32; TAIL] = [0u32; TAIL];
@@ -127,14 +127,14 @@ fn are_records(reg: &[u32]) -> bool
     ensures { λ r. ⌜ r ≡ (every recordOk (recordsOf (now (reg .entry))) && ascends keyOf samePair beforePair (recordsOf (now (reg .entry)))) ⌝ }
 {
     let n = table::word(reg, 0);
-    let bodies = 2 + n * WIDTH;
+    let bodies = table::COUNTERS + n * WIDTH;
     let mut customer: u32 = 0;
     let mut source: u32 = 0;
     let mut between: u32 = 0;
     let mut from = bodies;
     let mut i: usize = 0;
     while i < n {
-        let at = 2 + i * WIDTH;
+        let at = table::COUNTERS + i * WIDTH;
         let c = reg[at];
         let s = reg[at + SOURCE];
         let count = table::word(reg, at + COUNT);
@@ -180,7 +180,7 @@ fn stands_before(reg: &[u32], i: usize, customer: AsNumber, source: u32) -> bool
     requires { ⌜ (registerOk (now reg) ≡ true) × (i < length (recordsOf (now reg))) ⌝ }
     ensures { λ r. ⌜ r ≡ beforePair (keyOf (recordAt (recordsOf (now (reg .entry))) i)) (customer .0, source) ⌝ }
 {
-    let at = 2 + i * WIDTH;
+    let at = table::COUNTERS + i * WIDTH;
     let c = reg[at];
     is_before(AsNumber(c), reg[at + SOURCE], customer, source)
 }
@@ -219,7 +219,7 @@ fn is_at(reg: &[u32], position: usize, customer: AsNumber, source: u32) -> bool
     ensures { λ r. ⌜ r ≡ holdsRecord (customer .0) source (recordsOf (now (reg .entry))) ⌝ }
 {
     if position < table::word(reg, 0) {
-        let at = 2 + position * WIDTH;
+        let at = table::COUNTERS + position * WIDTH;
         let c = customer.0;
         if reg[at] == c {
             return reg[at + SOURCE] == source;
@@ -281,7 +281,7 @@ pub fn hops_from(reg: &[u32], position: usize, x: AsNumber, y: AsNumber, z: AsNu
     ensures { λ r. ⌜ (r .y ≡ hopOf (recordsOf (now (reg .entry))) (x .0) (y .0)) × (r .z ≡ hopOf (recordsOf (now (reg .entry))) (x .0) (z .0)) ⌝ }
 {
     let n = table::word(reg, 0);
-    let bodies = 2 + n * WIDTH;
+    let bodies = table::COUNTERS + n * WIDTH;
     let mut has_y = false;
     let mut has_z = false;
     let mut i = position;
@@ -289,13 +289,13 @@ pub fn hops_from(reg: &[u32], position: usize, x: AsNumber, y: AsNumber, z: AsNu
         if n <= i {
             break;
         }
-        let at = 2 + i * WIDTH;
+        let slot = table::COUNTERS + i * WIDTH;
         let c = x.0;
-        if reg[at] != c {
+        if reg[slot] != c {
             break;
         }
-        let from = bodies + table::word(reg, at + START);
-        let to = from + table::word(reg, at + COUNT);
+        let from = bodies + table::word(reg, slot + START);
+        let to = from + table::word(reg, slot + COUNT);
         let listed = scan(&reg[from..to], y, z);
         has_y = has_y | listed.y;
         has_z = has_z | listed.z;
@@ -341,7 +341,7 @@ fn replace(reg: &mut [u32], position: usize, source: u32, customer: AsNumber, li
     requires { ⌜ Passed (now reg) position source (customer .0) (now list) × (holdsRecord (customer .0) source (recordsOf (now reg)) ≡ true) ⌝ }
     ensures { λ r. ⌜ effect r (now (reg .exit)) ≡ fileEffect (now (reg .entry)) source (customer .0) (now (list .entry)) ⌝ }
 {
-    let others = table::word(reg, 1) - table::word(reg, 2 + position * WIDTH + COUNT);
+    let others = table::word(reg, 1) - table::word(reg, table::COUNTERS + position * WIDTH + COUNT);
     if MOST_LISTED - others < list.len() {
         return Filed::Refused(Refusal::RegisterFull);
     }

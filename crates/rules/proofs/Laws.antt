@@ -31,15 +31,15 @@ use Rattle.as_path.proofs.Contents.{merged-means, content-fault}
 use Rattle.as_path.proofs.MergedPaths.{merged-first}
 use Rattle.rules.specs.Hops.{HopFunction}
 use Rattle.rules.specs.Verdicts.{gapOf, upstream, downstream, judged}
-use Rattle.rules.specs.Judging.{mostBytes, argumentRows, answerTo, unlessGiven, judgedRoute}
+use Rattle.rules.specs.Judging.{mostBytes, argumentRows, judgeRows, answerTo, unlessGiven, judgedRoute}
 use Rattle.rules.specs.Laws.{PlaceLaws, GapLaws, AnswerLaws, DraftLaws}
 use Rattle.rules.proofs.Searching.{lowest-is, highest-is, lowest-only, highest-only}
 use Rattle.rules.proofs.Ramps.{ramp-up-is, ramp-up-only, ramp-down-is, ramp-down-only}
 use Rattle.rules.proofs.Gaps.{gap-low, gap-high, gap-least, gap-most}
-use Rattle.rules.proofs.Orders.{not-both, places-within}
+use Rattle.rules.proofs.Orders.{not-both, either-order, places-within}
 use Rattle.rules.proofs.Locality.{same-judged}
-use Rattle.rules.proofs.Judges.{judged-reads, Judgement, on-ground, on-path, answered}
-use Rattle.rules.proofs.Drafting.{draft-judged, draft-route, largest-is, smallest-is}
+use Rattle.rules.proofs.Judges.{refusalOf, judged-reads, Judgement, on-ground, on-path, answered}
+use Rattle.rules.proofs.Drafting.{largest-is, smallest-is, draft-upstream, draft-downstream, short-valid, draft-judged, draft-route}
 
 pub place-laws : PlaceLaws
 place-laws =
@@ -54,6 +54,7 @@ place-laws =
       l-ends = ramp-down-is;
       l-only = λ hop path l l'. ramp-down-only;
       not-both = not-both;
+      either-order = either-order;
       places-within = places-within;
     }
 
@@ -98,6 +99,20 @@ gap-laws =
 
 -- ---- what an answer goes by
 
+module _ (hop : HopFunction) (role neighbour : ℕ) (attribute : List ℕ) (r : Refusal) where
+  by-refusal : refusalOf (judgedRoute hop role neighbour attribute) ≡ firstGiven (judgeRows role neighbour attribute)
+  by-refusal = judged-reads hop role neighbour attribute refusalOf (λ r. refl) (λ a. refl)
+
+  refused-by : judgedRoute hop role neighbour attribute ≡ Refused r → firstGiven (judgeRows role neighbour attribute) ≡ some r
+  refused-by e = sym by-refusal ∙ ap refusalOf e
+
+  rows-refuse : firstGiven (judgeRows role neighbour attribute) ≡ some r → judgedRoute hop role neighbour attribute ≡ Refused r
+  rows-refuse e = go (judgedRoute hop role neighbour attribute) (by-refusal ∙ e)
+    where
+      go : (j : Judged) → refusalOf j ≡ some r → j ≡ Refused r
+      go (Answered a) h = some-not-none (sym h)
+      go (Refused s) h = let z : s ≡ r = cc in ap Refused z
+
 module _ (attribute : List ℕ) (r : Refusal) (p : ℕ) (at : refusalPlace r ≡ Byte p) where
   -- A refusal without a place is none of these.
   nowhere : (s : Refusal) → refusalPlace s ≡ Nowhere → Refused s ≡ Refused r → (p < length attribute) × (p < mostBytes)
@@ -124,7 +139,8 @@ module _ (attribute : List ℕ) (r : Refusal) (p : ℕ) (at : refusalPlace r ≡
 
     -- Rows 9 to 11 have no place.
     by-rows : (b c d : Bool) → ltb mostBytes (length attribute) ≡ d
-        → unlessGiven (firstGiven (rowIf b RoleNumber ∷ rowIf c NeighbourZero ∷ rowIf d AttributeLength ∷ [])) (answerTo hop role (contentOf role neighbour attribute)) ≡ Refused r
+        → unlessGiven (firstGiven (rowIf b RoleNumber ∷ rowIf c NeighbourZero ∷ rowIf d AttributeLength ∷ []))
+        (answerTo hop role (contentOf role neighbour attribute)) ≡ Refused r
         → (p < length attribute) × (p < mostBytes)
     unfolding firstGiven
     by-rows true c d t e = nowhere RoleNumber refl e
@@ -139,15 +155,25 @@ unfolding judgedRoute
 refused-place hop role neighbour attribute r p e at = by-rows attribute r p at hop role neighbour (not (isRole role)) (eqb neighbour 0) _ refl e
 
 pub answer-laws : AnswerLaws
-answer-laws = record { same-judged = λ hop hop' path. same-judged; judged-reads = judged-reads; refused-place = refused-place }
+answer-laws =
+    record {
+      same-judged = λ hop hop' path. same-judged;
+      refused-by = refused-by;
+      rows-refuse = rows-refuse;
+      judged-reads = judged-reads;
+      refused-place = refused-place;
+    }
 
 -- ---- the draft
 
 pub draft-laws : DraftLaws
 draft-laws =
     record {
-      judged-draft = draft-judged;
-      route-draft = draft-route;
+      draft-judged = draft-judged;
+      draft-route = draft-route;
+      draft-upstream = draft-upstream;
+      draft-downstream = draft-downstream;
+      short-valid = short-valid;
       u-draft = λ hop path. refl;
       v-draft = λ hop path. refl;
       k-draft = largest-is;

@@ -1,14 +1,16 @@
 -- What the documents say of verdicts, as statements. proofs/Laws.antt has the proof of each record.
 use Prim.Native.Nat.{ℕ, _+_, _-_, _≤_, _<_}
 use mathlib.Core.Path.{_≡_}
-use mathlib.Core.Bool.{Bool, true, false}
+use mathlib.Core.Bool.{Bool, true, false, cond}
 use mathlib.Core.List.{List}
 use mathlib.Core.Option.{Option, none, some}
 use lib.IntN.{ℤ, pos, _-ℤ_}
 use lib.Signed.{leZ, _≤ℤ_}
+use lib.Dec.{leb}
 use lib.ListN.{length}
 use Rattle.types.specs.declared.Hop.the-variants.{NoAttestation, ProviderPlus}
 use Rattle.types.specs.declared.Verdict.{Verdict}
+use Rattle.types.specs.declared.Verdict.the-variants.{Valid, Invalid, Unknown}
 use Rattle.types.specs.declared.Answer.{Answer}
 use Rattle.types.specs.declared.Place.the-variants.{Byte}
 use Rattle.types.specs.declared.Refusal.{Refusal}
@@ -19,9 +21,9 @@ use Rattle.types.specs.Rows.{firstGiven}
 use Rattle.as_path.specs.Segments.{numberBytes, segments}
 use Rattle.as_path.specs.Reading.{mostNumbers}
 use Rattle.rules.specs.Hops.{HopFunction, isPlus, isNotPlus, isUnattested, asAt, up, down}
-use Rattle.rules.specs.Verdicts.{lowestNotPlus, lowestUnattested, highestNotPlus, rampUp, rampDown, gapOf, upstream, downstream, judged}
+use Rattle.rules.specs.Verdicts.{lowestNotPlus, lowestUnattested, highestNotPlus, rampUp, rampDown, gapOf, downCause, upstream, downstream, judged}
 use Rattle.rules.specs.Judging.{mostBytes, judgeRows, judgedRoute}
-use Rattle.rules.specs.Draft.{uMin, vMax, largestK, smallestL, draftJudged, draftRoute}
+use Rattle.rules.specs.Draft.{uMin, vMax, largestK, smallestL, draftUpstream, draftDownstream, draftJudged, draftRoute}
 
 -- ---- u, v, K and L
 
@@ -72,8 +74,15 @@ pub record PlaceLaws : Type 0 where
   pub k-only : (hop : HopFunction) (path : List ℕ) (k k' : ℕ) → RampUp hop path k → RampUp hop path k' → k ≡ k'
   pub l-ends : (hop : HopFunction) (path : List ℕ) → 1 ≤ length path → RampDown hop path (rampDown hop path)
   pub l-only : (hop : HopFunction) (path : List ℕ) (l l' : ℕ) → RampDown hop path l → RampDown hop path l' → l ≡ l'
-  -- u at most v excludes L - K at most 1: a path is never both Invalid and Valid, and the two tests may stand in either order.
-  pub not-both : (hop : HopFunction) (path : List ℕ) → 1 ≤ length path → lowestNotPlus hop path ≤ highestNotPlus hop path → leZ (gapOf hop path) (pos 1) ≡ false
+  -- u at most v excludes L - K at most 1: a path is never both Invalid and Valid,
+  pub not-both : (hop : HopFunction) (path : List ℕ) → 1 ≤ length path → lowestNotPlus hop path ≤ highestNotPlus hop path
+      → leZ (gapOf hop path) (pos 1) ≡ false
+  -- and the test of the gap may come before that of u and v.
+  pub either-order : (hop : HopFunction) (path : List ℕ) → 1 ≤ length path
+      → downstream hop path
+      ≡ cond (leZ (gapOf hop path) (pos 1)) Valid
+      (cond (leb (lowestNotPlus hop path) (highestNotPlus hop path)) (Invalid (downCause hop path (lowestNotPlus hop path) (highestNotPlus hop path)))
+      (Unknown (rampUp hop path) (rampDown hop path)))
   -- Every place is at most N.
   pub places-within : (hop : HopFunction) (path : List ℕ) → 1 ≤ length path
       → Within (length path) (upstream hop path) × Within (length path) (downstream hop path)
@@ -102,7 +111,12 @@ pub record SameHops (hop hop' : HopFunction) (path : List ℕ) : Type 0 where
 pub record AnswerLaws : Type 0 where
   -- The answer goes by the hops between neighbours of the path, and by no other.
   pub same-judged : (hop hop' : HopFunction) (path : List ℕ) → SameHops hop hop' path → (role : ℕ) → judged hop path role ≡ judged hop' path role
-  -- A judging is refused exactly as rows 9 to 17 refuse it, which go by the arguments alone: `read` is any reading of the refusal.
+  -- A judging is refused exactly by the first of rows 9 to 17 that is given, and these go by the arguments alone.
+  pub refused-by : (hop : HopFunction) (role neighbour : ℕ) (attribute : List ℕ) (r : Refusal)
+      → judgedRoute hop role neighbour attribute ≡ Refused r → firstGiven (judgeRows role neighbour attribute) ≡ some r
+  pub rows-refuse : (hop : HopFunction) (role neighbour : ℕ) (attribute : List ℕ) (r : Refusal)
+      → firstGiven (judgeRows role neighbour attribute) ≡ some r → judgedRoute hop role neighbour attribute ≡ Refused r
+  -- The same for any reading of the refusal.
   pub judged-reads : (hop : HopFunction) (role neighbour : ℕ) (attribute : List ℕ) (read : Judged → Option Refusal)
       → ((r : Refusal) → read (Refused r) ≡ some r) → ((a : Answer) → read (Answered a) ≡ none)
       → read (judgedRoute hop role neighbour attribute) ≡ firstGiven (judgeRows role neighbour attribute)
@@ -114,10 +128,14 @@ pub record AnswerLaws : Type 0 where
 
 pub record DraftLaws : Type 0 where
   -- The answer for a path is the draft's, with its u_min, v_max, K, L and L - K; upstream the lowest i of its steps.
-  pub judged-draft : (hop : HopFunction) (path : List ℕ) (role : ℕ) → 1 ≤ length path → judged hop path role ≡ draftJudged hop path role
+  pub draft-judged : (hop : HopFunction) (path : List ℕ) (role : ℕ) → 1 ≤ length path → judged hop path role ≡ draftJudged hop path role
   -- What is answered for an attribute is the draft's answer to its segments.
-  pub route-draft : (hop : HopFunction) (role neighbour : ℕ) (attribute : List ℕ) (a : Answer)
+  pub draft-route : (hop : HopFunction) (role neighbour : ℕ) (attribute : List ℕ) (a : Answer)
       → judgedRoute hop role neighbour attribute ≡ Answered a → draftRoute hop role neighbour (segments numberBytes attribute) ≡ a
+  -- Section 6.1 gives the upstream verdict, N = 1 included; 6.2.2 the downstream one, N = 1 and N = 2 included, where it is Valid.
+  pub draft-upstream : (hop : HopFunction) (path : List ℕ) → 1 ≤ length path → upstream hop path ≡ draftUpstream hop path
+  pub draft-downstream : (hop : HopFunction) (path : List ℕ) → 1 ≤ length path → downstream hop path ≡ draftDownstream hop path
+  pub short-valid : (hop : HopFunction) (path : List ℕ) → 1 ≤ length path → length path ≤ 2 → downstream hop path ≡ Valid
   -- The draft's indices are those of the rules.
   pub u-draft : (hop : HopFunction) (path : List ℕ) → uMin hop path ≡ lowestNotPlus hop path
   pub v-draft : (hop : HopFunction) (path : List ℕ) → vMax hop path ≡ highestNotPlus hop path

@@ -31,11 +31,11 @@ loop-holds c =
     let l = listens r (s .args .x .0) (s .args .position) (s .pre .0) (s .pre .1) in
     (starts r (s .args .x .0) (s .args .position) (s .pre .0) (s .pre .1) _ (c .word .ensures .0), l (s .args .y .0), l (s .args .z .0))
 
-mul-at : tie.Need-mul-at Inv-loop μ-loop
-mul-at c = search needs
+mul-slot : tie.Need-mul-slot Inv-loop μ-loop
+mul-slot c = search needs
 
-add-at : tie.Need-add-at Inv-loop μ-loop
-add-at c = search needs
+add-slot : tie.Need-add-slot Inv-loop μ-loop
+add-slot c = search needs
 
 mul-if1 : tie.Need-mul-if1 Inv-loop μ-loop
 mul-if1 c = search needs
@@ -118,8 +118,8 @@ hops-from-spec =
     mul-bodies
     add-bodies
     loop-holds
-    mul-at
-    add-at
+    mul-slot
+    add-slot
     mul-if1
     shared-slice-read-if1
     add-word

@@ -1,4 +1,4 @@
--- `verdict::gap` meets its contract. Assumes nothing.
+-- `rules::gap` meets its contract. Assumes nothing.
 use borrow.Author.Needs.{needs}
 use mir.Syntax.{w32}
 use mir.ValLaws.{toZ-pos, toZ-ofZ}
