@@ -24,6 +24,13 @@ use Rattle.types.specs.Numbers.{groundNumber, refusalNumber, refusalPlace}
 use Rattle.text.specs.Ascii.{ascii}
 use Rattle.text.specs.Numbers.{decimalOf, signedOf}
 
+-- Bytes that are room enough for the text of a verdict, and of an answer.
+abbrev pub verdictRoom : ℕ
+verdictRoom = 64
+
+abbrev pub answerRoom : ℕ
+answerRoom = 128
+
 -- ---- verdicts
 
 abbrev pub placesText : ℕ → ℕ → List ℕ

@@ -15,6 +15,7 @@ ghost use Prim.Native.Nat.{_+_, _*_, _≤_, _<_, _^_};
 ghost use lib.ListN.{length};
 ghost use lib.Seq.{sets};
 ghost use Rattle.text.specs.Numbers.{decimalOf};
+ghost use Rattle.answers.specs.Texts.{verdictRoom, answerRoom};
 ghost use Rattle.answers.specs.Texts.{placesText, causeText, verdictText, answerText, refusalText, judgedText, filedText, removalText, clearedText};
 ghost use Rattle.answers.specs.Texts.{rejudgedText, eachText};
 
@@ -39,8 +40,8 @@ fn put_places(out: &mut [u8], at: usize, word: &[u8], a: u32, b: u32) -> usize
 }
 
 fn put_cause(out: &mut [u8], at: usize, cause: Cause) -> usize
-    requires { ⌜ at + 64 ≤ length (now out) ⌝ }
-    ensures { λ r. ⌜ (r ≡ at + length (causeText cause)) × (now (out .exit) ≡ sets (now (out .entry)) at (causeText cause)) × (r ≤ at + 64) ⌝ }
+    requires { ⌜ at + verdictRoom ≤ length (now out) ⌝ }
+    ensures { λ r. ⌜ (r ≡ at + length (causeText cause)) × (now (out .exit) ≡ sets (now (out .entry)) at (causeText cause)) × (r ≤ at + verdictRoom) ⌝ }
 {
     match cause {
         Cause::ByGround(g) => put_with(out, at, b"Invalid ground ", g.number() as u64),
@@ -49,9 +50,9 @@ fn put_cause(out: &mut [u8], at: usize, cause: Cause) -> usize
 }
 
 fn put_verdict(out: &mut [u8], at: usize, verdict: Verdict) -> usize
-    requires { ⌜ at + 64 ≤ length (now out) ⌝ }
+    requires { ⌜ at + verdictRoom ≤ length (now out) ⌝ }
     ensures { λ r. ⌜ (r ≡ at + length (verdictText verdict)) × (now (out .exit) ≡ sets (now (out .entry)) at (verdictText verdict))
-        × (r ≤ at + 64) ⌝ }
+        × (r ≤ at + verdictRoom) ⌝ }
 {
     match verdict {
         Verdict::Valid => text::put(b"Valid", out, at),
@@ -61,9 +62,9 @@ fn put_verdict(out: &mut [u8], at: usize, verdict: Verdict) -> usize
 }
 
 fn put_answer(out: &mut [u8], at: usize, answer: Answer) -> usize
-    requires { ⌜ at + 128 ≤ length (now out) ⌝ }
+    requires { ⌜ at + answerRoom ≤ length (now out) ⌝ }
     ensures { λ r. ⌜ (r ≡ at + length (answerText answer)) × (now (out .exit) ≡ sets (now (out .entry)) at (answerText answer))
-        × (r ≤ at + 128) ⌝ }
+        × (r ≤ at + answerRoom) ⌝ }
 {
     match answer {
         Answer::Plain(v) => put_verdict(out, at, v),
@@ -76,9 +77,9 @@ fn put_answer(out: &mut [u8], at: usize, answer: Answer) -> usize
 }
 
 fn put_refusal(out: &mut [u8], at: usize, refusal: Refusal) -> usize
-    requires { ⌜ at + 128 ≤ length (now out) ⌝ }
+    requires { ⌜ at + answerRoom ≤ length (now out) ⌝ }
     ensures { λ r. ⌜ (r ≡ at + length (refusalText refusal)) × (now (out .exit) ≡ sets (now (out .entry)) at (refusalText refusal))
-        × (r ≤ at + 128) ⌝ }
+        × (r ≤ at + answerRoom) ⌝ }
 {
     let next = put_with(out, at, b"refused ", refusal.number() as u64);
     match refusal.place() {
@@ -88,9 +89,9 @@ fn put_refusal(out: &mut [u8], at: usize, refusal: Refusal) -> usize
 }
 
 pub fn put_judged(out: &mut [u8], at: usize, judged: Judged) -> usize
-    requires { ⌜ at + 128 ≤ length (now out) ⌝ }
+    requires { ⌜ at + answerRoom ≤ length (now out) ⌝ }
     ensures { λ r. ⌜ (r ≡ at + length (judgedText judged)) × (now (out .exit) ≡ sets (now (out .entry)) at (judgedText judged))
-        × (r ≤ at + 128) ⌝ }
+        × (r ≤ at + answerRoom) ⌝ }
 {
     match judged {
         Judged::Answered(a) => put_answer(out, at, a),
@@ -99,8 +100,8 @@ pub fn put_judged(out: &mut [u8], at: usize, judged: Judged) -> usize
 }
 
 pub fn put_filed(out: &mut [u8], at: usize, filed: Filed) -> usize
-    requires { ⌜ at + 128 ≤ length (now out) ⌝ }
-    ensures { λ r. ⌜ (r ≡ at + length (filedText filed)) × (now (out .exit) ≡ sets (now (out .entry)) at (filedText filed)) × (r ≤ at + 128) ⌝ }
+    requires { ⌜ at + answerRoom ≤ length (now out) ⌝ }
+    ensures { λ r. ⌜ (r ≡ at + length (filedText filed)) × (now (out .exit) ≡ sets (now (out .entry)) at (filedText filed)) × (r ≤ at + answerRoom) ⌝ }
 {
     match filed {
         Filed::New => text::put(b"new", out, at),
@@ -110,9 +111,9 @@ pub fn put_filed(out: &mut [u8], at: usize, filed: Filed) -> usize
 }
 
 pub fn put_removal(out: &mut [u8], at: usize, removal: Removal) -> usize
-    requires { ⌜ at + 128 ≤ length (now out) ⌝ }
+    requires { ⌜ at + answerRoom ≤ length (now out) ⌝ }
     ensures { λ r. ⌜ (r ≡ at + length (removalText removal)) × (now (out .exit) ≡ sets (now (out .entry)) at (removalText removal))
-        × (r ≤ at + 128) ⌝ }
+        × (r ≤ at + answerRoom) ⌝ }
 {
     match removal {
         Removal::Done => text::put(b"done", out, at),
@@ -121,9 +122,9 @@ pub fn put_removal(out: &mut [u8], at: usize, removal: Removal) -> usize
 }
 
 pub fn put_cleared(out: &mut [u8], at: usize, cleared: Cleared) -> usize
-    requires { ⌜ at + 128 ≤ length (now out) ⌝ }
+    requires { ⌜ at + answerRoom ≤ length (now out) ⌝ }
     ensures { λ r. ⌜ (r ≡ at + length (clearedText cleared)) × (now (out .exit) ≡ sets (now (out .entry)) at (clearedText cleared))
-        × (r ≤ at + 128) ⌝ }
+        × (r ≤ at + answerRoom) ⌝ }
 {
     match cleared {
         Cleared::Gone(n) => put_with(out, at, b"cleared ", n as u64),
@@ -132,9 +133,9 @@ pub fn put_cleared(out: &mut [u8], at: usize, cleared: Cleared) -> usize
 }
 
 pub fn put_rejudged(out: &mut [u8], at: usize, rejudged: Rejudged) -> usize
-    requires { ⌜ at + 128 ≤ length (now out) ⌝ }
+    requires { ⌜ at + answerRoom ≤ length (now out) ⌝ }
     ensures { λ r. ⌜ (r ≡ at + length (rejudgedText rejudged)) × (now (out .exit) ≡ sets (now (out .entry)) at (rejudgedText rejudged))
-        × (r ≤ at + 128) ⌝ }
+        × (r ≤ at + answerRoom) ⌝ }
 {
     match rejudged {
         Rejudged::Changed(n) => put_with(out, at, b"changed ", n as u64),

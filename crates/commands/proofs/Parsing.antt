@@ -18,7 +18,7 @@ use Rattle.lines.specs.Words.{allNumbers, numbersIn, listRead, listCount}
 use Rattle.lines.proofs.Readings.{read-list, read-all, read-bytes-in}
 use Rattle.types.specs.declared.Filed.{Filed}
 use Rattle.types.specs.declared.Judged as judged
-use Rattle.types.specs.Rows.{Effect, effect}
+use Rattle.types.specs.Rows.{effect}
 use Rattle.register.specs.Calls.{fileEffect}
 use Rattle.filter.specs.Calls.{judgeAnswer, keeping, keepEffect}
 use Rattle.commands.specs.declared.Reply.the-variants as reply
@@ -138,11 +138,10 @@ pub files :
     (reg led : List ℕ) (ws : List (List ℕ)) (into : List ℕ) {after : List ℕ} {k source customer : ℕ} {r : list-type.List} {filed : Filed} {reg' : List ℕ} → 3 ≤ length ws
     → numberOf (getD ws 1 []) ≡ number.Is source → numberOf (getD ws 2 []) ≡ number.Is customer → r ≡ listRead (drop 3 ws)
     → after ≡ sets into 0 (numbersIn (drop 3 ws)) → listCount r ≤ length into → r ≡ list.Read k
-    → filed ≡ fileEffect reg source customer (take k after) .answer → reg' ≡ fileEffect reg source customer (take k after) .words
+    → effect filed reg' ≡ fileEffect reg source customer (take k after)
     → result (reply.Filed filed) reg' led ≡ performed (both reg led) (fileCommand ws)
-files reg led ws into {after = after} {k = k} {source = source} {customer = customer} l s c p q b e f g =
-    let step : List ℕ → Effect Filed = λ x. fileEffect reg source customer x in
-    let given : take k after ≡ numbersIn (drop 3 ws) = numbers-given (drop 3 ws) into p q b e in
+files reg led ws into {after = after} {k = k} {source = source} {customer = customer} l s c p q b e f =
+    let left = f ∙ ap (λ x. fileEffect reg source customer x) (numbers-given (drop 3 ws) into p q b e) in
     does reg led (fileCommand ws)
     (enough-words ws _ l ∙ number-is ws 1 _ s ∙ number-is ws 2 _ c ∙ numbers-are ws 3 _ (read-all (drop 3 ws) k (sym p ∙ e)))
-    (λ i. result (reply.Filed ((f ∙ ap (λ x. step x .answer) given) i)) ((g ∙ ap (λ x. step x .words) given) i) led)
+    (λ i. result (reply.Filed (left i .answer)) (left i .words) led)

@@ -1,9 +1,9 @@
 -- The test vectors A to L of the rules again, now of Judge over the words that the six filings of register D leave. By computation.
-use Prim.Native.Nat.{ℕ}
+use Prim.Native.Nat.{ℕ, _-_}
 use mathlib.Core.Path.{_≡_, refl, _∙_, ap}
 use mathlib.Core.List.{List, [], _∷_, _++_, map}
 use mathlib.Core.Option.{none}
-use lib.ListN.{replicate}
+use lib.ListN.{length, replicate}
 use Rattle.types.specs.declared.Judged.{Judged}
 use Rattle.types.specs.Rows.{firstGiven}
 use Rattle.rules.specs.Records.{hopOf}
@@ -30,32 +30,36 @@ wordsD =
     (filed 20 (40 ∷ [])
     (filed 10 (20 ∷ 30 ∷ []) (replicate registerWords 0))))))
 
+-- Words, and zeros to the register's end.
+abbrev filled : List ℕ → List ℕ
+filled ws = ws ++ replicate (registerWords - length ws) 0
+
 -- The words after each: the two counts, a row for each customer, the lists, and zeros.
 abbrev after₁ : List ℕ
-after₁ = (1 ∷ 2 ∷ 10 ∷ 0 ∷ 0 ∷ 2 ∷ 20 ∷ 30 ∷ []) ++ replicate 12282 0
+after₁ = filled (1 ∷ 2 ∷ 10 ∷ 0 ∷ 0 ∷ 2 ∷ 20 ∷ 30 ∷ [])
 
 abbrev after₂ : List ℕ
-after₂ = (2 ∷ 3 ∷ 10 ∷ 0 ∷ 0 ∷ 2 ∷ 20 ∷ 0 ∷ 2 ∷ 1 ∷ 20 ∷ 30 ∷ 40 ∷ []) ++ replicate 12277 0
+after₂ = filled (2 ∷ 3 ∷ 10 ∷ 0 ∷ 0 ∷ 2 ∷ 20 ∷ 0 ∷ 2 ∷ 1 ∷ 20 ∷ 30 ∷ 40 ∷ [])
 
 abbrev after₃ : List ℕ
-after₃ = (3 ∷ 4 ∷ 10 ∷ 0 ∷ 0 ∷ 2 ∷ 20 ∷ 0 ∷ 2 ∷ 1 ∷ 40 ∷ 0 ∷ 3 ∷ 1 ∷ 20 ∷ 30 ∷ 40 ∷ 0 ∷ []) ++ replicate 12272 0
+after₃ = filled (3 ∷ 4 ∷ 10 ∷ 0 ∷ 0 ∷ 2 ∷ 20 ∷ 0 ∷ 2 ∷ 1 ∷ 40 ∷ 0 ∷ 3 ∷ 1 ∷ 20 ∷ 30 ∷ 40 ∷ 0 ∷ [])
 
 abbrev after₄ : List ℕ
 after₄ =
+    filled
     (4 ∷ 5 ∷ 10 ∷ 0 ∷ 0 ∷ 2 ∷ 20 ∷ 0 ∷ 2 ∷ 1 ∷ 40 ∷ 0 ∷ 3 ∷ 1 ∷ 50 ∷ 0 ∷ 4 ∷ 1 ∷ 20 ∷ 30 ∷ 40 ∷ 0 ∷ 40 ∷ [])
-    ++ replicate 12267 0
 
 abbrev after₅ : List ℕ
 after₅ =
+    filled
     (5 ∷ 6 ∷ 10 ∷ 0 ∷ 0 ∷ 2 ∷ 20 ∷ 0 ∷ 2 ∷ 1 ∷ 40 ∷ 0 ∷ 3 ∷ 1 ∷ 50 ∷ 0 ∷ 4 ∷ 1 ∷ 70 ∷ 0 ∷ 5 ∷ 1 ∷ 20 ∷ 30 ∷ 40 ∷ 0 ∷ 40 ∷ 80 ∷ [])
-    ++ replicate 12262 0
 
 -- Register D, packed.
 abbrev pub packedD : List ℕ
 packedD =
+    filled
     (6 ∷ 7 ∷ 10 ∷ 0 ∷ 0 ∷ 2 ∷ 20 ∷ 0 ∷ 2 ∷ 1 ∷ 40 ∷ 0 ∷ 3 ∷ 1 ∷ 50 ∷ 0 ∷ 4 ∷ 1 ∷ 70 ∷ 0 ∷ 5 ∷ 1 ∷ 80 ∷ 0 ∷ 6 ∷ 1
     ∷ 20 ∷ 30 ∷ 40 ∷ 0 ∷ 40 ∷ 80 ∷ 70 ∷ [])
-    ++ replicate 12257 0
 
 step₁ : filed 10 (20 ∷ 30 ∷ []) (replicate registerWords 0) ≡ after₁
 unfolding fileEffect firstGiven slots bodies pad encode decodeSlots decode slotsOk allZero wellFormed ascendsFrom ascends holds put every recordsOf registerOf listed risesFrom rises listOk recordOk roomFor recordsOk registerOk

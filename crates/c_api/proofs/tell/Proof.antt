@@ -36,11 +36,11 @@ returns : tie.Need-returns
 returns c = rw (c .before .before .before .before .before .before .j .given .1, c .before .before .before .a .given .1) (routed refl (c .verdict-words .ensures) refl)
 
 returns-2 : tie.Need-returns-2
-returns-2 c = rw (c .before .before .before .before .before .before .j .given .1, c .before .before .before .a2 .given .1) 
+returns-2 c = rw (c .before .before .before .before .before .before .j .given .1, c .before .before .before .a2 .given .1)
     (routed refl (c .verdict-words2 .ensures) (toZ-ofZ w32 _ (record { sfits = c .before .before .known-told3 .given .1 .0 .1 })))
 
 returns-3 : tie.Need-returns-3
-returns-3 c = rw (c .before .before .before .before .j2 .given .1) 
+returns-3 c = rw (c .before .before .before .before .j2 .given .1)
     (routed (c .number .ensures) (ap (λ p. 0 ∷ 0 ∷ 0 ∷ 0 ∷ 0 ∷ p ∷ []) (c .before .before .place-word .ensures)) refl)
 
 pub tell-spec : {M : Type 1} → statement M

@@ -48,7 +48,7 @@ returns-3 c =
     let clear = c .before .before .clear in
     does (a .reg .now) (a .led .now) _
     (right-count _ 2 _ (sym (pre) ∙ if1 .left) ∙ number-is _ 1 _ (sym (number .ensures) ∙ source .given .1))
-    (λ i. result (reply.Cleared (clear .ensures .0 i)) (clear .ensures .1 i) (a .led .now))
+    (λ i. result (reply.Cleared (clear .ensures i .answer)) (clear .ensures i .words) (a .led .now))
 
 pub clear-spec : {M : Type 1} → statement M
 clear-spec =

@@ -48,7 +48,7 @@ returns-3 c =
     let drop = c .before .before .drop in
     does (a .reg .now) (a .led .now) _
     (right-count _ 2 _ (sym (pre) ∙ if1 .left) ∙ number-is _ 1 _ (sym (number .ensures) ∙ number2 .given .1))
-    (λ i. result (reply.Removed (drop .ensures .0 i)) (a .reg .now) (drop .ensures .1 i))
+    (λ i. result (reply.Removed (drop .ensures i .answer)) (a .reg .now) (drop .ensures i .words))
 
 pub drop-spec : {M : Type 1} → statement M
 drop-spec =

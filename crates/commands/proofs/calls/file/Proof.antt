@@ -114,7 +114,7 @@ returns-5 c =
     let file = c .before .before .file in
     files (a .reg .now) (a .led .now) (wordsOf (a .line .now)) (no-numbers′ .result) (omega (arith, pre .1, if1 .left))
     (sym (number .ensures) ∙ source .given .1) (sym (number2 .ensures) ∙ customer .given .1) (numbers .ensures .0) (numbers .ensures .1)
-    (numbers .ensures .2) (k .given .1) (file .ensures .0) (file .ensures .1)
+    (numbers .ensures .2) (k .given .1) (file .ensures)
 
 pub file-spec : {M : Type 1} → statement M
 file-spec =

@@ -73,7 +73,7 @@ returns-4 c =
     (right-count _ 3 _ (sym (pre) ∙ if1 .left)
     ∙ number-is _ 1 _ (sym (number .ensures) ∙ source .given .1)
     ∙ number-is _ 2 _ (sym (number2 .ensures) ∙ customer .given .1))
-    (λ i. result (reply.Removed (withdraw .ensures .0 i)) (withdraw .ensures .1 i) (a .led .now))
+    (λ i. result (reply.Removed (withdraw .ensures i .answer)) (withdraw .ensures i .words) (a .led .now))
 
 pub withdraw-spec : {M : Type 1} → statement M
 withdraw-spec =
