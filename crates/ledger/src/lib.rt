@@ -29,7 +29,7 @@ const HEAD: usize = 7;
 
 const TAIL: usize = 0;
 
-const WIDTH: usize = HEAD + table::SPAN + TAIL;
+pub const WIDTH: usize = HEAD + table::SPAN + TAIL;
 
 // The words of a ledger.
 pub const WORDS: usize = table::COUNTERS + MOST_ROUTES * WIDTH + MOST_PATH_WORDS;

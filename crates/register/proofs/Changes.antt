@@ -15,7 +15,7 @@ use Rattle.keyed.proofs.Finds.{every-put, every-without, find-put, find-without
 use Rattle.rules.specs.Records.{Record}
 use Rattle.register.specs.Register.{mostRecords, mostListed, lastSource, keyOf, listed, listOk, recordOk, roomFor, recordsOk}
 use Rattle.register.specs.Calls.{putRecord, eraseRecord, clearRecords, countRecords, ofSource}
-use Rattle.register.specs.Laws.{findRecord}
+use Rattle.register.specs.Calls.{findRecord}
 use Rattle.register.proofs.Holding.{room-records, room-lists, has-room, each-ok, in-order}
 
 -- A record whose parts passed rows 4, 5 and 6.

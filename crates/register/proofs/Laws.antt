@@ -19,7 +19,8 @@ use Rattle.rules.specs.Records.{Record}
 use Rattle.register.specs.Register.{registerWords, lastSource, recordsOf, registerOf, keyOf, positionOf, listOk, recordOk, roomFor, recordsOk, registerOk}
 use Rattle.register.specs.Calls.{holdsRecord, putRecord, eraseRecord, clearRecords, countRecords, ofSource, recordFor, fileRows, withdrawRows, clearRows, fileEffect, withdrawEffect, clearEffect}
 use Rattle.register.specs.Helpers.{Passed}
-use Rattle.register.specs.Laws.{Register, findRecord, RegisterLaws}
+use Rattle.register.specs.Calls.{findRecord}
+use Rattle.register.specs.Laws.{Register, RegisterLaws}
 use Rattle.register.proofs.Entries.{records-of-words, words-are}
 use Rattle.register.proofs.Holding.{sound, records-ok, has-room, room-records, room-lists, each-ok}
 use Rattle.register.proofs.Changes.{without-ok, filed-finds, withdrawn-finds, cleared-finds, cleared-count}

@@ -9,10 +9,10 @@ use lib.ListN.{length}
 use Rattle.types.specs.declared.Filed.the-variants.{New}
 use Rattle.types.specs.declared.Cleared.the-variants.{Gone}
 use Rattle.types.specs.Rows.{firstGiven, effect}
-use Rattle.keyed.specs.Keyed.{samePair, beforePair, find}
+use Rattle.keyed.specs.Keyed.{samePair}
 use Rattle.rules.specs.Records.{Record, isIn, united}
 use Rattle.register.specs.Register.{registerWords, recordsOf, keyOf, recordAt, registerOk}
-use Rattle.register.specs.Calls.{countRecords, recordFor, fileRows, withdrawRows, clearRows, fileEffect, withdrawEffect, clearEffect}
+use Rattle.register.specs.Calls.{findRecord, countRecords, recordFor, fileRows, withdrawRows, clearRows, fileEffect, withdrawEffect, clearEffect}
 
 -- A register of the right length that keeps the word rules (rows 1 and 2).
 pub record Register (ws : List ℕ) : Type 0 where
@@ -25,10 +25,6 @@ pub record Lists (rs : List Record) (x y : ℕ) : Type 0 where
   pub within : at < length rs
   pub owner : recordAt rs at .customer ≡ x
   pub inside : isIn y (recordAt rs at .providers) ≡ true
-
--- The record under a pair of customer and source.
-abbrev pub findRecord : ℕ × ℕ → List Record → Option Record
-findRecord k rs = find keyOf samePair beforePair k rs
 
 pub record RegisterLaws : Type 0 where
   -- y is in the united list of x exactly when some record of x lists it.

@@ -1,6 +1,6 @@
 -- A kept route judged anew ("The calls", Re-judge).
-use Prim.Native.Nat.{ℕ}
-use mathlib.Core.Bool.{cond}
+use Prim.Native.Nat.{ℕ, zero, suc}
+use mathlib.Core.Bool.{Bool, cond}
 use mathlib.Core.List.{List, map}
 use lib.Dec.{eqb}
 use Rattle.types.specs.Numbers.{verdictOf}
@@ -21,3 +21,8 @@ rejudgedEffect hop ws =
       answer = countDiffering (routesOf ws) (map (rejudgedRoute hop) (routesOf ws));
       words = ledgerOf (map (rejudgedRoute hop) (routesOf ws));
     }
+
+-- How many of the indices below n pass a test.
+unfoldable pub countBelow : (ℕ → Bool) → ℕ → ℕ
+countBelow p zero = 0
+countBelow p (suc n) = cond (p n) (suc (countBelow p n)) (countBelow p n)
