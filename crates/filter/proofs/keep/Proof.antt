@@ -10,19 +10,19 @@ use Rattle.filter.proofs.keep.Tie as tie
 
 returns : tie.Need-returns
 returns c = let a = c .before .before .before .before .args in
-    (keep-register-length (a .reg .now) (a .led .now) (keeping (a .number .0) (a .role) (a .neighbour .0) (a .attribute .now)) (c .if1 .taken))
+    keep-register-length (a .reg .now) (a .led .now) (keeping (a .number .0) (a .role) (a .neighbour .0) (a .attribute .now)) (c .if1 .taken)
 
 returns-2 : tie.Need-returns-2
 returns-2 c = let a = c .before .before .before .before .before .args in
-    (keep-ledger-length (a .reg .now) (a .led .now) (keeping (a .number .0) (a .role) (a .neighbour .0) (a .attribute .now)) (c .before .if1 .left) (c .if2 .taken))
+    keep-ledger-length (a .reg .now) (a .led .now) (keeping (a .number .0) (a .role) (a .neighbour .0) (a .attribute .now)) (c .before .if1 .left) (c .if2 .taken)
 
 is-register-requires : tie.Need-is-register-requires
 is-register-requires c κs = search needs
 
 returns-3 : tie.Need-returns-3
 returns-3 c = let a = c .before .before .before .before .before .before .before .args in
-    (keep-register-malformed (a .reg .now) (a .led .now) (keeping (a .number .0) (a .role) (a .neighbour .0) (a .attribute .now)) (c .before .before .before .if1 .left) (c .before .before .if2 .left)
-    (sym (c .before .is-register .ensures) ∙ not-true _ (c .if3 .taken)))
+    keep-register-malformed (a .reg .now) (a .led .now) (keeping (a .number .0) (a .role) (a .neighbour .0) (a .attribute .now)) (c .before .before .before .if1 .left) (c .before .before .if2 .left)
+    (sym (c .before .is-register .ensures) ∙ not-true _ (c .if3 .taken))
 
 is-ledger-requires : tie.Need-is-ledger-requires
 is-ledger-requires c κs = search needs
@@ -32,8 +32,8 @@ same-length c = search needs
 
 returns-4 : tie.Need-returns-4
 returns-4 c = let a = c .before .before .before .before .before .before .before .before .before .before .args in
-    (keep-ledger-malformed (a .reg .now) (a .led .now) (keeping (a .number .0) (a .role) (a .neighbour .0) (a .attribute .now)) (c .before .before .before .before .before .before .if1 .left) (c .before .before .before .before .before .if2 .left)
-    (sym (c .before .before .before .before .is-register .ensures) ∙ not-false _ (c .before .before .before .if3 .left)) (sym (c .before .is-ledger .ensures) ∙ not-true _ (c .if4 .taken)))
+    keep-ledger-malformed (a .reg .now) (a .led .now) (keeping (a .number .0) (a .role) (a .neighbour .0) (a .attribute .now)) (c .before .before .before .before .before .before .if1 .left) (c .before .before .before .before .before .if2 .left)
+    (sym (c .before .before .before .before .is-register .ensures) ∙ not-false _ (c .before .before .before .if3 .left)) (sym (c .before .is-ledger .ensures) ∙ not-true _ (c .if4 .taken))
 
 know-requires : tie.Need-know-requires
 know-requires c κs = search needs
@@ -60,9 +60,9 @@ same-length-2 c = search needs
 
 returns-5 : tie.Need-returns-5
 returns-5 c = let a = c .before .before .before .before .before .before .before .before .before .before .before .before .before .before .args in
-    (keep-refused (a .reg .now) (a .led .now) (keeping (a .number .0) (a .role) (a .neighbour .0) (a .attribute .now)) (c .before .before .before .before .before .before .before .before .before .before .if1 .left) (c .before .before .before .before .before .before .before .before .before .if2 .left)
+    keep-refused (a .reg .now) (a .led .now) (keeping (a .number .0) (a .role) (a .neighbour .0) (a .attribute .now)) (c .before .before .before .before .before .before .before .before .before .before .if1 .left) (c .before .before .before .before .before .before .before .before .before .if2 .left)
     (sym (c .before .before .before .before .before .before .before .before .is-register .ensures) ∙ not-false _ (c .before .before .before .before .before .before .before .if3 .left)) (sym (c .before .before .before .before .before .is-ledger .ensures) ∙ not-false _ (c .before .before .before .before .if4 .left))
-    (judged-refused (hopIn (a .reg .now)) (a .role) (a .neighbour .0) (a .attribute .now) _ (sym (c .before .before .before .know .ensures) ∙ c .before .r .given .1)))
+    (judged-refused (hopIn (a .reg .now)) (a .role) (a .neighbour .0) (a .attribute .now) _ (sym (c .before .before .before .know .ensures) ∙ c .before .r .given .1))
 
 same-length-3 : tie.Need-same-length-3
 same-length-3 c = search needs

@@ -72,7 +72,7 @@ keep-answer-requires-2 c κs = (c .before .before .before .before .before .befor
 
 returns : tie.Need-returns
 returns c = let a = c .before .before .before .before .before .before .before .before .before .args in
-    (keep-faulty (a .number .0) (c .before .before .before .before .before .before .before .before .before .pre) (sym (c .before .before .before .before .read .ensures .0) ∙ c .before .r .given .1))
+    keep-faulty (a .number .0) (c .before .before .before .before .before .before .before .before .before .pre) (sym (c .before .before .before .before .read .ensures .0) ∙ c .before .r .given .1)
 
 same-length : tie.Need-same-length
 same-length c = search needs

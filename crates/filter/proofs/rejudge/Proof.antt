@@ -9,18 +9,18 @@ use Rattle.filter.proofs.rejudge.Tie as tie
 
 returns : tie.Need-returns
 returns c = let a = c .before .before .before .args in
-    (rejudge-register-length (a .reg .now) (a .led .now) (c .if1 .taken))
+    rejudge-register-length (a .reg .now) (a .led .now) (c .if1 .taken)
 
 returns-2 : tie.Need-returns-2
 returns-2 c = let a = c .before .before .before .before .args in
-    (rejudge-ledger-length (a .reg .now) (a .led .now) (c .before .if1 .left) (c .if2 .taken))
+    rejudge-ledger-length (a .reg .now) (a .led .now) (c .before .if1 .left) (c .if2 .taken)
 
 is-register-requires : tie.Need-is-register-requires
 is-register-requires c κs = search needs
 
 returns-3 : tie.Need-returns-3
 returns-3 c = let a = c .before .before .before .before .before .before .args in
-    (rejudge-register-malformed (a .reg .now) (a .led .now) (c .before .before .before .if1 .left) (c .before .before .if2 .left) (sym (c .before .is-register .ensures) ∙ not-true _ (c .if3 .taken)))
+    rejudge-register-malformed (a .reg .now) (a .led .now) (c .before .before .before .if1 .left) (c .before .before .if2 .left) (sym (c .before .is-register .ensures) ∙ not-true _ (c .if3 .taken))
 
 is-ledger-requires : tie.Need-is-ledger-requires
 is-ledger-requires c κs = search needs
@@ -30,8 +30,8 @@ same-length c = search needs
 
 returns-4 : tie.Need-returns-4
 returns-4 c = let a = c .before .before .before .before .before .before .before .before .before .args in
-    (rejudge-ledger-malformed (a .reg .now) (a .led .now) (c .before .before .before .before .before .before .if1 .left) (c .before .before .before .before .before .if2 .left)
-    (sym (c .before .before .before .before .is-register .ensures) ∙ not-false _ (c .before .before .before .if3 .left)) (sym (c .before .is-ledger .ensures) ∙ not-true _ (c .if4 .taken)))
+    rejudge-ledger-malformed (a .reg .now) (a .led .now) (c .before .before .before .before .before .before .if1 .left) (c .before .before .before .before .before .if2 .left)
+    (sym (c .before .before .before .before .is-register .ensures) ∙ not-false _ (c .before .before .before .if3 .left)) (sym (c .before .is-ledger .ensures) ∙ not-true _ (c .if4 .taken))
 
 rejudge-all-requires : tie.Need-rejudge-all-requires
 rejudge-all-requires c κs = (sym (c .before .before .before .before .before .is-register .ensures) ∙ not-false _ (c .before .before .before .before .if3 .left), c .before .before .before .before .before .before .if2 .left, sym (c .before .before .is-ledger .ensures) ∙ not-false _ (c .before .if4 .left))
