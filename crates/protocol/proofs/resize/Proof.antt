@@ -7,7 +7,7 @@ use borrow.Author.Needs.{needs}
 use Rattle.protocol.proofs.resize.Statement.{statement}
 use Rattle.protocol.proofs.resize.Tie as tie
 use Rattle.lines.proofs.number.Reads as number-reads
-use Rattle.protocol.proofs.commands.named.Reads as named-reads
+use Rattle.commands.proofs.choice.named.Reads as named-reads
 use Rattle.protocol.proofs.resize_named.Reads as resize-named-reads
 
 returns : tie.Need-returns
