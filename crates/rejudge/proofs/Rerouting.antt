@@ -12,6 +12,7 @@ use Rattle.types.specs.Numbers.{verdictOf}
 use Rattle.types.specs.Rows.{effect}
 use Rattle.rules.specs.Hops.{HopFunction}
 use Rattle.rules.specs.Verdicts.{judged}
+use Rattle.verdict.specs.Helpers.{longestPath}
 use Rattle.ledger.specs.Routes.{Route, routesOf, routeAt}
 use Rattle.ledger.specs.Calls.{stamped, changeEffect}
 use Rattle.ledger.specs.Helpers.{RouteIn}
@@ -40,7 +41,7 @@ module _ {ws : List ℕ} {i : ℕ} (p : RouteIn ws i) where
 
     module _ (none : ground ≡ 0) {path : List ℕ} (same : path ≡ route .path) where
       -- The path may be judged.
-      pub may-judge : (1 ≤ length path) × (length path ≤ 65535)
+      pub may-judge : (1 ≤ length path) × (length path ≤ longestPath)
       may-judge =
           let l : length path ≡ length (route .path) = ap length same in
           let short = few-numbers route (p .ok) (sym its ∙ none) in
