@@ -88,7 +88,7 @@ module _ {ws : List ℕ} {position x n i : ℕ} (b : Passing ws position x n i) 
     inside : i < length (recordsOf ws)
     inside = omega arith
 
-    -- Row i is within the words.
+    -- Slot i is within the words.
     pub row-of : counters + i * slotWords + slotWords ≤ length ws
     row-of = slot-in ws (b .ok) i inside
 
