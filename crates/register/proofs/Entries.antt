@@ -101,7 +101,7 @@ module _ (ws : List ℕ) (s : Sound recordHead recordTail ws) where
   record-is = Typed.record-is typing ws s
 
   module _ (i : ℕ) (h : i < length (recordsOf ws)) where
-    -- Row i lies within the words.
+    -- Slot i lies within the words.
     pub slot-within : counters + i * recordWidth + recordWidth ≤ length ws
     unfolding recordsOf
     slot-within = Typed.slot-within typing ws s i h

@@ -88,9 +88,9 @@ module _ {ws : List ℕ} {position x n i : ℕ} (b : Passing ws position x n i) 
     inside : i < length (recordsOf ws)
     inside = omega arith
 
-    -- Row i is within the words.
-    pub row-of : counters + i * recordWidth + recordWidth ≤ length ws
-    row-of = slot-in ws (b .ok) i inside
+    -- Slot i is within the words.
+    pub slot-of : counters + i * recordWidth + recordWidth ≤ length ws
+    slot-of = slot-in ws (b .ok) i inside
 
     -- Its first word is the customer.
     customer-of : getD ws (counters + i * recordWidth) 0 ≡ recordAt (recordsOf ws) i .customer

@@ -62,7 +62,7 @@ module _ (ws : List ℕ) (e : registerOk ws ≡ true) where
   pub few : length (recordsOf ws) ≤ mostRecords
   few = room-records (recordsOf ws) (has-room (recordsOf ws) (records-ok ws e))
 
-  -- Row i is within the words.
+  -- Slot i is within the words.
   pub slot-in : (i : ℕ) → i < length (recordsOf ws) → counters + i * recordWidth + recordWidth ≤ length ws
   slot-in i h = slot-within ws (sound ws e) i h
 

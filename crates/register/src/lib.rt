@@ -14,7 +14,7 @@ ghost use Rattle.types.specs.Rows.{effect};
 ghost use Rattle.keyed.specs.Keyed.{samePair, beforePair, ascends, every};
 ghost use Rattle.types.specs.declared.Hop.the-variants.{NoAttestation, ProviderPlus, NotProviderPlus};
 ghost use Rattle.rules.specs.Records.{isIn, hopOf};
-ghost use Rattle.register.specs.Register.{recordHead, recordTail, mostListed, recordsOf, recordAt, keyOf, rises, listOk, recordOk, recordsOk};
+ghost use Rattle.register.specs.Register.{recordHead, recordTail, mostListed, recordsOf, recordAt, keyOf, rises, listOk, recordOk};
 ghost use Rattle.register.specs.Register.{registerOk, positionOf};
 ghost use Rattle.register.specs.Helpers.{descentsIn, Within, Passed};
 ghost use Rattle.register.specs.Calls.{holdsRecord, fileEffect, withdrawEffect, clearEffect};

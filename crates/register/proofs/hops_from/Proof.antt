@@ -5,7 +5,7 @@ use mathlib.Core.Logic.{⊎-elim}
 use Prim.Native.Nat.{_-_}
 use native.Mathlib.Omega.{arith}
 use Rattle.register.proofs.Looking.{head-within}
-use Rattle.register.proofs.Hopping.{Passing, Hearing, starts, listens, row-of, list-in, passes, hears, none-left, others-left, arrives}
+use Rattle.register.proofs.Hopping.{Passing, Hearing, starts, listens, slot-of, list-in, passes, hears, none-left, others-left, arrives}
 use Rattle.register.proofs.hops_from.Statement.{statement}
 use Rattle.register.proofs.hops_from.Tie as tie
 
@@ -41,13 +41,13 @@ mul-if1 : tie.Need-mul-if1 Inv-loop μ-loop
 mul-if1 c = search needs
 
 shared-slice-read-if1 : tie.Need-shared-slice-read-if1 Inv-loop μ-loop
-shared-slice-read-if1 c = omega (arith, row-of (c .before .before .loop .inv .0) (c .before .loop-test .left))
+shared-slice-read-if1 c = omega (arith, slot-of (c .before .before .loop .inv .0) (c .before .loop-test .left))
 
 add-word : tie.Need-add-word Inv-loop μ-loop
 add-word c = search needs
 
 word-requires-2 : tie.Need-word-requires-2 Inv-loop μ-loop
-word-requires-2 c κs = omega (arith, row-of (c .before .before .before .loop .inv .0) (c .before .before .loop-test .left))
+word-requires-2 c κs = omega (arith, slot-of (c .before .before .before .loop .inv .0) (c .before .before .loop-test .left))
 
 add-from : tie.Need-add-from Inv-loop μ-loop
 add-from c = search needs
@@ -56,7 +56,7 @@ add-word-2 : tie.Need-add-word-2 Inv-loop μ-loop
 add-word-2 c = search needs
 
 word-requires-3 : tie.Need-word-requires-3 Inv-loop μ-loop
-word-requires-3 c κs = omega (arith, row-of (c .before .before .before .before .loop .inv .0) (c .before .before .before .loop-test .left))
+word-requires-3 c κs = omega (arith, slot-of (c .before .before .before .before .loop .inv .0) (c .before .before .before .loop-test .left))
 
 add-to : tie.Need-add-to Inv-loop μ-loop
 add-to c = search needs
