@@ -41,7 +41,8 @@ fn put_places(out: &mut [u8], at: usize, word: &[u8], a: u32, b: u32) -> usize
 
 fn put_cause(out: &mut [u8], at: usize, cause: Cause) -> usize
     requires { ⌜ at + verdictRoom ≤ length (now out) ⌝ }
-    ensures { λ r. ⌜ (r ≡ at + length (causeText cause)) × (now (out .exit) ≡ sets (now (out .entry)) at (causeText cause)) × (r ≤ at + verdictRoom) ⌝ }
+    ensures { λ r. ⌜ (r ≡ at + length (causeText cause)) × (now (out .exit) ≡ sets (now (out .entry)) at (causeText cause))
+        × (r ≤ at + verdictRoom) ⌝ }
 {
     match cause {
         Cause::ByGround(g) => put_with(out, at, b"Invalid ground ", g.number() as u64),
@@ -101,7 +102,8 @@ pub fn put_judged(out: &mut [u8], at: usize, judged: Judged) -> usize
 
 pub fn put_filed(out: &mut [u8], at: usize, filed: Filed) -> usize
     requires { ⌜ at + answerRoom ≤ length (now out) ⌝ }
-    ensures { λ r. ⌜ (r ≡ at + length (filedText filed)) × (now (out .exit) ≡ sets (now (out .entry)) at (filedText filed)) × (r ≤ at + answerRoom) ⌝ }
+    ensures { λ r. ⌜ (r ≡ at + length (filedText filed)) × (now (out .exit) ≡ sets (now (out .entry)) at (filedText filed))
+        × (r ≤ at + answerRoom) ⌝ }
 {
     match filed {
         Filed::New => text::put(b"new", out, at),

@@ -1,12 +1,12 @@
 -- The laws of reading an attribute, gathered. Assumes nothing.
 use Prim.Native.Nat.{ℕ, zero, suc, _+_, _-_, _*_, _≤_, _<_}
 use mathlib.Core.Path.{_≡_, refl, sym, _∙_, ap}
-use mathlib.Core.Bool.{Bool, true, false, cond}
+use mathlib.Core.Bool.{cond}
 use mathlib.Core.List.{List, [], _∷_, _++_, append-assoc}
 use mathlib.Core.Logic.{_⊎_, inl, inr}
 use native.Mathlib.Omega.{arith}
-use native.Mathlib.Nat.{add-assoc}
 use borrow.Author.Tests.{lt-ltb, le-ltb, eq-eqb, ne-eqb}
+use lib.Dec.{ltb, eqb}
 use lib.ListN.{length, length-append}
 use Rattle.types.specs.declared.Fault.{Fault}
 use Rattle.types.specs.declared.Fault.the-variants.{CutShort, UnknownType, Confederation, NoNumbers, ZeroNumber}
@@ -16,7 +16,7 @@ use Rattle.as_path.specs.Segments.{numberAt, typeAt, countAt, endOf, sta
 use Rattle.as_path.specs.Faults.{numbersFault, segmentFault, faultAmong, firstFault}
 use Rattle.as_path.specs.Merging.{mergeRuns, mergedPath}
 use Rattle.as_path.specs.Laws.{moved, PositionLaws, Meaning, Headed, FirstZero, FaultLaws, numbersIn, PathLaws}
-use Rattle.as_path.proofs.Walking.{left, first, next, one-more}
+use Rattle.as_path.proofs.Walking.{first, one-more}
 use Rattle.as_path.proofs.Positions.{starts-append, any-position, segments-append}
 use Rattle.as_path.proofs.Meanings.{fault-means}
 use Rattle.as_path.proofs.MergedPaths.{merged-no-zero, merged-no-runs, merged-first}
@@ -87,8 +87,8 @@ module _ (w : ℕ) (a b : List ℕ) (e : firstFault w a ≡ Clean) where
 
   -- A head of a known type is passed on to the tests of its count and body.
   known : (x : Scan) → 2 ≤ length b → 1 ≤ typeAt b 0 → typeAt b 0 ≤ 2 → segmentFault w b 0 x
-      ≡ cond (lib.Dec.eqb (countAt b 0) 0) (Faulty NoNumbers 0)
-      (cond (lib.Dec.ltb (length b) (endOf w b 0)) (Faulty CutShort 0)
+      ≡ cond (eqb (countAt b 0) 0) (Faulty NoNumbers 0)
+      (cond (ltb (length b) (endOf w b 0)) (Faulty CutShort 0)
       (numbersFault w (countAt b 0) b (0 + 2) x))
   unfolding segmentFault
   known x l t k =

@@ -10,7 +10,7 @@ use lib.Dec.{leb, ltb, eqb}
 use lib.ListN.{length, length-append, List·getD-append}
 use lib.Seq.{getD-append-add}
 use Rattle.as_path.specs.declared.Scan.{Scan}
-use Rattle.as_path.specs.declared.Scan.the-variants.{Clean, Faulty}
+use Rattle.as_path.specs.declared.Scan.the-variants.{Clean}
 use Rattle.as_path.specs.Segments.{numberAt, numbersAt, typeAt, countAt, endOf, startsFrom, starts, segmentAt, segments}
 use Rattle.as_path.specs.Faults.{numbersFault, segmentFault, faultAmong, firstFault}
 use Rattle.as_path.specs.Laws.{moved}

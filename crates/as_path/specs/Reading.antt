@@ -15,7 +15,7 @@ use Rattle.as_path.specs.declared.Grounded.{Grounded}
 use Rattle.as_path.specs.declared.Grounded.the-variants.{By, Not}
 use Rattle.as_path.specs.declared.Reading as reading
 use Rattle.as_path.specs.declared.Reading.the-variants.{Path, OnGround, Refused}
-use Rattle.as_path.specs.Segments.{numberBytes, Segment, segments}
+use Rattle.as_path.specs.Segments.{numberBytes, segments}
 use Rattle.as_path.specs.Faults.{firstFault}
 use Rattle.as_path.specs.Grounds.{groundOf}
 use Rattle.as_path.specs.Merging.{mergedPath}

@@ -7,6 +7,7 @@ ghost use mathlib.Core.Path.{_≡_};
 ghost use mathlib.Core.Bool.{true};
 ghost use Prim.Native.Nat.{_+_, _≤_, _<_};
 ghost use lib.ListN.{length, drop, replicate};
+ghost use Rattle.commands.specs.Commands.{mostLine, mostLent};
 ghost use Rattle.protocol.specs.Feeding.{fed, fedBytes, sessionIn, mostText, Ready};
 ghost use Rattle.protocol.specs.Sessions.{fedAll};
 
@@ -17,7 +18,7 @@ pub struct Served {
 }
 
 // The same, and where the rest of a piece begins.
-pub struct Step {
+pub struct Used {
     pub state: State,
     pub more: bool,
     pub to: usize,
@@ -71,7 +72,7 @@ fn serve_line(
     reg: &mut [u32],
     led: &mut [u32],
     out: &mut [u8],
-) -> Step
+) -> Used
     requires { ⌜ (Ready s (now line) (now reg) (now led) (now out)) × (from < length (now piece)) ⌝ }
     ensures { λ r. ⌜ (sessionIn (r .state) (now (line .exit)) (now (reg .exit)) (now (led .exit))
         ≡ fed (sessionIn s (now (line .entry)) (now (reg .entry)) (now (led .entry))) (drop from (now (piece .entry))))
@@ -82,7 +83,7 @@ fn serve_line(
     let next = fed.state;
     let served = with_room(next, out);
     let state = served.state;
-    Step {
+    Used {
         state,
         more: served.more,
         to: from + fed.used,
@@ -99,22 +100,23 @@ fn serve_piece(
     out: &mut [u8],
 ) -> Served
     requires { ⌜ Ready first (now line) (now reg) (now led) (now out) ⌝ }
-    ensures { λ r. ⌜ (r .more
-        ≡ true → sessionIn (r .state) (now (line .exit)) (now (reg .exit)) (now (led .exit)) ≡ fedAll (length (now (piece .entry))) (sessionIn first (now (line .entry)) (now (reg .entry)) (now (led .entry))) (now (piece .entry)))
+    ensures { λ r. ⌜ (r .more ≡ true → sessionIn (r .state) (now (line .exit)) (now (reg .exit)) (now (led .exit))
+        ≡ fedAll (length (now (piece .entry)))
+        (sessionIn first (now (line .entry)) (now (reg .entry)) (now (led .entry))) (now (piece .entry)))
         × (Ready (r .state) (now (line .exit)) (now (reg .exit)) (now (led .exit)) (now (out .exit))) ⌝ }
 {
     let mut s = first;
     let mut from = 0;
     while from < piece.len() {
-        let step = serve_line(piece, from, s, line, reg, led, out);
-        s = step.state;
-        if !step.more {
+        let used = serve_line(piece, from, s, line, reg, led, out);
+        s = used.state;
+        if !used.more {
             return Served {
                 state: s,
                 more: false,
             };
         }
-        from = step.to;
+        from = used.to;
     }
     written(s, out)
 }
@@ -168,22 +170,25 @@ fn serve(
 }
 
 // Arrays are made in functions of their own, so that no proof has to look at their elements.
-fn no_line() -> [u8; 16384]
-    ensures { λ r. ⌜ 16384 ≡ length r ⌝ }
+fn no_line() -> [u8; commands::MOST_LINE]
+    ensures { λ r. ⌜ mostLine ≡ length r ⌝ }
 {
-    [0; 16384]
+    [0; commands::MOST_LINE]
 }
 
-fn empty_table() -> [u32; 16384]
-    ensures { λ r. ⌜ r ≡ replicate 16384 0 ⌝ }
+fn empty_table() -> [u32; commands::MOST_LENT]
+    ensures { λ r. ⌜ r ≡ replicate mostLent 0 ⌝ }
 {
-    [0; 16384]
+    [0; commands::MOST_LENT]
 }
 
-fn no_output() -> [u8; 262144]
+// Room for the longest answer, and for many short ones between two writes.
+const OUTPUT: usize = 262144;
+
+fn no_output() -> [u8; OUTPUT]
     ensures { λ r. ⌜ 262144 ≡ length r ⌝ }
 {
-    [0; 262144]
+    [0; OUTPUT]
 }
 
 fn main() {

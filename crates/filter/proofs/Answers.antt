@@ -16,16 +16,17 @@ use Rattle.types.specs.Numbers.{verdictNumber, verdictGround, placeA, placeB, v
 use Rattle.types.specs.Rows.{firstGiven, Effect, unlessRefused}
 use Rattle.as_path.specs.Reading.{contentOf}
 use Rattle.ledger.specs.Routes.{Route, routesOf, ledgerOf, routeAt, routesOk}
-use Rattle.ledger.specs.Calls.{putRoute, differs, countDiffering}
+use Rattle.ledger.specs.Calls.{findRoute, putRoute, differs, countDiffering}
 use Rattle.ledger.proofs.Entries.{routes-of-words}
 use Rattle.ledger.proofs.Holding.{has-room, room-routes, room-paths, routes-ok}
-use Rattle.ledger.proofs.Changes.{findRoute, stored-finds}
+use Rattle.ledger.proofs.Changes.{stored-finds}
 use Rattle.ledger.proofs.Refusals.{Ledger}
 use Rattle.register.proofs.Refusals.{Register}
-use Rattle.rejudge.specs.Rejudging.{rejudgedRoute}
+use Rattle.rejudge.specs.Rejudging.{rejudgedRoute, countBelow}
 use Rattle.rejudge.proofs.Rejudgements.{rejudged-ok, ground-stays, all-once}
-use Rattle.rejudge.proofs.Differences.{countBelow, changed-is, second-none}
+use Rattle.rejudge.proofs.Differences.{changed-is, second-none}
 use Rattle.filter.specs.Calls.{Keeping, hopIn, refusalIn, pathIn, judgeAnswer, keptAnswer, keptRoute, keepRows, keepEffect, rejudgeRows, rejudgeEffect}
+use Rattle.filter.specs.Laws.{KeptWith}
 use Rattle.filter.proofs.Judgings.{judge-answers}
 use Rattle.filter.proofs.Refusals.{keep-reads}
 use Rattle.filter.proofs.Tables.{Accepted, accepted, kept-routes-ok, passed-tables, rejudge-accepts, rejudge-preserves}
@@ -35,17 +36,6 @@ pub read-back : (rs : List Route) → routesOk rs ≡ true → routesOf (ledgerO
 read-back rs e = let room = has-room rs e in routes-of-words rs (room-routes rs room) (room-paths rs room)
 
 -- ---- Keep
-
--- What a route that is kept with an answer holds.
-pub record KeptWith (answer : Answer) (k : Keeping) (r : Route) : Type 0 where
-  pub number-is : r .number ≡ k .number
-  pub role-is : r .role ≡ k .role
-  pub neighbour-is : r .neighbour ≡ k .neighbour
-  pub ground-is : r .ground ≡ verdictGround (verdictOf answer)
-  pub verdict-is : r .verdict ≡ verdictNumber (verdictOf answer)
-  pub a-is : r .a ≡ placeA (verdictOf answer)
-  pub b-is : r .b ≡ placeB (verdictOf answer)
-  pub path-is : r .path ≡ pathIn (contentOf (k .role) (k .neighbour) (k .attribute))
 
 module _ (reg led : List ℕ) (k : Keeping) {answer : Answer} (h : keepEffect reg led k .answer ≡ Answered answer) where
   -- An accepted Keep is given no row.

@@ -6,3 +6,4 @@ pub mod Refusals
 pub mod Tables
 pub mod Answers
 pub mod Places
+pub mod Laws

@@ -21,7 +21,7 @@ use Rattle.register.specs.Calls.{fileRows, withdrawRows, clearRows, fileEffect,
 use Rattle.register.proofs.Refusals.{file-numbers, withdraw-numbers, clear-numbers}
 use Rattle.ledger.specs.Calls.{dropRows, dropEffect}
 use Rattle.ledger.proofs.Refusals.{drop-numbers}
-use Rattle.filter.specs.Calls.{keeping, refusalIn, keepEffect, rejudgeEffect}
+use Rattle.filter.specs.Calls.{refusalIn, keepEffect, rejudgeEffect}
 use Rattle.filter.proofs.Refusals.{judge-reads, keep-reads, judge-numbers, keep-numbers, rejudge-numbers}
 use Rattle.filter.proofs.Places.{placed, allOutside, no-place, Placed, judge-placed, keep-placed, place-within}
 use Rattle.history.specs.Calls.{Call, file, withdraw, clear, keep, drop, rejudge, Tables, says, leaves}
@@ -53,9 +53,9 @@ call-first t (file source customer list) =
     by-rows shownFiled filing.Refused (λ r. refl) _ _ _ (filed-done (holdsRecord customer source (recordsOf (t .register))))
 call-first t (withdraw source customer) = by-rows shownRemoval removal.Refused (λ r. refl) _ _ _ refl
 call-first t (clear source) = by-rows shownCleared clearing.Refused (λ r. refl) _ _ _ refl
-call-first t (keep number role neighbour attribute) =
-    judged-shown (keepEffect (t .register) (t .ledger) (keeping number role neighbour attribute) .answer)
-    ∙ keep-reads (t .register) (t .ledger) (keeping number role neighbour attribute)
+call-first t (keep k) =
+    judged-shown (keepEffect (t .register) (t .ledger) k .answer)
+    ∙ keep-reads (t .register) (t .ledger) k
 call-first t (drop number) = by-rows shownRemoval removal.Refused (λ r. refl) _ _ _ refl
 call-first t rejudge = by-rows shownRejudged rejudging.Refused (λ r. refl) _ _ _ refl
 
@@ -69,7 +69,7 @@ unfolding fileEffect withdrawEffect clearEffect dropEffect rejudgeEffect keepEff
 call-leaves t (file source customer list) r e = rw e
 call-leaves t (withdraw source customer) r e = rw e
 call-leaves t (clear source) r e = rw e
-call-leaves t (keep number role neighbour attribute) r e = rw e
+call-leaves t (keep k) r e = rw e
 call-leaves t (drop number) r e = rw e
 call-leaves t rejudge r e = rw e
 
@@ -97,7 +97,7 @@ call-numbers t (file source customer list) =
 call-numbers t (withdraw source customer) =
     ranges (withdrawRows (t .register) source customer) (1 ∷ 2 ∷ 4 ∷ 5 ∷ 7 ∷ []) (withdraw-numbers (t .register) source customer)
 call-numbers t (clear source) = ranges (clearRows (t .register) source) (1 ∷ 2 ∷ 4 ∷ []) (clear-numbers (t .register) source 0)
-call-numbers t (keep number role neighbour attribute) = keep-numbers (t .register) (t .ledger) (keeping number role neighbour attribute)
+call-numbers t (keep k) = keep-numbers (t .register) (t .ledger) k
 call-numbers t (drop number) = ranges (dropRows (t .ledger) number) (1 ∷ 3 ∷ 19 ∷ []) (drop-numbers (t .ledger) number)
 call-numbers t rejudge = rejudge-numbers (t .register) (t .ledger)
 
@@ -109,7 +109,7 @@ in-order : (c : AnyCall) → inOrder 1 (numbersOf c) ≡ true
 in-order (change (file source customer list)) = refl
 in-order (change (withdraw source customer)) = refl
 in-order (change (clear source)) = refl
-in-order (change (keep number role neighbour attribute)) = refl
+in-order (change (keep k)) = refl
 in-order (change (drop number)) = refl
 in-order (change rejudge) = refl
 in-order (judge role neighbour attribute) = refl
@@ -126,8 +126,7 @@ call-placed t (file source customer list) r p e h =
     unplaced t (file source customer list) refl r p (sym (call-first t (file source customer list)) ∙ e) h
 call-placed t (withdraw source customer) r p e h = unplaced t (withdraw source customer) refl r p (sym (call-first t (withdraw source customer)) ∙ e) h
 call-placed t (clear source) r p e h = unplaced t (clear source) refl r p (sym (call-first t (clear source)) ∙ e) h
-call-placed t (keep number role neighbour attribute) r p e h =
-    let k = keeping number role neighbour attribute in
+call-placed t (keep k) r p e h =
     keep-placed (t .register) (t .ledger) k r (sym (judged-shown (keepEffect (t .register) (t .ledger) k .answer)) ∙ e) p h
 call-placed t (drop number) r p e h = unplaced t (drop number) refl r p (sym (call-first t (drop number)) ∙ e) h
 call-placed t rejudge r p e h = unplaced t rejudge refl r p (sym (call-first t rejudge) ∙ e) h

@@ -17,6 +17,8 @@ use Rattle.keyed.specs.Keyed.{samePair, beforePair, find}
 use Rattle.rules.specs.Records.{Record}
 use Rattle.register.specs.Register.{registerWords, registerOk}
 use Rattle.register.specs.Register as register
+pub use Rattle.register.specs.Calls.{findRecord}
+pub use Rattle.ledger.specs.Calls.{findRoute}
 use Rattle.register.specs.Calls.{fileEffect, withdrawEffect, clearEffect}
 use Rattle.ledger.specs.Routes.{ledgerWords, Route, ledgerOk}
 use Rattle.ledger.specs.Routes as ledger
@@ -150,13 +152,6 @@ routeRead k =
     }
 
 -- ---- what tables hold
-
--- The record of a customer and a source, the route under a number.
-abbrev pub findRecord : ℕ × ℕ → List Record → Option Record
-findRecord k rs = find register.keyOf samePair beforePair k rs
-
-abbrev pub findRoute : ℕ → List Route → Option Route
-findRoute number rs = find ledger.keyOf eqb ltb number rs
 
 -- Its list.
 abbrev pub providersOf : Option Record → Option (List ℕ)

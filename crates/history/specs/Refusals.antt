@@ -18,7 +18,7 @@ use Rattle.as_path.specs.declared.Scan.the-variants.{Faulty}
 use Rattle.as_path.specs.Faults.{firstFault}
 use Rattle.register.specs.Calls.{fileRows, withdrawRows, clearRows}
 use Rattle.ledger.specs.Calls.{dropRows}
-use Rattle.filter.specs.Calls.{keeping, judgeRowsOver, keepRows, rejudgeRows, refusalIn, judgeAnswer}
+use Rattle.filter.specs.Calls.{judgeRowsOver, keepRows, rejudgeRows, refusalIn, judgeAnswer}
 use Rattle.history.specs.Calls.{Call, file, withdraw, clear, keep, drop, rejudge, Tables, says, leaves}
 use Rattle.history.specs.Replies.{ModelReply, new, replaced, done, gone, refused, shown}
 
@@ -33,7 +33,7 @@ abbrev pub callRows : Tables → Call → List (Option Refusal)
 callRows t (file source customer list) = fileRows (t .register) source customer list
 callRows t (withdraw source customer) = withdrawRows (t .register) source customer
 callRows t (clear source) = clearRows (t .register) source
-callRows t (keep number role neighbour attribute) = keepRows (t .register) (t .ledger) (keeping number role neighbour attribute)
+callRows t (keep k) = keepRows (t .register) (t .ledger) k
 callRows t (drop number) = dropRows (t .ledger) number
 callRows t rejudge = rejudgeRows (t .register) (t .ledger)
 
@@ -50,7 +50,7 @@ abbrev pub callNumbers : Call → List (ℕ × ℕ)
 callNumbers (file source customer list) = (1, 1) ∷ (2, 2) ∷ (4, 4) ∷ (5, 5) ∷ (6, 6) ∷ (8, 8) ∷ []
 callNumbers (withdraw source customer) = (1, 1) ∷ (2, 2) ∷ (4, 4) ∷ (5, 5) ∷ (7, 7) ∷ []
 callNumbers (clear source) = (1, 1) ∷ (2, 2) ∷ (4, 4) ∷ []
-callNumbers (keep number role neighbour attribute) = (1, 1) ∷ (1, 1) ∷ (2, 2) ∷ (3, 3) ∷ (routeNumbers ++ ((18, 18) ∷ (20, 20) ∷ []))
+callNumbers (keep k) = (1, 1) ∷ (1, 1) ∷ (2, 2) ∷ (3, 3) ∷ (routeNumbers ++ ((18, 18) ∷ (20, 20) ∷ []))
 callNumbers (drop number) = (1, 1) ∷ (3, 3) ∷ (19, 19) ∷ []
 callNumbers rejudge = (1, 1) ∷ (1, 1) ∷ (2, 2) ∷ (3, 3) ∷ []
 
@@ -87,7 +87,7 @@ abbrev pub callAttribute : Call → List ℕ
 callAttribute (file source customer list) = []
 callAttribute (withdraw source customer) = []
 callAttribute (clear source) = []
-callAttribute (keep number role neighbour attribute) = attribute
+callAttribute (keep k) = k .attribute
 callAttribute (drop number) = []
 callAttribute rejudge = []
 

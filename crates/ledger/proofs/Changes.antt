@@ -14,7 +14,7 @@ use Rattle.keyed.proofs.Orders.{ordered-ℕ, both-intro}
 use Rattle.keyed.proofs.Puts.{ascends-put, ascends-without, length-erase-at}
 use Rattle.keyed.proofs.Finds.{every-put, every-without, find-put, find-without, count-without}
 use Rattle.ledger.specs.Routes.{mostRoutes, mostPathWords, Route, entryOf, keyOf, pathWords, routeOk, roomFor, routesOk}
-use Rattle.ledger.specs.Calls.{holdsRoute, putRoute, eraseRoute}
+use Rattle.ledger.specs.Calls.{findRoute, holdsRoute, putRoute, eraseRoute}
 use Rattle.ledger.proofs.Holding.{room-routes, room-paths, has-room, each-ok, in-order}
 
 -- ---- the rules are kept
@@ -60,10 +60,6 @@ module _ (rs : List Route) (e : routesOk rs ≡ true) where
       (both-intro _ _ (every-without keyOf eqb ltb routeOk test rs (each-ok rs e)) (ascends-without keyOf eqb ltb ordered-ℕ test rs (in-order rs e)))
 
 -- ---- what is found after a call
-
--- The route under a number.
-abbrev pub findRoute : ℕ → List Route → Option Route
-findRoute k rs = find keyOf eqb ltb k rs
 
 -- After a store: the route under its own number, and under every other what was there.
 pub stored-finds : (k : ℕ) (r : Route) (rs : List Route) → findRoute k (putRoute r rs) ≡ cond (eqb k (r .number)) (some r) (findRoute k rs)

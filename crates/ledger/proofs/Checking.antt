@@ -10,13 +10,17 @@ use borrow.Author.Tests.{le-leb, lt-leb, eq-eqb, ne-eqb}
 use lib.Dec.{leb, ltb, eqb}
 use lib.ListN.{length, getD, take, drop, length-drop, drop-of-length-le}
 use lib.Seq.{drop-cons}
+use Rattle.types.specs.declared.Role.the-variants.{RouteServer}
+use Rattle.types.specs.Numbers.{roleNumber}
 use Rattle.types.specs.Roles.{isRole}
 use Rattle.as_path.specs.Reading.{mostNumbers}
 use Rattle.table.specs.Table.{bodies, Sound, wellFormed}
 use Rattle.table.proofs.Exact.{passes-sound}
 use Rattle.keyed.specs.Keyed.{ascends, ascendsFrom, every}
-use Rattle.ledger.specs.Routes.{mostRoutes, mostPathWords, Route, routesOf, routeAt, keyOf, pathWords, pathOk, groundOk, routeOk, isBehind, PathFrom}
+use Rattle.ledger.specs.Routes.{routeHead, routeTail, routeWidth, slotAt, roleWord, neighbourWord, groundWord, verdictWord, aWord, bWord, countWord}
+use Rattle.ledger.specs.Routes.{mostRoutes, mostPathWords, Route, routesOf, routeAt, keyOf, pathWords, pathOk, groundOk, routeOk, isBehind}
 use Rattle.ledger.specs.Routes.{roomFor, routesOk, ledgerOk}
+use Rattle.ledger.specs.Helpers.{PathFrom}
 use Rattle.ledger.proofs.Entries.{slot-within, number-is, role-is, neighbour-is, ground-is, verdict-is, a-is, b-is}
 use Rattle.ledger.proofs.Entries.{route-count, path-count, path-length, path-is, path-within, paths-next}
 
@@ -27,13 +31,13 @@ pub first-behind : (rs : List Route) (i : ℕ) → i ≡ 0 → true ≡ isBehind
 unfolding isBehind
 first-behind rs i e = rw (eq-eqb i 0 e)
 
-module _ {ws : List ℕ} {i : ℕ} (p : Sound 7 0 ws × (i < length (routesOf ws))) where
+module _ {ws : List ℕ} {i : ℕ} (p : Sound routeHead routeTail ws × (i < length (routesOf ws))) where
   -- The slot of a route is within the words.
-  pub behind-in : 2 + i * 9 + 9 ≤ length ws
+  pub behind-in : slotAt i + routeWidth ≤ length ws
   behind-in = slot-within ws (p .0) i (p .1)
 
   -- Another one stands behind the one before it.
-  pub next-behind : (i ≡ 0 → ⊥) → ltb (getD ws (2 + (i - 1) * 9) 0) (getD ws (2 + i * 9) 0) ≡ isBehind (routesOf ws) i
+  pub next-behind : (i ≡ 0 → ⊥) → ltb (getD ws (slotAt (i - 1)) 0) (getD ws (slotAt i) 0) ≡ isBehind (routesOf ws) i
   unfolding isBehind
   next-behind k = rw (ne-eqb i 0 k, number-is ws (p .0) i (p .1), number-is ws (p .0) (i - 1) (omega arith))
 
@@ -60,7 +64,7 @@ route-columns r =
 
 module _ {ws : List ℕ} {i from to : ℕ} (p : PathFrom ws i from to) where
   -- The slot of a route is within the words.
-  pub slot-inside : 2 + i * 9 + 9 ≤ length ws
+  pub slot-inside : slotAt i + routeWidth ≤ length ws
   slot-inside = slot-within ws (p .sound) i (p .within)
 
   -- So is its path.
@@ -69,7 +73,7 @@ module _ {ws : List ℕ} {i from to : ℕ} (p : PathFrom ws i from to) where
 
   -- Word j of its slot.
   abbrev cell : ℕ → ℕ
-  cell j = getD ws (2 + i * 9 + j) 0
+  cell j = getD ws (slotAt i + j) 0
 
   -- The words of its path.
   abbrev part : List ℕ
@@ -78,23 +82,26 @@ module _ {ws : List ℕ} {i from to : ℕ} (p : PathFrom ws i from to) where
   -- The tests of its columns.
   abbrev columns : Bool
   columns =
-      (leb 1 (cell 1) && leb (cell 1) 6)
-      && (leb 1 (cell 2) && (leb (cell 3) 3 && (leb (cell 4) 2 && (leb (cell 5) mostNumbers && leb (cell 6) mostNumbers))))
+      isRole (cell roleWord)
+      && (leb 1 (cell neighbourWord)
+      && (leb (cell groundWord) 3 && (leb (cell verdictWord) 2 && (leb (cell aWord) mostNumbers && leb (cell bWord) mostNumbers))))
 
-  -- The tests of a route with a ground.
-  abbrev grounded : Bool
-  grounded = eqb (to - from) 0 && (eqb (cell 4) 1 && (eqb (cell 5) 0 && (eqb (cell 6) 0 && not (eqb (cell 3) 2 && eqb (cell 1) 4))))
+  -- The tests of a route with a ground, with the number of the route server's role.
+  abbrev grounded : ℕ → Bool
+  grounded server =
+      eqb (to - from) 0
+      && (eqb (cell verdictWord) 1 && (eqb (cell aWord) 0 && (eqb (cell bWord) 0 && not (eqb (cell groundWord) 2 && eqb (cell roleWord) server))))
 
   -- As many words as its path has numbers.
   long : to - from ≡ length (routeAt (routesOf ws) i .path)
   long = omega (arith, p .end)
 
   -- They are its path.
-  part-is : part ≡ routeAt (routesOf ws) i .path
+  pub part-is : part ≡ routeAt (routesOf ws) i .path
   part-is = rw (long, p .start) (path-is ws (p .sound) i (p .within))
 
   -- The rules of route i, on the words.
-  opened : routeOk (routeAt (routesOf ws) i) ≡ (columns && cond (eqb (cell 3) 0) (pathOk (cell 1) (cell 2) part) grounded)
+  opened : routeOk (routeAt (routesOf ws) i) ≡ (columns && cond (eqb (cell groundWord) 0) (pathOk (cell roleWord) (cell neighbourWord) part) (grounded (roleNumber RouteServer)))
   unfolding groundOk
   opened =
       let s = p .sound in
@@ -107,12 +114,13 @@ module _ {ws : List ℕ} {i from to : ℕ} (p : PathFrom ws i from to) where
   out-of-range e = rw (opened, e)
 
   -- Without a ground the path decides.
-  pub by-path : columns ≡ true → cell 3 ≡ 0 → pathOk (cell 1) (cell 2) part ≡ routeOk (routeAt (routesOf ws) i)
-  by-path e k = rw (opened, e, eq-eqb (cell 3) 0 k)
+  pub by-path : columns ≡ true → cell groundWord ≡ 0 → pathOk (cell roleWord) (cell neighbourWord) part ≡ routeOk (routeAt (routesOf ws) i)
+  by-path e k = rw (opened, e, eq-eqb (cell groundWord) 0 k)
 
   -- With a ground the rules of the ground do.
-  pub by-ground : columns ≡ true → (cell 3 ≡ 0 → ⊥) → grounded ≡ routeOk (routeAt (routesOf ws) i)
-  by-ground e k = rw (opened, e, ne-eqb (cell 3) 0 k)
+  pub by-ground : columns ≡ true → (cell groundWord ≡ 0 → ⊥) → {server : ℕ} → server ≡ roleNumber RouteServer
+      → grounded server ≡ routeOk (routeAt (routesOf ws) i)
+  by-ground e k q = rw (opened, e, ne-eqb (cell groundWord) 0 k, q)
 
 -- ---- the routes
 
@@ -173,14 +181,14 @@ rules-end rs i h =
 
 -- The loop over the routes: the rules of those that are left are what is left to find.
 pub record Checked (ws : List ℕ) (n from i : ℕ) : Type 0 where
-  pub sound : Sound 7 0 ws
+  pub sound : Sound routeHead routeTail ws
   pub count : n ≡ length (routesOf ws)
   pub within : i ≤ n
-  pub start : from ≡ 2 + n * 9 + pathWords (take i (routesOf ws))
+  pub start : from ≡ slotAt n + pathWords (take i (routesOf ws))
   pub same : rulesFrom i (routesOf ws) ≡ rules (routesOf ws)
 
 -- The loop starts at the first path.
-pub checks : {ws : List ℕ} {n : ℕ} → Sound 7 0 ws → n ≡ getD ws 0 0 → Checked ws n (2 + n * 9) 0
+pub checks : {ws : List ℕ} {n : ℕ} → Sound routeHead routeTail ws → n ≡ getD ws 0 0 → Checked ws n (slotAt n) 0
 unfolding pathWords bodies
 checks {ws} s e = record { sound = s; count = e ∙ route-count ws s; within = omega arith; start = omega arith; same = refl }
 
@@ -191,7 +199,7 @@ module _ {ws : List ℕ} {n from i : ℕ} (g : Checked ws n from i) where
 
   module _ (h : i < n) where
     -- Route i is one of the routes.
-    pub inside : Sound 7 0 ws × (i < length (routesOf ws))
+    pub inside : Sound routeHead routeTail ws × (i < length (routesOf ws))
     inside = (g .sound, omega (arith, g .count))
 
     -- The tests of route i, and the rules of those behind it.
@@ -202,7 +210,7 @@ module _ {ws : List ℕ} {n from i : ℕ} (g : Checked ws n from i) where
     pub no-order : isBehind (routesOf ws) i ≡ false → false ≡ rules (routesOf ws)
     no-order q = rw q at tested
 
-    module _ {m : ℕ} (e : m ≡ getD ws (2 + i * 9 + 8) 0) where
+    module _ {m : ℕ} (e : m ≡ getD ws (slotAt i + countWord) 0) where
       -- Its path.
       pub its-path : PathFrom ws i from (from + m)
       its-path =
@@ -232,15 +240,15 @@ module _ {ws : List ℕ} {n from i : ℕ} (g : Checked ws n from i) where
 -- ---- the whole ledger
 
 -- Words that are no packed table.
-pub not-formed : (ws : List ℕ) → wellFormed 7 0 ws ≡ false → false ≡ ledgerOk ws
+pub not-formed : (ws : List ℕ) → wellFormed routeHead routeTail ws ≡ false → false ≡ ledgerOk ws
 unfolding ledgerOk
 not-formed ws e = rw e
 
-module _ (ws : List ℕ) (e : wellFormed 7 0 ws ≡ true) where
+module _ (ws : List ℕ) (e : wellFormed routeHead routeTail ws ≡ true) where
   -- The two limits, on the words.
   limits : ledgerOk ws ≡ ((leb (getD ws 0 0) mostRoutes && leb (getD ws 1 0) mostPathWords) && rules (routesOf ws))
   unfolding ledgerOk routesOk roomFor
-  limits = let s = passes-sound 7 0 ws e in rw (e, route-count ws s, path-count ws s)
+  limits = let s = passes-sound routeHead routeTail ws e in rw (e, route-count ws s, path-count ws s)
 
   -- Too many routes.
   pub routes-over : mostRoutes < getD ws 0 0 → false ≡ ledgerOk ws

@@ -9,12 +9,13 @@ use Rattle.table.specs.Table.{decode, Wide, Sound, wellFormed}
 use Rattle.table.proofs.Sounds.{nth}
 use Rattle.table.proofs.Typed
 use Rattle.table.proofs.Typed.{Typing, no-words}
+use Rattle.ledger.specs.Routes.{routeHead, routeTail, routeWidth, slotAt, roleWord, neighbourWord, groundWord, verdictWord, aWord, bWord, startWord, countWord}
 use Rattle.ledger.specs.Routes.{ledgerWords, mostRoutes, mostPathWords, Route, routeOf, entryOf, routesOf, ledgerOf, routeAt, pathWords}
 
 -- ---- entries and routes
 
 -- The seven head words.
-seven-words : (l : List ℕ) → length l ≡ 7
+seven-words : (l : List ℕ) → length l ≡ routeHead
     → l ≡ getD l 0 0 ∷ getD l 1 0 ∷ getD l 2 0 ∷ getD l 3 0 ∷ getD l 4 0 ∷ getD l 5 0 ∷ getD l 6 0 ∷ []
 seven-words [] e = absurd (omega arith)
 seven-words (p ∷ []) e = absurd (omega arith)
@@ -27,7 +28,7 @@ seven-words (p ∷ q ∷ r ∷ s ∷ t ∷ u ∷ v ∷ []) e = refl
 seven-words (p ∷ q ∷ r ∷ s ∷ t ∷ u ∷ v ∷ w ∷ l) e = absurd (omega arith)
 
 -- Routes are entries of seven head words and no tail.
-pub typing : Typing 7 0 entryOf routeOf
+pub typing : Typing routeHead routeTail entryOf routeOf
 typing = record {
   wide = λ r. (refl, refl);
   back = λ r. refl;
@@ -35,7 +36,7 @@ typing = record {
 }
 
 -- Entries of routes are seven head words wide.
-pub entries-wide : (rs : List Route) → Wide 7 0 (map entryOf rs)
+pub entries-wide : (rs : List Route) → Wide routeHead routeTail (map entryOf rs)
 entries-wide = Typed.entries-wide typing
 
 -- The numbers in the paths before i, and in those before i + 1.
@@ -50,7 +51,7 @@ paths-take rs i = Typed.bodied-take entryOf rs i
 
 module _ (rs : List Route) (h : length rs ≤ mostRoutes) (k : pathWords rs ≤ mostPathWords) where
   -- Routes within both limits fit into a ledger.
-  pub routes-fit : 2 + length rs * 9 + Typed.bodied entryOf rs ≤ ledgerWords
+  pub routes-fit : slotAt (length rs) + Typed.bodied entryOf rs ≤ ledgerWords
   unfolding pathWords
   routes-fit = omega arith
 
@@ -65,18 +66,18 @@ module _ (rs : List Route) (h : length rs ≤ mostRoutes) (k : pathWords rs ≤ 
   words-long = Typed.words-long typing ledgerWords rs routes-fit
 
   -- What is written is well-formed.
-  pub words-formed : wellFormed 7 0 (ledgerOf rs) ≡ true
+  pub words-formed : wellFormed routeHead routeTail (ledgerOf rs) ≡ true
   unfolding ledgerOf
   words-formed = Typed.words-formed typing ledgerWords rs routes-fit
 
-module _ (ws : List ℕ) (s : Sound 7 0 ws) where
+module _ (ws : List ℕ) (s : Sound routeHead routeTail ws) where
   -- The entries are those of the routes.
-  pub decoded : decode 7 0 ws ≡ map entryOf (routesOf ws)
+  pub decoded : decode routeHead routeTail ws ≡ map entryOf (routesOf ws)
   unfolding routesOf
   decoded = Typed.decoded typing ws s
 
   -- There are as many routes as entries.
-  pub length-routes : length (routesOf ws) ≡ length (decode 7 0 ws)
+  pub length-routes : length (routesOf ws) ≡ length (decode routeHead routeTail ws)
   unfolding routesOf
   length-routes = Typed.length-records typing ws s
 
@@ -96,69 +97,69 @@ module _ (ws : List ℕ) (s : Sound 7 0 ws) where
   path-count = Typed.bodies-word typing ws s
 
   -- Route i is read from entry i.
-  pub route-is : (i : ℕ) → routeAt (routesOf ws) i ≡ routeOf (nth i (decode 7 0 ws))
+  pub route-is : (i : ℕ) → routeAt (routesOf ws) i ≡ routeOf (nth i (decode routeHead routeTail ws))
   unfolding routesOf
   route-is = Typed.record-is typing ws s
 
   module _ (i : ℕ) (h : i < length (routesOf ws)) where
-    -- Row i lies within the words.
-    pub slot-within : 2 + i * 9 + 9 ≤ length ws
+    -- Slot i lies within the words.
+    pub slot-within : slotAt i + routeWidth ≤ length ws
     unfolding routesOf
     slot-within = Typed.slot-within typing ws s i h
 
     -- The first word of slot i is the number.
-    pub number-is : getD ws (2 + i * 9) 0 ≡ routeAt (routesOf ws) i .number
+    pub number-is : getD ws (slotAt i) 0 ≡ routeAt (routesOf ws) i .number
     unfolding routesOf
     number-is = Typed.first-word typing ws s i h (omega arith)
 
     -- The second is the role.
-    pub role-is : getD ws (2 + i * 9 + 1) 0 ≡ routeAt (routesOf ws) i .role
+    pub role-is : getD ws (slotAt i + roleWord) 0 ≡ routeAt (routesOf ws) i .role
     unfolding routesOf
-    role-is = Typed.head-word typing ws s i h 1 (omega arith)
+    role-is = Typed.head-word typing ws s i h roleWord (omega arith)
 
     -- The third is the neighbour.
-    pub neighbour-is : getD ws (2 + i * 9 + 2) 0 ≡ routeAt (routesOf ws) i .neighbour
+    pub neighbour-is : getD ws (slotAt i + neighbourWord) 0 ≡ routeAt (routesOf ws) i .neighbour
     unfolding routesOf
-    neighbour-is = Typed.head-word typing ws s i h 2 (omega arith)
+    neighbour-is = Typed.head-word typing ws s i h neighbourWord (omega arith)
 
     -- The fourth is the ground.
-    pub ground-is : getD ws (2 + i * 9 + 3) 0 ≡ routeAt (routesOf ws) i .ground
+    pub ground-is : getD ws (slotAt i + groundWord) 0 ≡ routeAt (routesOf ws) i .ground
     unfolding routesOf
-    ground-is = Typed.head-word typing ws s i h 3 (omega arith)
+    ground-is = Typed.head-word typing ws s i h groundWord (omega arith)
 
     -- The fifth is the verdict.
-    pub verdict-is : getD ws (2 + i * 9 + 4) 0 ≡ routeAt (routesOf ws) i .verdict
+    pub verdict-is : getD ws (slotAt i + verdictWord) 0 ≡ routeAt (routesOf ws) i .verdict
     unfolding routesOf
-    verdict-is = Typed.head-word typing ws s i h 4 (omega arith)
+    verdict-is = Typed.head-word typing ws s i h verdictWord (omega arith)
 
     -- The sixth is the place a.
-    pub a-is : getD ws (2 + i * 9 + 5) 0 ≡ routeAt (routesOf ws) i .a
+    pub a-is : getD ws (slotAt i + aWord) 0 ≡ routeAt (routesOf ws) i .a
     unfolding routesOf
-    a-is = Typed.head-word typing ws s i h 5 (omega arith)
+    a-is = Typed.head-word typing ws s i h aWord (omega arith)
 
     -- The seventh is the place b.
-    pub b-is : getD ws (2 + i * 9 + 6) 0 ≡ routeAt (routesOf ws) i .b
+    pub b-is : getD ws (slotAt i + bWord) 0 ≡ routeAt (routesOf ws) i .b
     unfolding routesOf
-    b-is = Typed.head-word typing ws s i h 6 (omega arith)
+    b-is = Typed.head-word typing ws s i h bWord (omega arith)
 
     -- The eighth counts the numbers in the paths before it.
-    pub path-start : getD ws (2 + i * 9 + 7) 0 ≡ pathWords (take i (routesOf ws))
+    pub path-start : getD ws (slotAt i + startWord) 0 ≡ pathWords (take i (routesOf ws))
     unfolding routesOf pathWords
     path-start = Typed.start-word typing ws s i h
 
     -- The ninth counts those in its own.
-    pub path-length : getD ws (2 + i * 9 + 8) 0 ≡ length (routeAt (routesOf ws) i .path)
+    pub path-length : getD ws (slotAt i + countWord) 0 ≡ length (routeAt (routesOf ws) i .path)
     unfolding routesOf
     path-length = ap (λ k. getD ws k 0) (omega arith) ∙ Typed.length-word typing ws s i h
 
     -- A route's path, as the part of the words that it is.
     pub path-is :
-        take (length (routeAt (routesOf ws) i .path)) (drop (2 + length (routesOf ws) * 9 + pathWords (take i (routesOf ws))) ws)
+        take (length (routeAt (routesOf ws) i .path)) (drop (slotAt (length (routesOf ws)) + pathWords (take i (routesOf ws))) ws)
         ≡ routeAt (routesOf ws) i .path
     unfolding routesOf pathWords
     path-is = Typed.body-part typing ws s i h
 
     -- It ends within the words.
-    pub path-within : 2 + length (routesOf ws) * 9 + pathWords (take i (routesOf ws)) + length (routeAt (routesOf ws) i .path) ≤ length ws
+    pub path-within : slotAt (length (routesOf ws)) + pathWords (take i (routesOf ws)) + length (routeAt (routesOf ws) i .path) ≤ length ws
     unfolding routesOf pathWords
     path-within = Typed.body-within typing ws s i h

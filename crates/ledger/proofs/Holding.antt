@@ -6,20 +6,22 @@ use mathlib.Core.List.{List}
 use lib.Dec.{leb, eqb, ltb}
 use borrow.Author.Tests.{leb-true}
 use lib.ListN.{length}
+use Rattle.types.specs.Roles.{isRole}
 use Rattle.table.specs.Table.{Sound, wellFormed}
 use Rattle.table.proofs.Exact.{passes-sound}
 use Rattle.keyed.specs.Keyed.{ascends, every}
 use Rattle.keyed.proofs.Orders.{both-left, both-right, both-intro}
+use Rattle.ledger.specs.Routes.{routeHead, routeTail}
 use Rattle.ledger.specs.Routes.{mostRoutes, mostPathWords, Route, routesOf, ledgerOf, keyOf, pathWords, routeOk, roomFor, routesOk, ledgerOk}
 use Rattle.ledger.proofs.Entries.{routes-of-words, words-formed}
 
 module _ (rs : List Route) where
-  -- Room for them: at most 512 routes.
+  -- Room for them: not too many routes.
   pub room-routes : roomFor rs ≡ true → length rs ≤ mostRoutes
   unfolding roomFor
   room-routes e = leb-true _ _ (both-left _ _ e)
 
-  -- And at most 8192 numbers in their paths.
+  -- And not too many numbers in their paths.
   pub room-paths : roomFor rs ≡ true → pathWords rs ≤ mostPathWords
   unfolding roomFor
   room-paths e = leb-true _ _ (both-right (leb (length rs) mostRoutes) _ e)
@@ -46,19 +48,24 @@ unfolding ledgerOk
 words-ok rs e =
     let few = room-routes rs (has-room rs e) in
     let short = room-paths rs (has-room rs e) in
-    both-intro (wellFormed 7 0 (ledgerOf rs)) _ (words-formed rs few short) (rw (routes-of-words rs few short) e)
+    both-intro (wellFormed routeHead routeTail (ledgerOf rs)) _ (words-formed rs few short) (rw (routes-of-words rs few short) e)
 
 module _ (ws : List ℕ) (e : ledgerOk ws ≡ true) where
   -- A well-formed ledger is a sound table.
-  pub sound : Sound 7 0 ws
+  pub sound : Sound routeHead routeTail ws
   unfolding ledgerOk
-  sound = passes-sound 7 0 ws (both-left _ _ e)
+  sound = passes-sound routeHead routeTail ws (both-left _ _ e)
 
   -- Its routes keep the rules.
   pub routes-ok : routesOk (routesOf ws) ≡ true
   unfolding ledgerOk
-  routes-ok = both-right (wellFormed 7 0 ws) _ e
+  routes-ok = both-right (wellFormed routeHead routeTail ws) _ e
 
   -- They ascend by number.
   pub ordered : ascends keyOf eqb ltb (routesOf ws) ≡ true
   ordered = in-order (routesOf ws) routes-ok
+
+-- The role of a route that keeps its rules is one of the roles.
+pub has-role : (r : Route) → routeOk r ≡ true → isRole (r .role) ≡ true
+unfolding routeOk
+has-role r e = both-left (isRole (r .role)) _ e

@@ -7,3 +7,5 @@ pub mod Placing
 pub mod Storing
 pub mod Changes
 pub mod Refusals
+pub mod Stamping
+pub mod Accessing

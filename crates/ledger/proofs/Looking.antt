@@ -11,6 +11,7 @@ use Rattle.table.proofs.Sounds.{long}
 use Rattle.keyed.specs.Keyed.{holds}
 use Rattle.keyed.proofs.Orders.{ordered-ℕ, same-flip}
 use Rattle.keyed.proofs.Ranks.{rank-within, rank-over, rank-under, holds-not-end, holds-is}
+use Rattle.ledger.specs.Routes.{routeHead, routeTail, routeWidth, slotAt}
 use Rattle.ledger.specs.Routes.{mostRoutes, routesOf, routeAt, keyOf, positionOf, ledgerOk}
 use Rattle.ledger.proofs.Entries.{route-count, number-is, slot-within}
 use Rattle.ledger.proofs.Holding.{sound, routes-ok, ordered, has-room, room-routes}
@@ -20,22 +21,22 @@ use Rattle.ledger.proofs.Holding.{sound, routes-ok, ordered, has-room, 
 module _ (ws : List ℕ) (e : ledgerOk ws ≡ true) where
   -- The two counts are within the words.
   pub head-within : 2 ≤ length ws
-  head-within = long 7 0 ws (sound ws e)
+  head-within = long routeHead routeTail ws (sound ws e)
 
   -- Word 0 counts the routes.
   pub count-is : getD ws 0 0 ≡ length (routesOf ws)
   count-is = route-count ws (sound ws e)
 
-  -- There are at most 512 routes.
+  -- There are not too many routes.
   pub few : length (routesOf ws) ≤ mostRoutes
   few = room-routes (routesOf ws) (has-room (routesOf ws) (routes-ok ws e))
 
-  -- Row i is within the words.
-  pub slot-in : (i : ℕ) → i < length (routesOf ws) → 2 + i * 9 + 9 ≤ length ws
+  -- Slot i is within the words.
+  pub slot-in : (i : ℕ) → i < length (routesOf ws) → slotAt i + routeWidth ≤ length ws
   slot-in i h = slot-within ws (sound ws e) i h
 
   -- The key word of slot i.
-  pub key-is : (i : ℕ) → i < length (routesOf ws) → getD ws (2 + i * 9) 0 ≡ keyOf (routeAt (routesOf ws) i)
+  pub key-is : (i : ℕ) → i < length (routesOf ws) → getD ws (slotAt i) 0 ≡ keyOf (routeAt (routesOf ws) i)
   key-is i h = number-is ws (sound ws e) i h
 
   module _ (k : ℕ) where
@@ -52,11 +53,11 @@ module _ (ws : List ℕ) (e : ledgerOk ws ≡ true) where
 
       module _ (h : position < n) where
         -- The slot at the position is within the words.
-        pub there-in : 2 + position * 9 + 9 ≤ length ws
+        pub there-in : slotAt position + routeWidth ≤ length ws
         there-in = slot-in position (omega (arith, count-is))
 
         -- The number at the position decides whether the ledger holds the route.
-        pub there : eqb (getD ws (2 + position * 9) 0) k ≡ holds keyOf eqb ltb k (routesOf ws)
+        pub there : eqb (getD ws (slotAt position) 0) k ≡ holds keyOf eqb ltb k (routesOf ws)
         unfolding positionOf
         there =
             let l : position < length (routesOf ws) = omega (arith, count-is) in
@@ -87,12 +88,12 @@ starts ws k n e p =
 
 module _ {ws : List ℕ} {k low high : ℕ} (b : Between ws k low high) where
   -- The slot in the middle is within the words.
-  pub middle-in : low < high → 2 + (low + (high - low) / 2) * 9 + 9 ≤ length ws
+  pub middle-in : low < high → slotAt (low + (high - low) / 2) + routeWidth ≤ length ws
   middle-in h = slot-in ws (b .ok) (low + (high - low) / 2) (omega arith)
 
   module _ (m : ℕ) (l : low ≤ m) (h : m < high) where
     -- Route m stands before the number: the position is behind it.
-    pub turns-up : getD ws (2 + m * 9) 0 < k → Between ws k (m + 1) high
+    pub turns-up : getD ws (slotAt m) 0 < k → Between ws k (m + 1) high
     unfolding positionOf
     turns-up t =
         let x : keyOf (routeAt (routesOf ws) m) < k = omega (arith, key-is ws (b .ok) m (omega arith)) in
@@ -100,7 +101,7 @@ module _ {ws : List ℕ} {k low high : ℕ} (b : Between ws k low high) where
         record { ok = b .ok; over = omega arith; under = b .under; within = b .within; small = b .small }
 
     -- It does not: the position is not behind it.
-    pub turns-down : k ≤ getD ws (2 + m * 9) 0 → Between ws k low m
+    pub turns-down : k ≤ getD ws (slotAt m) 0 → Between ws k low m
     unfolding positionOf
     turns-down t =
         let x : k ≤ keyOf (routeAt (routesOf ws) m) = omega (arith, key-is ws (b .ok) m (omega arith)) in

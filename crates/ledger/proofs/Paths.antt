@@ -8,7 +8,8 @@ use borrow.Author.Tests.{leb-true, le-leb, lt-leb, eq-eqb, ne-eqb}
 use lib.Dec.{eqb, leb}
 use lib.ListN.{length, getD, drop, drop-of-length-le}
 use lib.Seq.{drop-cons}
-use Rattle.types.specs.Roles.{isRouteServer}
+use Rattle.types.specs.declared.Role.the-variants.{RouteServer}
+use Rattle.types.specs.Numbers.{roleNumber}
 use Rattle.as_path.specs.Reading.{mostNumbers}
 use Rattle.keyed.proofs.Orders.{both-left, both-right}
 use Rattle.ledger.specs.Routes.{noZero, pathOk}
@@ -52,9 +53,10 @@ module _ (role neighbour : ℕ) (l : List ℕ) where
       path-zero e = rw (le-leb 1 (length l) h, le-leb (length l) mostNumbers k, e)
 
       -- Otherwise the role or the first number decides.
-      pub path-first : noZero l ≡ true → (isRouteServer role || eqb (getD l 0 0) neighbour) ≡ pathOk role neighbour l
+      pub path-first : {server : ℕ} → server ≡ roleNumber RouteServer → noZero l ≡ true
+          → (eqb role server || eqb (getD l 0 0) neighbour) ≡ pathOk role neighbour l
       unfolding pathOk
-      path-first e = rw (le-leb 1 (length l) h, le-leb (length l) mostNumbers k, e)
+      path-first q e = rw (le-leb 1 (length l) h, le-leb (length l) mostNumbers k, e, q)
 
 module _ (role neighbour : ℕ) (l : List ℕ) (e : pathOk role neighbour l ≡ true) where
   -- A path that keeps the rules has a number.
@@ -62,7 +64,7 @@ module _ (role neighbour : ℕ) (l : List ℕ) (e : pathOk role neighbour l ≡ 
   unfolding pathOk
   path-some = leb-true _ _ (both-left (leb 1 (length l)) _ e)
 
-  -- And at most 64.
+  -- And not too many.
   pub path-few : length l ≤ mostNumbers
   unfolding pathOk
   path-few = leb-true _ _ (both-left (leb (length l) mostNumbers) _ (both-right (leb 1 (length l)) _ e))

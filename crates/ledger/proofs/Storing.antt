@@ -13,6 +13,7 @@ use Rattle.types.specs.Rows.{firstGiven, effect}
 use Rattle.table.specs.Table.{Entry, bodies, encode, decode, Insertable, Removable, insertAt, removeAt}
 use Rattle.table.proofs.Typed.{inserted-entries, removed-entries}
 use Rattle.keyed.proofs.Orders.{both-intro}
+use Rattle.ledger.specs.Routes.{routeHead, routeTail}
 use Rattle.ledger.specs.declared.Kept.the-variants as kept
 use Rattle.ledger.specs.Routes.{ledgerWords, mostRoutes, mostPathWords, Route, entryOf, routesOf, ledgerOf, positionOf, pathWords, roomFor, ledgerOk}
 use Rattle.ledger.specs.Calls.{holdsRoute, putRoute, eraseRoute, storeEffect, dropEffect}
@@ -35,7 +36,7 @@ pub store-taken : (ws : List ℕ) (r : Route) → holdsRoute (r .number) (routes
 unfolding storeEffect firstGiven
 store-taken ws r e = rw e
 
--- The second count of a well-formed ledger is at most 8192.
+-- The second count of a well-formed ledger keeps its limit.
 pub paths-short : (ws : List ℕ) → ledgerOk ws ≡ true → {n : ℕ} → n ≡ getD ws 1 0 → n ≤ mostPathWords
 paths-short ws ok e = omega (arith, path-count ws (sound ws ok), room-paths (routesOf ws) (has-room (routesOf ws) (routes-ok ws ok)))
 
@@ -45,7 +46,7 @@ module _ (ws : List ℕ) (r : Route) (ok : ledgerOk ws ≡ true) (free : holdsRo
   unfolding storeEffect firstGiven
   store-full e = rw (free, e)
 
-  -- 512 routes are kept.
+  -- As many routes as may be are kept.
   pub full-routes : {n : ℕ} → n ≡ getD ws 0 0 → mostRoutes ≤ n → storeEffect ws r ≡ record { answer = kept.Refused RoutesFull; words = ws }
   unfolding roomFor
   full-routes e h =
@@ -85,11 +86,11 @@ storable ws r position long ok free here e few e' short =
 
 module _ {ws : List ℕ} {r : Route} {position : ℕ} (s : Storable ws r position) {e : Entry} (same : e ≡ entryOf r) where
   -- The table may take its entry.
-  pub store-fits : Insertable 7 0 ws position e
+  pub store-fits : Insertable routeHead routeTail ws position e
   unfolding pathWords
   store-fits =
       let n = length-routes ws (sound ws (s .ok)) in
-      let b : length (bodies (decode 7 0 ws)) ≡ pathWords (routesOf ws) = ap (λ es. length (bodies es)) (decoded ws (sound ws (s .ok))) in
+      let b : length (bodies (decode routeHead routeTail ws)) ≡ pathWords (routesOf ws) = ap (λ es. length (bodies es)) (decoded ws (sound ws (s .ok))) in
       rw same
       (record {
         sound = sound ws (s .ok);
@@ -101,7 +102,7 @@ module _ {ws : List ℕ} {r : Route} {position : ℕ} (s : Storable ws r positio
       })
 
   -- With its entry in, the words are those of the definition.
-  pub store-done : {ws' : List ℕ} → ws' ≡ encode (length ws) (insertAt position e (decode 7 0 ws))
+  pub store-done : {ws' : List ℕ} → ws' ≡ encode (length ws) (insertAt position e (decode routeHead routeTail ws))
       → effect kept.Done ws' ≡ storeEffect ws r
   unfolding storeEffect firstGiven roomFor ledgerOf
   store-done {ws'} g = rw (s .free, fits) (ap (effect kept.Done) (g ∙ words))
@@ -111,7 +112,7 @@ module _ {ws : List ℕ} {r : Route} {position : ℕ} (s : Storable ws r positio
           both-intro _ _ (le-leb (length (putRoute r (routesOf ws))) mostRoutes (omega (arith, routes-new r (routesOf ws) (s .free), s .more)))
           (le-leb (pathWords (putRoute r (routesOf ws))) mostPathWords (omega (arith, paths-new r (routesOf ws) (s .free), s .room)))
 
-      words : encode (length ws) (insertAt position e (decode 7 0 ws)) ≡ encode ledgerWords (map entryOf (putRoute r (routesOf ws)))
+      words : encode (length ws) (insertAt position e (decode routeHead routeTail ws)) ≡ encode ledgerWords (map entryOf (putRoute r (routesOf ws)))
       words =
           (λ i. encode (s .long i) (insertAt (s .here i) (same i) (decoded ws (sound ws (s .ok)) i)))
           ∙ ap (encode ledgerWords)
@@ -139,18 +140,18 @@ module _ (ws : List ℕ) (number : ℕ) where
 
       module _ (e : holdsRoute number (routesOf ws) ≡ true) {position : ℕ} (f : position ≡ positionOf number (routesOf ws)) where
         -- The route's entry may go.
-        pub drop-goes : Removable 7 0 ws position
+        pub drop-goes : Removable routeHead routeTail ws position
         drop-goes =
             let h = position-under number (routesOf ws) (ordered ws b) e in
             record { sound = sound ws b; within = omega (arith, f, h, length-routes ws (sound ws b)); small = omega (arith, a) }
 
         -- With its entry out, the words are those of the definition.
-        pub drop-done : {ws' : List ℕ} → ws' ≡ encode (length ws) (removeAt position (decode 7 0 ws))
+        pub drop-done : {ws' : List ℕ} → ws' ≡ encode (length ws) (removeAt position (decode routeHead routeTail ws))
             → effect removal.Done ws' ≡ dropEffect ws number
         unfolding dropEffect firstGiven ledgerOf
         drop-done {ws'} g = rw (eq-eqb (length ws) ledgerWords a, b, e) (ap (effect removal.Done) (g ∙ words))
           where
-            words : encode (length ws) (removeAt position (decode 7 0 ws)) ≡ encode ledgerWords (map entryOf (eraseRoute number (routesOf ws)))
+            words : encode (length ws) (removeAt position (decode routeHead routeTail ws)) ≡ encode ledgerWords (map entryOf (eraseRoute number (routesOf ws)))
             words =
                 (λ i. encode (a i) (removeAt (f i) (decoded ws (sound ws b) i)))
                 ∙ ap (encode ledgerWords)

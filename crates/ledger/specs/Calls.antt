@@ -13,12 +13,15 @@ use Rattle.types.specs.declared.Removal.{Removal}
 use Rattle.types.specs.declared.Removal.the-variants as removal
 use Rattle.types.specs.Numbers.{verdictNumber, verdictGround, placeA, placeB}
 use Rattle.types.specs.Rows.{rowIf, lengthRow, firstGiven, Effect, unlessRefused}
-use Rattle.keyed.specs.Keyed.{holds, put, without}
+use Rattle.keyed.specs.Keyed.{holds, find, put, without}
 use Rattle.ledger.specs.declared.Kept.{Kept}
 use Rattle.ledger.specs.declared.Kept.the-variants as kept
 use Rattle.ledger.specs.Routes.{ledgerWords, Route, routesOf, routeAt, ledgerOf, keyOf, roomFor, ledgerOk, positionOf}
 
 -- ---- routes: looked for, put in, taken out
+
+abbrev pub findRoute : ℕ → List Route → Option Route
+findRoute number rs = find keyOf eqb ltb number rs
 
 abbrev pub holdsRoute : ℕ → List Route → Bool
 holdsRoute number rs = holds keyOf eqb ltb number rs

@@ -1,23 +1,66 @@
--- The ledger ("Tables"): kept routes in a packed table with seven head words and no tail.
-use Prim.Native.Nat.{ℕ, _+_, _-_, _*_, _<_}
-use mathlib.Core.Path.{_≡_}
+-- The ledger ("Tables"): kept routes in a packed table.
+use Prim.Native.Nat.{ℕ, _+_, _-_, _*_}
 use mathlib.Core.Bool.{Bool, true, not, cond, _&&_, _||_}
 use mathlib.Core.List.{List, [], _∷_, map}
 use lib.Dec.{leb, ltb, eqb}
-use lib.ListN.{length, getD, take}
+use lib.ListN.{length, getD}
 use Rattle.types.specs.Roles.{isRole, isRouteServer}
 use Rattle.as_path.specs.Reading.{mostNumbers}
-use Rattle.table.specs.Table.{Entry, bodies, encode, decode, wellFormed, Sound}
+use Rattle.table.specs.Table.{Entry, counters, width, bodies, encode, decode, wellFormed}
 use Rattle.keyed.specs.Keyed.{ascends, rank, every}
 
-abbrev pub ledgerWords : ℕ
-ledgerWords = 12802
+-- ---- the words
 
 abbrev pub mostRoutes : ℕ
 mostRoutes = 512
 
 abbrev pub mostPathWords : ℕ
 mostPathWords = 8192
+
+-- A route's slot: head words, start and length of its path, tail words.
+abbrev pub routeHead : ℕ
+routeHead = 7
+
+abbrev pub routeTail : ℕ
+routeTail = 0
+
+abbrev pub routeWidth : ℕ
+routeWidth = width routeHead routeTail
+
+abbrev pub ledgerWords : ℕ
+ledgerWords = counters + mostRoutes * routeWidth + mostPathWords
+
+-- Where slot i begins. Behind the last slot the paths do.
+abbrev pub slotAt : ℕ → ℕ
+slotAt i = counters + i * routeWidth
+
+-- The words of a slot, counted from its first.
+abbrev pub numberWord : ℕ
+numberWord = 0
+
+abbrev pub roleWord : ℕ
+roleWord = 1
+
+abbrev pub neighbourWord : ℕ
+neighbourWord = 2
+
+abbrev pub groundWord : ℕ
+groundWord = 3
+
+abbrev pub verdictWord : ℕ
+verdictWord = 4
+
+abbrev pub aWord : ℕ
+aWord = 5
+
+abbrev pub bWord : ℕ
+bWord = 6
+
+abbrev pub startWord : ℕ
+startWord = routeHead
+
+abbrev pub countWord : ℕ
+countWord = routeHead + 1
 
 -- ---- routes
 
@@ -35,13 +78,13 @@ pub record Route : Type 0 where
 abbrev pub routeOf : Entry → Route
 routeOf e =
     record {
-      number = getD (e .head) 0 0;
-      role = getD (e .head) 1 0;
-      neighbour = getD (e .head) 2 0;
-      ground = getD (e .head) 3 0;
-      verdict = getD (e .head) 4 0;
-      a = getD (e .head) 5 0;
-      b = getD (e .head) 6 0;
+      number = getD (e .head) numberWord 0;
+      role = getD (e .head) roleWord 0;
+      neighbour = getD (e .head) neighbourWord 0;
+      ground = getD (e .head) groundWord 0;
+      verdict = getD (e .head) verdictWord 0;
+      a = getD (e .head) aWord 0;
+      b = getD (e .head) bWord 0;
       path = e .body;
     }
 
@@ -55,7 +98,7 @@ entryOf r =
 
 -- The routes that a ledger's words hold, and the words that hold routes.
 unfoldable pub routesOf : List ℕ → List Route
-routesOf ws = map routeOf (decode 7 0 ws)
+routesOf ws = map routeOf (decode routeHead routeTail ws)
 
 unfoldable pub ledgerOf : List Route → List ℕ
 ledgerOf rs = encode ledgerWords (map entryOf rs)
@@ -81,7 +124,7 @@ unfoldable pub noZero : List ℕ → Bool
 noZero [] = true
 noZero (x ∷ l) = not (eqb x 0) && noZero l
 
--- A path: 1 to 64 numbers, none of them 0, the first one the neighbour unless the role is 4.
+-- A path: as long as a path may be, no number 0, the first one the neighbour unless the role is 4.
 unfoldable pub pathOk : ℕ → ℕ → List ℕ → Bool
 pathOk role neighbour path =
     leb 1 (length path) && (leb (length path) mostNumbers && (noZero path && (isRouteServer role || eqb (getD path 0 0) neighbour)))
@@ -104,13 +147,6 @@ routeOk r =
 unfoldable pub isBehind : List Route → ℕ → Bool
 isBehind rs i = eqb i 0 || ltb (keyOf (routeAt rs (i - 1))) (keyOf (routeAt rs i))
 
--- Words from..to of a sound ledger are the path of its route i.
-pub record PathFrom (ws : List ℕ) (i from to : ℕ) : Type 0 where
-  pub sound : Sound 7 0 ws
-  pub within : i < length (routesOf ws)
-  pub start : from ≡ 2 + length (routesOf ws) * 9 + pathWords (take i (routesOf ws))
-  pub end : to ≡ from + length (routeAt (routesOf ws) i .path)
-
 -- The ledger fits its two limits (row 20).
 unfoldable pub roomFor : List Route → Bool
 roomFor rs = leb (length rs) mostRoutes && leb (pathWords rs) mostPathWords
@@ -120,4 +156,4 @@ routesOk rs = roomFor rs && (every routeOk rs && ascends keyOf eqb ltb rs)
 
 -- The word rules of a ledger (row 3); its length is row 1's.
 unfoldable pub ledgerOk : List ℕ → Bool
-ledgerOk ws = wellFormed 7 0 ws && routesOk (routesOf ws)
+ledgerOk ws = wellFormed routeHead routeTail ws && routesOk (routesOf ws)

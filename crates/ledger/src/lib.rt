@@ -3,6 +3,7 @@ use types::AsNumber;
 use types::Refusal;
 use types::Removal;
 use types::Role;
+use types::RoleRead;
 use types::RouteNumber;
 use types::Verdict;
 ghost use mathlib.Core.Path.{_≡_};
@@ -11,11 +12,13 @@ ghost use Prim.Native.Nat.{_≤_, _<_};
 ghost use lib.Dec.{eqb, ltb};
 ghost use lib.ListN.{length};
 ghost use Rattle.table.specs.Table.{Sound};
-ghost use Rattle.keyed.specs.Keyed.{ascends, every, holds};
+ghost use Rattle.keyed.specs.Keyed.{ascends, every};
 ghost use Rattle.types.specs.Numbers.{roleNumber};
 ghost use Rattle.types.specs.Rows.{effect};
-ghost use Rattle.ledger.specs.Calls.{routeFor, storeEffect, dropEffect};
-ghost use Rattle.ledger.specs.Routes.{ledgerWords, routesOf, routeAt, keyOf, noZero, pathOk, routeOk, isBehind, PathFrom, ledgerOk, positionOf};
+ghost use Rattle.ledger.specs.Routes.{ledgerWords, mostRoutes, routeHead, routeTail, routesOf, routeAt, keyOf, positionOf, pathWords};
+ghost use Rattle.ledger.specs.Routes.{noZero, pathOk, routeOk, isBehind, ledgerOk};
+ghost use Rattle.ledger.specs.Calls.{holdsRoute, routeFor, storeEffect, dropEffect, stamped, changeEffect};
+ghost use Rattle.ledger.specs.Helpers.{PathFrom, RouteIn};
 
 const MOST_ROUTES: usize = 512;
 
@@ -26,16 +29,14 @@ const HEAD: usize = 7;
 
 const TAIL: usize = 0;
 
-const WIDTH: usize = HEAD + 2 + TAIL;
+pub const WIDTH: usize = HEAD + table::SPAN + TAIL;
 
 // The words of a ledger.
-pub const WORDS: usize = 2 + MOST_ROUTES * WIDTH + MOST_PATH_WORDS;
+pub const WORDS: usize = table::COUNTERS + MOST_ROUTES * WIDTH + MOST_PATH_WORDS;
 
 const NO_TAIL: [u32; TAIL] = [0u32; TAIL];
 
-// The words of a slot, counted from its first.
-const NUMBER: usize = 0;
-
+// The words of a slot, counted from its first, which is the route's number.
 const ROLE: usize = 1;
 
 const NEIGHBOUR: usize = 2;
@@ -47,6 +48,8 @@ const VERDICT: usize = 4;
 const PLACE_A: usize = 5;
 
 const PLACE_B: usize = 6;
+
+const START: usize = HEAD;
 
 const COUNT: usize = HEAD + 1;
 
@@ -72,8 +75,8 @@ fn has_no_zero(path: &[u32]) -> bool
 }
 
 // A path of a route without a ground.
-fn is_path(role: u32, neighbour: u32, path: &[u32]) -> bool
-    ensures { λ r. ⌜ r ≡ pathOk role neighbour (now (path .entry)) ⌝ }
+fn is_path(role: u32, neighbour: AsNumber, path: &[u32]) -> bool
+    ensures { λ r. ⌜ r ≡ pathOk role (neighbour .0) (now (path .entry)) ⌝ }
 {
     if path.len() < 1 {
         return false;
@@ -84,7 +87,9 @@ fn is_path(role: u32, neighbour: u32, path: &[u32]) -> bool
     if !has_no_zero(path) {
         return false;
     }
-    (role == 4) | (path[0] == neighbour)
+    let server = Role::RouteServer.number();
+    let first = neighbour.0;
+    (role == server) | (path[0] == first)
 }
 
 // Route i keeps the rules; its path is at from..to.
@@ -92,46 +97,48 @@ fn is_route(led: &[u32], i: usize, from: usize, to: usize) -> bool
     requires { ⌜ PathFrom (now led) i from to ⌝ }
     ensures { λ r. ⌜ r ≡ routeOk (routeAt (routesOf (now (led .entry))) i) ⌝ }
 {
-    let slot = 2 + i * WIDTH;
+    let slot = table::COUNTERS + i * WIDTH;
     let role = led[slot + ROLE];
     let neighbour = led[slot + NEIGHBOUR];
     let ground = led[slot + GROUND];
     let verdict = led[slot + VERDICT];
     let a = led[slot + PLACE_A];
     let b = led[slot + PLACE_B];
-    let fits = ((1 <= role) & (role <= 6))
+    let fits = ((Role::LEAST <= role) & (role <= Role::GREATEST))
         & ((1 <= neighbour)
             & ((ground <= 3) & ((verdict <= 2) & ((a <= MOST_PLACE) & (b <= MOST_PLACE)))));
     if !fits {
         return false;
     }
     if ground == 0 {
-        return is_path(role, neighbour, &led[from..to]);
+        return is_path(role, AsNumber(neighbour), &led[from..to]);
     }
-    (to - from == 0) & ((verdict == 1) & ((a == 0) & ((b == 0) & !((ground == 2) & (role == 4)))))
+    let server = Role::RouteServer.number();
+    (to - from == 0)
+        & ((verdict == 1) & ((a == 0) & ((b == 0) & !((ground == 2) & (role == server)))))
 }
 
 // Route i stands behind the one before it.
 fn is_behind(led: &[u32], i: usize) -> bool
-    requires { ⌜ Sound 7 0 (now led) × (i < length (routesOf (now led))) ⌝ }
+    requires { ⌜ Sound routeHead routeTail (now led) × (i < length (routesOf (now led))) ⌝ }
     ensures { λ r. ⌜ r ≡ isBehind (routesOf (now (led .entry))) i ⌝ }
 {
     if i == 0 {
         return true;
     }
-    led[2 + (i - 1) * WIDTH] < led[2 + i * WIDTH]
+    led[table::COUNTERS + (i - 1) * WIDTH] < led[table::COUNTERS + i * WIDTH]
 }
 
 // Each route's own rules, and their order.
 fn are_routes(led: &[u32]) -> bool
-    requires { ⌜ Sound 7 0 (now led) ⌝ }
+    requires { ⌜ Sound routeHead routeTail (now led) ⌝ }
     ensures { λ r. ⌜ r ≡ (every routeOk (routesOf (now (led .entry))) && ascends keyOf eqb ltb (routesOf (now (led .entry)))) ⌝ }
 {
     let n = table::word(led, 0);
-    let mut from = 2 + n * WIDTH;
+    let mut from = table::COUNTERS + n * WIDTH;
     let mut i: usize = 0;
     while i < n {
-        let to = from + table::word(led, 2 + i * WIDTH + COUNT);
+        let to = from + table::word(led, table::COUNTERS + i * WIDTH + COUNT);
         if !is_behind(led, i) {
             return false;
         }
@@ -163,15 +170,16 @@ pub fn is_ledger(led: &[u32]) -> bool
 // ---- look-up
 
 // Where a route stands, or would stand: how many routes come before it.
-pub fn find(led: &[u32], number: u32) -> usize
+fn find(led: &[u32], number: RouteNumber) -> usize
     requires { ⌜ ledgerOk (now led) ≡ true ⌝ }
-    ensures { λ r. ⌜ (r ≡ positionOf number (routesOf (now (led .entry)))) × (r ≤ length (routesOf (now (led .entry)))) ⌝ }
+    ensures { λ r. ⌜ (r ≡ positionOf (number .0) (routesOf (now (led .entry)))) × (r ≤ length (routesOf (now (led .entry)))) ⌝ }
 {
     let mut low: usize = 0;
     let mut high = table::word(led, 0);
     while low < high {
         let middle = low + (high - low) / 2;
-        if led[2 + middle * WIDTH] < number {
+        let n = number.0;
+        if led[table::COUNTERS + middle * WIDTH] < n {
             low = middle + 1;
         } else {
             high = middle;
@@ -181,14 +189,78 @@ pub fn find(led: &[u32], number: u32) -> usize
 }
 
 // Whether the route at a position that `find` answered is the one looked for.
-pub fn is_at(led: &[u32], position: usize, number: u32) -> bool
-    requires { ⌜ (ledgerOk (now led) ≡ true) × (position ≡ positionOf number (routesOf (now led))) ⌝ }
-    ensures { λ r. ⌜ r ≡ holds keyOf eqb ltb number (routesOf (now (led .entry))) ⌝ }
+fn is_at(led: &[u32], position: usize, number: RouteNumber) -> bool
+    requires { ⌜ (ledgerOk (now led) ≡ true) × (position ≡ positionOf (number .0) (routesOf (now led))) ⌝ }
+    ensures { λ r. ⌜ r ≡ holdsRoute (number .0) (routesOf (now (led .entry))) ⌝ }
 {
+    let n = number.0;
     if position < table::word(led, 0) {
-        return led[2 + position * WIDTH] == number;
+        return led[table::COUNTERS + position * WIDTH] == n;
     }
     false
+}
+
+// ---- one route
+
+// How many routes there are.
+pub fn count(led: &[u32]) -> usize
+    requires { ⌜ ledgerOk (now led) ≡ true ⌝ }
+    ensures { λ r. ⌜ (r ≡ length (routesOf (now (led .entry)))) × (r ≤ mostRoutes) ⌝ }
+{
+    table::word(led, 0)
+}
+
+// How many numbers their paths hold together.
+pub fn path_words(led: &[u32]) -> usize
+    requires { ⌜ ledgerOk (now led) ≡ true ⌝ }
+    ensures { λ r. ⌜ r ≡ pathWords (routesOf (now (led .entry))) ⌝ }
+{
+    table::word(led, 1)
+}
+
+// The ground of route i, 0 where it has none.
+pub fn ground(led: &[u32], i: usize) -> u32
+    requires { ⌜ RouteIn (now led) i ⌝ }
+    ensures { λ r. ⌜ r ≡ routeAt (routesOf (now (led .entry))) i .ground ⌝ }
+{
+    led[table::COUNTERS + i * WIDTH + GROUND]
+}
+
+pub fn role(led: &[u32], i: usize) -> Role
+    requires { ⌜ RouteIn (now led) i ⌝ }
+    ensures { λ r. ⌜ roleNumber r ≡ routeAt (routesOf (now (led .entry))) i .role ⌝ }
+{
+    let RoleRead::Is(role) = Role::from_number(led[table::COUNTERS + i * WIDTH + ROLE]) else {
+        return Role::Customer;
+    };
+    role
+}
+
+pub fn path(led: &[u32], i: usize) -> &[u32]
+    requires { ⌜ RouteIn (now led) i ⌝ }
+    ensures { λ r. ⌜ now r ≡ routeAt (routesOf (now (led .entry))) i .path ⌝ }
+{
+    let slot = table::COUNTERS + i * WIDTH;
+    let from = table::COUNTERS + table::word(led, 0) * WIDTH + table::word(led, slot + START);
+    let to = from + table::word(led, slot + COUNT);
+    &led[from..to]
+}
+
+// Route i gets a verdict's word and places; answers whether one of them changed.
+pub fn stamp(led: &mut [u32], i: usize, v: Verdict) -> bool
+    requires { ⌜ RouteIn (now led) i ⌝ }
+    ensures { λ r. ⌜ effect r (now (led .exit)) ≡ changeEffect (now (led .entry)) i (stamped v) ⌝ }
+{
+    let slot = table::COUNTERS + i * WIDTH;
+    let word = v.number();
+    let a = v.place_a();
+    let b = v.place_b();
+    let same = (led[slot + VERDICT] == word)
+        & ((led[slot + PLACE_A] == a) & (led[slot + PLACE_B] == b));
+    led[slot + VERDICT] = word;
+    led[slot + PLACE_A] = a;
+    led[slot + PLACE_B] = b;
+    !same
 }
 
 // ---- the calls
@@ -212,9 +284,8 @@ pub fn store(
     ensures { λ r. ⌜ effect r (now (led .exit))
         ≡ storeEffect (now (led .entry)) (routeFor (number .0) (roleNumber role) (neighbour .0) verdict (now (path .entry))) ⌝ }
 {
-    let n = number.0;
-    let position = find(led, n);
-    if is_at(led, position, n) {
+    let position = find(led, number);
+    if is_at(led, position, number) {
         return Kept::Refused(Refusal::RouteTaken);
     }
     if MOST_ROUTES <= table::word(led, 0) {
@@ -223,6 +294,7 @@ pub fn store(
     if MOST_PATH_WORDS - table::word(led, 1) < path.len() {
         return Kept::Refused(Refusal::RoutesFull);
     }
+    let n = number.0;
     let m = neighbour.0;
     let head = [
         n,
@@ -246,9 +318,8 @@ pub fn drop(led: &mut [u32], number: RouteNumber) -> Removal
     if !is_ledger(led) {
         return Removal::Refused(Refusal::RoutesMalformed);
     }
-    let n = number.0;
-    let position = find(led, n);
-    if !is_at(led, position, n) {
+    let position = find(led, number);
+    if !is_at(led, position, number) {
         return Removal::Refused(Refusal::NoRoute);
     }
     table::remove(led, HEAD, TAIL, position);

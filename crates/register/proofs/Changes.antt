@@ -15,6 +15,7 @@ use Rattle.keyed.proofs.Finds.{every-put, every-without, find-put, find-without
 use Rattle.rules.specs.Records.{Record}
 use Rattle.register.specs.Register.{mostRecords, mostListed, lastSource, keyOf, listed, listOk, recordOk, roomFor, recordsOk}
 use Rattle.register.specs.Calls.{putRecord, eraseRecord, clearRecords, countRecords, ofSource}
+use Rattle.register.specs.Calls.{findRecord}
 use Rattle.register.proofs.Holding.{room-records, room-lists, has-room, each-ok, in-order}
 
 -- A record whose parts passed rows 4, 5 and 6.
@@ -59,9 +60,6 @@ module _ (rs : List Record) (e : recordsOk rs ≡ true) where
       (ascends-without keyOf samePair beforePair ordered-pairs test rs (in-order rs e)))
 
 -- ---- what is found after a call
-
-abbrev pub findRecord : ℕ × ℕ → List Record → Option Record
-findRecord k rs = find keyOf samePair beforePair k rs
 
 -- A filing changes the list of its own pair and of no other.
 pub filed-finds : (k : ℕ × ℕ) (r : Record) (rs : List Record) → findRecord k (putRecord r rs) ≡ cond (samePair k (keyOf r)) (some r) (findRecord k rs)

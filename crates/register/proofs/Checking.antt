@@ -15,7 +15,7 @@ use Rattle.table.proofs.Exact.{passes-sound}
 use Rattle.keyed.specs.Keyed.{samePair, beforePair, ascends, ascendsFrom, every}
 use Rattle.keyed.proofs.Orders.{both-left, above-zero, before-test, first}
 use Rattle.rules.specs.Records.{Record}
-use Rattle.register.specs.Register.{headWords, tailWords, slotWords, sourceWord, countWord, mostRecords, mostListed, mostProviders, lastSource, recordsOf, recordAt, keyOf, listed}
+use Rattle.register.specs.Register.{recordHead, recordTail, recordWidth, sourceWord, countWord, mostRecords, mostListed, mostProviders, lastSource, recordsOf, recordAt, keyOf, listed}
 use Rattle.register.specs.Register.{rises, listOk, recordOk, roomFor, recordsOk, registerOk}
 use Rattle.register.specs.Helpers.{descentsIn}
 use Rattle.register.proofs.Entries.{length-records, record-count, list-count, slot-within, customer-is, source-is, length-is, list-is, list-within}
@@ -115,23 +115,23 @@ rules-step k l r rs x =
 
 -- The numbers in the lists that end at from.
 abbrev pub passed : List ℕ → ℕ → ℕ → List ℕ
-passed ws n from = take (from - (counters + n * slotWords)) (drop (counters + n * slotWords) ws)
+passed ws n from = take (from - (counters + n * recordWidth)) (drop (counters + n * recordWidth) ws)
 
 -- The loop over the records: the rules of those that are left are what is left to find, and that numbers descended only between lists.
 pub record Checked (ws : List ℕ) (n customer source between from i : ℕ) : Type 0 where
-  pub sound : Sound headWords tailWords ws
+  pub sound : Sound recordHead recordTail ws
   pub count : n ≡ length (recordsOf ws)
   pub within : i ≤ n
-  pub start : from ≡ counters + n * slotWords + listed (take i (recordsOf ws))
+  pub start : from ≡ counters + n * recordWidth + listed (take i (recordsOf ws))
   pub few : between ≤ i
   pub over : between ≤ descentsIn (passed ws n from)
   pub same : (rulesFrom customer source (drop i (recordsOf ws)) && eqb (descentsIn (passed ws n from)) between) ≡ rules (recordsOf ws)
 
 -- The loop starts at (0, 0), before the first record.
-pub checks : {ws : List ℕ} {n : ℕ} → Sound headWords tailWords ws → n ≡ getD ws 0 0 → Checked ws n 0 0 0 (counters + n * slotWords) 0
+pub checks : {ws : List ℕ} {n : ℕ} → Sound recordHead recordTail ws → n ≡ getD ws 0 0 → Checked ws n 0 0 0 (counters + n * recordWidth) 0
 unfolding listed descentsIn
 checks {ws} {n} s e =
-    let z : counters + n * slotWords - (counters + n * slotWords) ≡ 0 = omega arith in
+    let z : counters + n * recordWidth - (counters + n * recordWidth) ≡ 0 = omega arith in
     record {
       sound = s;
       count = e ∙ record-count ws s;
@@ -144,14 +144,14 @@ checks {ws} {n} s e =
 
 module _ {ws : List ℕ} {n customer source between from i : ℕ} (g : Checked ws n customer source between from i) where
   -- The lists passed hold no more numbers than word 1 says.
-  pub lists-few : from - (counters + n * slotWords) ≤ getD ws 1 0
+  pub lists-few : from - (counters + n * recordWidth) ≤ getD ws 1 0
   lists-few = omega (arith, listed-take (recordsOf ws) i, list-count ws (g .sound))
 
   -- They end within the words.
   pub lists-inside : from ≤ length ws
   lists-inside =
       let s = g .sound in
-      omega (arith, s .fits, body-is headWords tailWords ws s, length-records ws s, lists-few)
+      omega (arith, s .fits, body-is recordHead recordTail ws s, length-records ws s, lists-few)
 
   -- No record is left.
   pub all-checked : n ≤ i → eqb (descentsIn (passed ws n from)) between ≡ rules (recordsOf ws)
@@ -166,18 +166,18 @@ module _ {ws : List ℕ} {n customer source between from i : ℕ} (g : Checked w
     inside = omega (arith, g .count)
 
     -- The slot lies within the words.
-    pub slot-inside : counters + i * slotWords + slotWords ≤ length ws
+    pub slot-inside : counters + i * recordWidth + recordWidth ≤ length ws
     slot-inside = slot-within ws (g .sound) i inside
 
     -- Its customer, as read.
     abbrev cust : ℕ
-    cust = getD ws (counters + i * slotWords) 0
+    cust = getD ws (counters + i * recordWidth) 0
 
     -- Its source, as read.
     abbrev src : ℕ
-    src = getD ws (counters + i * slotWords + sourceWord) 0
+    src = getD ws (counters + i * recordWidth + sourceWord) 0
 
-    module _ {m : ℕ} (e : m ≡ getD ws (counters + i * slotWords + countWord) 0) where
+    module _ {m : ℕ} (e : m ≡ getD ws (counters + i * recordWidth + countWord) 0) where
       -- The count read is the list's length.
       count-is : m ≡ length (recordAt (recordsOf ws) i .providers)
       count-is = e ∙ length-is ws (g .sound) i inside
@@ -236,31 +236,31 @@ module _ {ws : List ℕ} {n customer source between from i : ℕ} (g : Checked w
               }
 
           -- A record with no list before it.
-          pub checks-first : from ≤ counters + n * slotWords → now ≡ between → Checked ws n cust src now (from + m) (i + 1)
+          pub checks-first : from ≤ counters + n * recordWidth → now ≡ between → Checked ws n cust src now (from + m) (i + 1)
           checks-first p t =
-              checks-on 0 (omega arith) (omega arith) (join-first ws (counters + n * slotWords) from m (omega arith) p)
+              checks-on 0 (omega arith) (omega arith) (join-first ws (counters + n * recordWidth) from m (omega arith) p)
 
           -- A record with lists before it.
-          pub checks-next : counters + n * slotWords < from → now ≡ between + fall (getD ws (from - 1) 0) (getD ws from 0)
+          pub checks-next : counters + n * recordWidth < from → now ≡ between + fall (getD ws (from - 1) 0) (getD ws from 0)
               → Checked ws n cust src now (from + m) (i + 1)
           checks-next p t =
               let x = getD ws (from - 1) 0 in
               let y = getD ws from 0 in
               checks-on (fall x y) (fall-small x y) t
-              (join-next ws (counters + n * slotWords) from m (omega arith) p not-empty list-inside)
+              (join-next ws (counters + n * recordWidth) from m (omega arith) p not-empty list-inside)
 
 -- ---- the whole register
 
 -- Words that are no packed table.
-pub not-formed : (ws : List ℕ) → wellFormed headWords tailWords ws ≡ false → false ≡ registerOk ws
+pub not-formed : (ws : List ℕ) → wellFormed recordHead recordTail ws ≡ false → false ≡ registerOk ws
 unfolding registerOk
 not-formed ws e = rw e
 
-module _ (ws : List ℕ) (e : wellFormed headWords tailWords ws ≡ true) where
+module _ (ws : List ℕ) (e : wellFormed recordHead recordTail ws ≡ true) where
   -- The two limits, on the words.
   limits : registerOk ws ≡ ((leb (getD ws 0 0) mostRecords && leb (getD ws 1 0) mostListed) && rules (recordsOf ws))
   unfolding registerOk recordsOk roomFor
-  limits = let s = passes-sound headWords tailWords ws e in rw (e, record-count ws s, list-count ws s)
+  limits = let s = passes-sound recordHead recordTail ws e in rw (e, record-count ws s, list-count ws s)
 
   -- Too many records.
   pub records-over : mostRecords < getD ws 0 0 → false ≡ registerOk ws

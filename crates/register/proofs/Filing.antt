@@ -23,7 +23,7 @@ use Rattle.keyed.proofs.Orders.{ordered-pairs, both-intro}
 use Rattle.keyed.proofs.Ranks.{rank-within}
 use Rattle.keyed.proofs.Puts.{length-put-new, length-put-over}
 use Rattle.rules.specs.Records.{Record}
-use Rattle.register.specs.Register.{headWords, tailWords, slotWords, sourceWord, countWord, registerWords, mostRecords, mostListed, lastSource, entryOf, recordsOf, registerOf, recordAt, keyOf, listed, listOk, roomFor, registerOk, positionOf}
+use Rattle.register.specs.Register.{recordHead, recordTail, recordWidth, sourceWord, countWord, registerWords, mostRecords, mostListed, lastSource, entryOf, recordsOf, registerOf, recordAt, keyOf, listed, listOk, roomFor, registerOk, positionOf}
 use Rattle.register.specs.Helpers.{Passed}
 use Rattle.register.specs.Calls.{holdsRecord, putRecord, eraseRecord, clearRecords, countRecords, recordFor, fileEffect, withdrawEffect, clearEffect}
 use Rattle.register.proofs.Entries.{decoded, length-records, record-count, list-count, length-is, slot-within, listed-next, listed-take, bodies-listed, length-entries}
@@ -67,7 +67,7 @@ module _ {ws : List ℕ} {position source customer : ℕ} {list : List ℕ} (p :
   abbrev r : Record
   r = recordFor source customer list
 
-  s : Sound headWords tailWords ws
+  s : Sound recordHead recordTail ws
   s = sound ws (p .ok)
 
   file-full : roomFor (putRecord r rs) ≡ false → fileEffect ws source customer list ≡ record { answer = filed.Refused RegisterFull; words = ws }
@@ -75,7 +75,7 @@ module _ {ws : List ℕ} {position source customer : ℕ} {list : List ℕ} (p :
   file-full e =
       rw (eq-eqb (length ws) registerWords (p .long), p .ok, le-ltb lastSource source (p .known), ne-eqb customer 0 (p .some), p .rising, e)
 
-  file-done : (b : Bool) → holdsRecord customer source rs ≡ b → roomFor (putRecord r rs) ≡ true
+  pub file-done : (b : Bool) → holdsRecord customer source rs ≡ b → roomFor (putRecord r rs) ≡ true
       → fileEffect ws source customer list ≡ record { answer = cond b filed.Replaced filed.New; words = registerOf (putRecord r rs) }
   unfolding fileEffect firstGiven
   file-done b h e =
@@ -98,7 +98,7 @@ module _ {ws : List ℕ} {position source customer : ℕ} {list : List ℕ} (p :
   unfolding positionOf
   position-in = rw (p .here) (rank-within keyOf samePair beforePair (customer, source) rs)
 
-  body-count : length (bodies (decode headWords tailWords ws)) ≡ listed rs
+  body-count : length (bodies (decode recordHead recordTail ws)) ≡ listed rs
   body-count = ap (λ es. length (bodies es)) (decoded ws s) ∙ bodies-listed rs
 
   -- A new record.
@@ -116,7 +116,7 @@ module _ {ws : List ℕ} {position source customer : ℕ} {list : List ℕ} (p :
         file-full (rw (lt-leb (listed (putRecord r rs)) mostListed (omega (arith, little))) (and-false (leb (length (putRecord r rs)) mostRecords)))
 
     module _ (more : length rs < mostRecords) (room : length list ≤ mostListed - listed rs) where
-      pub new-fits : Insertable headWords tailWords ws position (entryOf r)
+      pub new-fits : Insertable recordHead recordTail ws position (entryOf r)
       new-fits =
           record {
             sound = s;
@@ -127,7 +127,7 @@ module _ {ws : List ℕ} {position source customer : ℕ} {list : List ℕ} (p :
             small = omega (arith, p .long);
           }
 
-      pub new-done : {ws' : List ℕ} → ws' ≡ encode (length ws) (insertAt position (entryOf r) (decode headWords tailWords ws))
+      pub new-done : {ws' : List ℕ} → ws' ≡ encode (length ws) (insertAt position (entryOf r) (decode recordHead recordTail ws))
           → effect filed.New ws' ≡ fileEffect ws source customer list
       unfolding roomFor registerOf
       new-done {ws'} e = ap (effect filed.New) (e ∙ words) ∙ sym done
@@ -141,7 +141,7 @@ module _ {ws : List ℕ} {position source customer : ℕ} {list : List ℕ} (p :
           done : fileEffect ws source customer list ≡ record { answer = filed.New; words = registerOf (putRecord r rs) }
           done = file-done false free fits
 
-          words : encode (length ws) (insertAt position (entryOf r) (decode headWords tailWords ws)) ≡ encode registerWords (map entryOf (putRecord r rs))
+          words : encode (length ws) (insertAt position (entryOf r) (decode recordHead recordTail ws)) ≡ encode registerWords (map entryOf (putRecord r rs))
           words =
               (λ i. encode (p .long i) (insertAt (p .here i) (entryOf r) (decoded ws s i)))
               ∙ ap (encode registerWords) (inserted-entries (positionOf customer source rs) r rs ∙ ap (map entryOf) (sym (put-at r rs free)))
@@ -154,11 +154,11 @@ module _ {ws : List ℕ} {position source customer : ℕ} {list : List ℕ} (p :
     pub position-under : position < length rs
     position-under = rw (p .here) (position-within r rs asc taken)
 
-    pub old-slot : counters + position * slotWords + slotWords ≤ length ws
+    pub old-slot : counters + position * recordWidth + recordWidth ≤ length ws
     old-slot = slot-within ws s position position-under
 
     -- The numbers of the list that goes.
-    pub old-word : getD ws (counters + position * slotWords + countWord) 0 ≡ length (recordAt rs position .providers)
+    pub old-word : getD ws (counters + position * recordWidth + countWord) 0 ≡ length (recordAt rs position .providers)
     old-word = length-is ws s position position-under
 
     pub old-within : length (recordAt rs position .providers) ≤ listed rs
@@ -173,19 +173,19 @@ module _ {ws : List ℕ} {position source customer : ℕ} {list : List ℕ} (p :
     full-over h =
         file-full (rw (lt-leb (listed (putRecord r rs)) mostListed (omega (arith, others, old-within, little))) (and-false (leb (length (putRecord r rs)) mostRecords)))
 
-    pub old-goes : Removable headWords tailWords ws position
+    pub old-goes : Removable recordHead recordTail ws position
     old-goes = record { sound = s; within = omega (arith, position-under, length-records ws s); small = omega (arith, p .long) }
 
     module _ (room : length list ≤ mostListed - (listed rs - length (recordAt rs position .providers)))
-        {ws₁ : List ℕ} (gone : ws₁ ≡ encode (length ws) (removeAt position (decode headWords tailWords ws))) (long₁ : length ws₁ ≡ length ws) where
+        {ws₁ : List ℕ} (gone : ws₁ ≡ encode (length ws) (removeAt position (decode recordHead recordTail ws))) (long₁ : length ws₁ ≡ length ws) where
       abbrev rest : List Record
       rest = take position rs ++ drop (suc position) rs
 
-      now-sound : Sound headWords tailWords ws₁
-      now-sound = removed headWords tailWords ws position ws₁ old-goes gone .0
+      now-sound : Sound recordHead recordTail ws₁
+      now-sound = removed recordHead recordTail ws position ws₁ old-goes gone .0
 
-      now-holds : decode headWords tailWords ws₁ ≡ map entryOf rest
-      now-holds = removed headWords tailWords ws position ws₁ old-goes gone .1 ∙ ap (removeAt position) (decoded ws s) ∙ removed-entries position rs
+      now-holds : decode recordHead recordTail ws₁ ≡ map entryOf rest
+      now-holds = removed recordHead recordTail ws position ws₁ old-goes gone .1 ∙ ap (removeAt position) (decoded ws s) ∙ removed-entries position rs
 
       front : length (take position rs) ≡ position
       front = length-take-le position rs (omega (arith, position-under))
@@ -196,10 +196,10 @@ module _ {ws : List ℕ} {position source customer : ℕ} {list : List ℕ} (p :
       rest-listed : listed rest + length (recordAt rs position .providers) ≡ listed rs
       rest-listed = omega (arith, listed-append (take position rs) (drop (suc position) rs), listed-at position rs position-under)
 
-      pub over-fits : Insertable headWords tailWords ws₁ position (entryOf r)
+      pub over-fits : Insertable recordHead recordTail ws₁ position (entryOf r)
       over-fits =
-          let n : length (decode headWords tailWords ws₁) ≡ length rest = ap length now-holds ∙ length-entries rest in
-          let b : length (bodies (decode headWords tailWords ws₁)) ≡ listed rest = ap (λ es. length (bodies es)) now-holds ∙ bodies-listed rest in
+          let n : length (decode recordHead recordTail ws₁) ≡ length rest = ap length now-holds ∙ length-entries rest in
+          let b : length (bodies (decode recordHead recordTail ws₁)) ≡ listed rest = ap (λ es. length (bodies es)) now-holds ∙ bodies-listed rest in
           record {
             sound = now-sound;
             within = omega (arith, position-under, rest-length);
@@ -209,7 +209,7 @@ module _ {ws : List ℕ} {position source customer : ℕ} {list : List ℕ} (p :
             small = omega (arith, p .long);
           }
 
-      pub over-done : {ws₂ : List ℕ} → ws₂ ≡ encode (length ws₁) (insertAt position (entryOf r) (decode headWords tailWords ws₁))
+      pub over-done : {ws₂ : List ℕ} → ws₂ ≡ encode (length ws₁) (insertAt position (entryOf r) (decode recordHead recordTail ws₁))
           → effect filed.Replaced ws₂ ≡ fileEffect ws source customer list
       unfolding roomFor registerOf
       over-done {ws₂} e = ap (effect filed.Replaced) (e ∙ words) ∙ sym done
@@ -225,7 +225,7 @@ module _ {ws : List ℕ} {position source customer : ℕ} {list : List ℕ} (p :
           put-here : putRecord r rs ≡ take position rs ++ (r ∷ drop (suc position) rs)
           put-here = rw (p .here) (put-in-position r rs asc taken)
 
-          words : encode (length ws₁) (insertAt position (entryOf r) (decode headWords tailWords ws₁)) ≡ encode registerWords (map entryOf (putRecord r rs))
+          words : encode (length ws₁) (insertAt position (entryOf r) (decode recordHead recordTail ws₁)) ≡ encode registerWords (map entryOf (putRecord r rs))
           words =
               (λ i. encode ((long₁ ∙ p .long) i) (insertAt position (entryOf r) (now-holds i)))
               ∙ ap (encode registerWords) (inserted-entries position r rest)
@@ -263,18 +263,18 @@ module _ (ws : List ℕ) (source customer : ℕ) where
             asc' : ascends keyOf samePair beforePair (recordsOf ws) ≡ true
             asc' = ordered ws b
 
-            pub withdraw-goes : Removable headWords tailWords ws position
+            pub withdraw-goes : Removable recordHead recordTail ws position
             withdraw-goes =
                 let h : position < length (recordsOf ws) = rw f (position-within (recordFor source customer []) (recordsOf ws) asc' e) in
                 record { sound = sound ws b; within = omega (arith, length-records ws (sound ws b)); small = omega (arith, a) }
 
-            pub withdraw-done : {ws' : List ℕ} → ws' ≡ encode (length ws) (removeAt position (decode headWords tailWords ws))
+            pub withdraw-done : {ws' : List ℕ} → ws' ≡ encode (length ws) (removeAt position (decode recordHead recordTail ws))
                 → effect removal.Done ws' ≡ withdrawEffect ws source customer
             unfolding registerOf withdrawEffect firstGiven
             withdraw-done {ws'} g =
                 rw (eq-eqb (length ws) registerWords a, b, le-ltb lastSource source c, ne-eqb customer 0 d, e) (ap (effect removal.Done) (g ∙ words))
               where
-                words : encode (length ws) (removeAt position (decode headWords tailWords ws)) ≡ encode registerWords (map entryOf (eraseRecord customer source (recordsOf ws)))
+                words : encode (length ws) (removeAt position (decode recordHead recordTail ws)) ≡ encode registerWords (map entryOf (eraseRecord customer source (recordsOf ws)))
                 words =
                     (λ i. encode (a i) (removeAt (f i) (decoded ws (sound ws b) i)))
                     ∙ ap (encode registerWords)
@@ -309,13 +309,13 @@ module _ (ws : List ℕ) (source : ℕ) where
       unfolding clearEffect firstGiven
       clear-source c = rw (eq-eqb (length ws) registerWords a, b, lt-ltb lastSource source c)
 
-      pub clear-may : Clearable headWords tailWords ws sourceWord
+      pub clear-may : Clearable recordHead recordTail ws sourceWord
       clear-may = record { sound = sound ws b; within = omega arith; small = omega (arith, a) }
 
-      kept : stayingEntries sourceWord source (decode headWords tailWords ws) ≡ map entryOf (clearRecords source (recordsOf ws))
+      kept : stayingEntries sourceWord source (decode recordHead recordTail ws) ≡ map entryOf (clearRecords source (recordsOf ws))
       kept = ap (stayingEntries sourceWord source) (decoded ws (sound ws b)) ∙ kept-entries source (recordsOf ws)
 
-      module _ {gone : ℕ} (g : gone + length (stayingEntries sourceWord source (decode headWords tailWords ws)) ≡ length (decode headWords tailWords ws)) where
+      module _ {gone : ℕ} (g : gone + length (stayingEntries sourceWord source (decode recordHead recordTail ws)) ≡ length (decode recordHead recordTail ws)) where
         pub gone-is : gone ≡ countRecords source (recordsOf ws)
         gone-is =
             omega (
@@ -328,7 +328,7 @@ module _ (ws : List ℕ) (source : ℕ) where
         pub gone-few : gone ≤ mostRecords
         gone-few = omega (arith, length-records ws (sound ws b), room-records (recordsOf ws) (has-room (recordsOf ws) (records-ok ws b)))
 
-        pub clear-done : {ws' : List ℕ} → source ≤ lastSource → ws' ≡ encode (length ws) (stayingEntries sourceWord source (decode headWords tailWords ws))
+        pub clear-done : {ws' : List ℕ} → source ≤ lastSource → ws' ≡ encode (length ws) (stayingEntries sourceWord source (decode recordHead recordTail ws))
             → effect (cleared.Gone gone) ws' ≡ clearEffect ws source
         unfolding clearEffect firstGiven registerOf
         clear-done c e =

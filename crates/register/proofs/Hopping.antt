@@ -12,7 +12,7 @@ use Rattle.table.specs.Table.{counters}
 use Rattle.keyed.specs.Keyed.{samePair, beforePair, ascends}
 use Rattle.keyed.proofs.Orders.{BeforePair, first, second, before-says, before-self}
 use Rattle.rules.specs.Records.{Record, isIn, attested, united, hopOf}
-use Rattle.register.specs.Register.{slotWords, startWord, countWord, recordsOf, recordAt, keyOf, positionOf, listed, registerOk}
+use Rattle.register.specs.Register.{recordWidth, startWord, countWord, recordsOf, recordAt, keyOf, positionOf, listed, registerOk}
 use Rattle.register.proofs.Entries.{list-start, length-is, list-is, list-within, customer-is}
 use Rattle.register.proofs.Holding.{sound, ordered}
 use Rattle.register.proofs.Looking.{position-within, position-below, position-above, position-under, count-is, slot-in}
@@ -89,15 +89,15 @@ module _ {ws : List ℕ} {position x n i : ℕ} (b : Passing ws position x n i) 
     inside = omega arith
 
     -- Row i is within the words.
-    pub row-of : counters + i * slotWords + slotWords ≤ length ws
+    pub row-of : counters + i * recordWidth + recordWidth ≤ length ws
     row-of = slot-in ws (b .ok) i inside
 
     -- Its first word is the customer.
-    customer-of : getD ws (counters + i * slotWords) 0 ≡ recordAt (recordsOf ws) i .customer
+    customer-of : getD ws (counters + i * recordWidth) 0 ≡ recordAt (recordsOf ws) i .customer
     customer-of = customer-is ws (sound ws (b .ok)) i inside
 
     -- It is x's.
-    pub passes : getD ws (counters + i * slotWords) 0 ≡ x → Passing ws position x n (i + 1)
+    pub passes : getD ws (counters + i * recordWidth) 0 ≡ x → Passing ws position x n (i + 1)
     passes e =
         record {
           ok = b .ok;
@@ -109,7 +109,7 @@ module _ {ws : List ℕ} {position x n i : ℕ} (b : Passing ws position x n i) 
               (sym (or-true (ltb position i)) ∙ ap (λ t. ltb position i || t) (sym (attests x (recordsOf ws) i inside (sym customer-of ∙ e))) ∙ b .seen);
         }
 
-    module _ {u v : ℕ} (eu : u ≡ getD ws (counters + i * slotWords + startWord) 0) (ev : v ≡ getD ws (counters + i * slotWords + countWord) 0) where
+    module _ {u v : ℕ} (eu : u ≡ getD ws (counters + i * recordWidth + startWord) 0) (ev : v ≡ getD ws (counters + i * recordWidth + countWord) 0) where
       -- Its list's start.
       start-of : u ≡ listed (take i (recordsOf ws))
       start-of = eu ∙ list-start ws (sound ws (b .ok)) i inside
@@ -119,20 +119,20 @@ module _ {ws : List ℕ} {position x n i : ℕ} (b : Passing ws position x n i) 
       length-of = ev ∙ length-is ws (sound ws (b .ok)) i inside
 
       -- Its list is within the words.
-      pub list-in : counters + n * slotWords + u + v ≤ length ws
+      pub list-in : counters + n * recordWidth + u + v ≤ length ws
       list-in = omega (arith, start-of, length-of, list-within ws (sound ws (b .ok)) i inside)
 
       -- The part of the words that it is.
-      list-of : take (counters + n * slotWords + u + v - (counters + n * slotWords + u)) (drop (counters + n * slotWords + u) ws) ≡ recordAt (recordsOf ws) i .providers
+      list-of : take (counters + n * recordWidth + u + v - (counters + n * recordWidth + u)) (drop (counters + n * recordWidth + u) ws) ≡ recordAt (recordsOf ws) i .providers
       list-of =
-          let z : counters + n * slotWords + u + v - (counters + n * slotWords + u) ≡ v = omega arith in
-          (λ q. take (z q) (drop (counters + n * slotWords + u) ws))
-          ∙ (λ q. take (length-of q) (drop (counters + b .counted q * slotWords + start-of q) ws))
+          let z : counters + n * recordWidth + u + v - (counters + n * recordWidth + u) ≡ v = omega arith in
+          (λ q. take (z q) (drop (counters + n * recordWidth + u) ws))
+          ∙ (λ q. take (length-of q) (drop (counters + b .counted q * recordWidth + start-of q) ws))
           ∙ list-is ws (sound ws (b .ok)) i inside
 
       -- The flag, with whether its list holds y.
-      pub hears : {y : ℕ} {has has' : Bool} → getD ws (counters + i * slotWords) 0 ≡ x → Hearing ws x y has i
-          → has' ≡ isIn y (take (counters + n * slotWords + u + v - (counters + n * slotWords + u)) (drop (counters + n * slotWords + u) ws)) → Hearing ws x y (has || has') (i + 1)
+      pub hears : {y : ℕ} {has has' : Bool} → getD ws (counters + i * recordWidth) 0 ≡ x → Hearing ws x y has i
+          → has' ≡ isIn y (take (counters + n * recordWidth + u + v - (counters + n * recordWidth + u)) (drop (counters + n * recordWidth + u) ws)) → Hearing ws x y (has || has') (i + 1)
       hears {y} {has} {has'} e s t =
           record {
             says =
@@ -146,7 +146,7 @@ module _ {ws : List ℕ} {position x n i : ℕ} (b : Passing ws position x n i) 
   none-left h = past-all x (recordsOf ws) i (omega arith)
 
   -- From i on no record is x's: the one at i is another's.
-  pub others-left : i < n → (getD ws (counters + i * slotWords) 0 ≡ x → ⊥) → attested (drop i (recordsOf ws)) x ≡ false
+  pub others-left : i < n → (getD ws (counters + i * recordWidth) 0 ≡ x → ⊥) → attested (drop i (recordsOf ws)) x ≡ false
   others-left h t =
       ap (λ s. s .0) (skips x (recordsOf ws) i (length (recordsOf ws)) (omega arith) (omega arith) none)
       ∙ past-all x (recordsOf ws) (length (recordsOf ws)) (omega arith)

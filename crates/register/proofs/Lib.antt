@@ -10,3 +10,4 @@ pub mod Placing
 pub mod Changes
 pub mod Refusals
 pub mod Filing
+pub mod Laws

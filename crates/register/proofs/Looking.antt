@@ -13,7 +13,7 @@ use Rattle.keyed.specs.Keyed.{samePair, beforePair, ascends}
 use Rattle.keyed.proofs.Orders.{ordered-pairs, same-flip}
 use Rattle.keyed.proofs.Ranks.{rank-within, rank-below, rank-above, rank-over, rank-under, holds-not-end, holds-is}
 use Rattle.rules.specs.Records.{Record}
-use Rattle.register.specs.Register.{headWords, tailWords, slotWords, sourceWord, mostRecords, recordsOf, recordAt, keyOf, positionOf, registerOk}
+use Rattle.register.specs.Register.{recordHead, recordTail, recordWidth, sourceWord, mostRecords, recordsOf, recordAt, keyOf, positionOf, registerOk}
 use Rattle.register.specs.Helpers.{Within}
 use Rattle.register.specs.Calls.{holdsRecord}
 use Rattle.register.proofs.Entries.{record-count, customer-is, source-is, slot-within}
@@ -52,7 +52,7 @@ module _ (rs : List Record) (a : ascends keyOf samePair beforePair rs ≡ true) 
 module _ (ws : List ℕ) (e : registerOk ws ≡ true) where
   -- The two counts are within the words.
   pub head-within : counters ≤ length ws
-  head-within = long headWords tailWords ws (sound ws e)
+  head-within = long recordHead recordTail ws (sound ws e)
 
   -- Word 0 counts the records.
   pub count-is : getD ws 0 0 ≡ length (recordsOf ws)
@@ -63,12 +63,12 @@ module _ (ws : List ℕ) (e : registerOk ws ≡ true) where
   few = room-records (recordsOf ws) (has-room (recordsOf ws) (records-ok ws e))
 
   -- Row i is within the words.
-  pub slot-in : (i : ℕ) → i < length (recordsOf ws) → counters + i * slotWords + slotWords ≤ length ws
+  pub slot-in : (i : ℕ) → i < length (recordsOf ws) → counters + i * recordWidth + recordWidth ≤ length ws
   slot-in i h = slot-within ws (sound ws e) i h
 
   -- The key words of slot i.
   pub key-is : (i : ℕ) → i < length (recordsOf ws)
-      → _≡_ {A = ℕ × ℕ} (getD ws (counters + i * slotWords) 0, getD ws (counters + i * slotWords + sourceWord) 0) (keyOf (recordAt (recordsOf ws) i))
+      → _≡_ {A = ℕ × ℕ} (getD ws (counters + i * recordWidth) 0, getD ws (counters + i * recordWidth + sourceWord) 0) (keyOf (recordAt (recordsOf ws) i))
   key-is i h = λ q. (customer-is ws (sound ws e) i h q, source-is ws (sound ws e) i h q)
 
   module _ (c s : ℕ) {position n : ℕ} (p : position ≡ positionOf c s (recordsOf ws)) (q : n ≡ getD ws 0 0) where
@@ -81,11 +81,11 @@ module _ (ws : List ℕ) (e : registerOk ws ≡ true) where
 
     module _ (h : position < n) where
       -- The slot at the position is within the words.
-      pub there-in : counters + position * slotWords + slotWords ≤ length ws
+      pub there-in : counters + position * recordWidth + recordWidth ≤ length ws
       there-in = slot-in position (omega (arith, count-is))
 
       -- What stands at the position decides whether the register holds the record.
-      decides : holdsRecord c s (recordsOf ws) ≡ (eqb (getD ws (counters + position * slotWords) 0) c && eqb (getD ws (counters + position * slotWords + sourceWord) 0) s)
+      decides : holdsRecord c s (recordsOf ws) ≡ (eqb (getD ws (counters + position * recordWidth) 0) c && eqb (getD ws (counters + position * recordWidth + sourceWord) 0) s)
       unfolding positionOf
       decides =
           rw p (
@@ -94,12 +94,12 @@ module _ (ws : List ℕ) (e : registerOk ws ≡ true) where
           ∙ (λ t. samePair (sym (key-is (positionOf c s (recordsOf ws)) (omega (arith, count-is))) t) (c, s)))
 
       -- The customer is the pair's: the source decides.
-      pub there : getD ws (counters + position * slotWords) 0 ≡ c → eqb (getD ws (counters + position * slotWords + sourceWord) 0) s ≡ holdsRecord c s (recordsOf ws)
-      there t = rw (decides, eq-eqb (getD ws (counters + position * slotWords) 0) c t)
+      pub there : getD ws (counters + position * recordWidth) 0 ≡ c → eqb (getD ws (counters + position * recordWidth + sourceWord) 0) s ≡ holdsRecord c s (recordsOf ws)
+      there t = rw (decides, eq-eqb (getD ws (counters + position * recordWidth) 0) c t)
 
       -- It is not: the register does not hold the record.
-      pub other : (getD ws (counters + position * slotWords) 0 ≡ c → ⊥) → false ≡ holdsRecord c s (recordsOf ws)
-      other t = rw (decides, ne-eqb (getD ws (counters + position * slotWords) 0) c t)
+      pub other : (getD ws (counters + position * recordWidth) 0 ≡ c → ⊥) → false ≡ holdsRecord c s (recordsOf ws)
+      other t = rw (decides, ne-eqb (getD ws (counters + position * recordWidth) 0) c t)
 
 -- ---- the search
 

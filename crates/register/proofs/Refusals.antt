@@ -23,8 +23,9 @@ use Rattle.types.proofs.Refusing.{row-passed, accepted-none, answers-first, ref
 use Rattle.table.proofs.Exact.{length-encode}
 use Rattle.keyed.specs.Keyed.{samePair}
 use Rattle.rules.specs.Records.{Record}
-use Rattle.register.specs.Register.{headWords, tailWords, registerWords, lastSource, recordsOf, registerOf, entryOf, listOk, roomFor, recordsOk, registerOk}
+use Rattle.register.specs.Register.{recordHead, recordTail, registerWords, lastSource, recordsOf, registerOf, entryOf, listOk, roomFor, recordsOk, registerOk}
 use Rattle.register.specs.Calls.{tableRow, registerRow, sourceRow, customerRow, holdsRecord, countRecords, ofSource, recordFor, putRecord, eraseRecord, clearRecords, filedAs, fileRows, withdrawRows, clearRows, fileEffect, withdrawEffect, clearEffect}
+pub use Rattle.register.specs.Laws.{Register}
 use Rattle.register.proofs.Entries.{entries-wide, records-fit}
 use Rattle.register.proofs.Holding.{room-records, room-lists, has-room, words-ok, records-ok}
 use Rattle.register.proofs.Changes.{record-ok, put-ok, without-ok}
@@ -126,12 +127,7 @@ module _ (ws : List ℕ) (source customer : ℕ) where
 
 length-words : (rs : List Record) → roomFor rs ≡ true → length (registerOf rs) ≡ registerWords
 unfolding registerOf
-length-words rs e = length-encode headWords tailWords registerWords (map entryOf rs) (entries-wide rs) (records-fit rs (room-records rs e) (room-lists rs e))
-
--- A register of the right length that keeps the word rules.
-pub record Register (ws : List ℕ) : Type 0 where
-  pub long : length ws ≡ registerWords
-  pub ok : registerOk ws ≡ true
+length-words rs e = length-encode recordHead recordTail registerWords (map entryOf rs) (entries-wide rs) (records-fit rs (room-records rs e) (room-lists rs e))
 
 pub records-register : (rs : List Record) → recordsOk rs ≡ true → Register (registerOf rs)
 records-register rs e = record { long = length-words rs (has-room rs e); ok = words-ok rs e }

@@ -12,6 +12,7 @@ use lib.Seq.{drop-cons, drop-nil}
 use Rattle.types.specs.declared.Hop.the-variants.{NoAttestation, ProviderPlus, NotProviderPlus}
 use Rattle.rules.specs.Records.{Record, isIn, attested, united, hopOf}
 use Rattle.register.specs.Register.{recordAt}
+use Rattle.register.specs.Laws.{Lists}
 
 -- ---- lists of numbers
 
@@ -132,13 +133,6 @@ listed-united (r ∷ rs) x y (suc i) h e t = go (eqb (r .customer) x) (listed-un
     go : (b : Bool) → isIn y (united rs x) ≡ true → isIn y (cond b (r .providers ++ united rs x) (united rs x)) ≡ true
     go true ih = in-append y (r .providers) (united rs x) ∙ either-right (isIn y (r .providers)) (isIn y (united rs x)) ih
     go false ih = ih
-
--- A record of a customer, whose list holds a number.
-pub record Lists (rs : List Record) (x y : ℕ) : Type 0 where
-  pub at : ℕ
-  pub within : at < length rs
-  pub owner : recordAt rs at .customer ≡ x
-  pub inside : isIn y (recordAt rs at .providers) ≡ true
 
 -- One record further on.
 further : (r : Record) (rs : List Record) (x y : ℕ) → Lists rs x y → Lists (r ∷ rs) x y

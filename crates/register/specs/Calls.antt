@@ -14,11 +14,15 @@ use Rattle.types.specs.declared.Removal.the-variants as removal
 use Rattle.types.specs.declared.Cleared.{Cleared}
 use Rattle.types.specs.declared.Cleared.the-variants as cleared
 use Rattle.types.specs.Rows.{rowIf, lengthRow, firstGiven, Effect, unlessRefused}
-use Rattle.keyed.specs.Keyed.{samePair, beforePair, holds, put, without, countOf}
+use Rattle.keyed.specs.Keyed.{samePair, beforePair, holds, find, put, without, countOf}
 use Rattle.rules.specs.Records.{Record}
 use Rattle.register.specs.Register.{registerWords, lastSource, recordsOf, registerOf, keyOf, listOk, roomFor, registerOk}
 
 -- ---- records: looked for, put in, taken out
+
+-- The record under a pair of customer and source.
+abbrev pub findRecord : ℕ × ℕ → List Record → Option Record
+findRecord k rs = find keyOf samePair beforePair k rs
 
 abbrev pub holdsRecord : ℕ → ℕ → List Record → Bool
 holdsRecord customer source rs = holds keyOf samePair beforePair (customer, source) rs

@@ -1,4 +1,5 @@
 pub mod Register
 pub mod Helpers
 pub mod Calls
+pub mod Laws
 pub mod Vectors

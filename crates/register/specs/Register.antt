@@ -27,14 +27,14 @@ lastSource = 7
 -- ---- layout
 
 -- A record's slot: customer, source, where its list starts among the bodies, and how many numbers it has. The first two are its head.
-abbrev pub headWords : ℕ
-headWords = 2
+abbrev pub recordHead : ℕ
+recordHead = 2
 
-abbrev pub tailWords : ℕ
-tailWords = 0
+abbrev pub recordTail : ℕ
+recordTail = 0
 
-abbrev pub slotWords : ℕ
-slotWords = width headWords tailWords
+abbrev pub recordWidth : ℕ
+recordWidth = width recordHead recordTail
 
 abbrev pub customerWord : ℕ
 customerWord = 0
@@ -43,14 +43,14 @@ abbrev pub sourceWord : ℕ
 sourceWord = 1
 
 abbrev pub startWord : ℕ
-startWord = headWords
+startWord = recordHead
 
 abbrev pub countWord : ℕ
-countWord = headWords + 1
+countWord = recordHead + 1
 
 -- The words of a register: two counts, and room for as many records and numbers as there may be.
 abbrev pub registerWords : ℕ
-registerWords = counters + mostRecords * slotWords + mostListed
+registerWords = counters + mostRecords * recordWidth + mostListed
 
 -- ---- records
 
@@ -62,7 +62,7 @@ entryOf r = record { head = r .customer ∷ (r .source ∷ []); body = r .provid
 
 -- The records that a register's words hold, and the words that hold records.
 unfoldable pub recordsOf : List ℕ → List Record
-recordsOf ws = map recordOf (decode headWords tailWords ws)
+recordsOf ws = map recordOf (decode recordHead recordTail ws)
 
 unfoldable pub registerOf : List Record → List ℕ
 registerOf rs = encode registerWords (map entryOf rs)
@@ -111,4 +111,4 @@ recordsOk rs = roomFor rs && (every recordOk rs && ascends keyOf samePair before
 
 -- The word rules of a register (row 2); its length is row 1's.
 unfoldable pub registerOk : List ℕ → Bool
-registerOk ws = wellFormed headWords tailWords ws && recordsOk (recordsOf ws)
+registerOk ws = wellFormed recordHead recordTail ws && recordsOk (recordsOf ws)

@@ -14,7 +14,8 @@ ghost use Rattle.types.specs.Rows.{effect};
 ghost use Rattle.keyed.specs.Keyed.{samePair, beforePair, ascends, every};
 ghost use Rattle.types.specs.declared.Hop.the-variants.{NoAttestation, ProviderPlus, NotProviderPlus};
 ghost use Rattle.rules.specs.Records.{isIn, hopOf};
-ghost use Rattle.register.specs.Register.{headWords, tailWords, mostListed, recordsOf, recordAt, keyOf, rises, listOk, recordOk, recordsOk, registerOk, positionOf};
+ghost use Rattle.register.specs.Register.{recordHead, recordTail, mostListed, recordsOf, recordAt, keyOf, rises, listOk, recordOk, recordsOk};
+ghost use Rattle.register.specs.Register.{registerOk, positionOf};
 ghost use Rattle.register.specs.Helpers.{descentsIn, Within, Passed};
 ghost use Rattle.register.specs.Calls.{holdsRecord, fileEffect, withdrawEffect, clearEffect};
 
@@ -123,7 +124,7 @@ fn descents(list: &[u32]) -> u32
 // Each record's own rules, and their order. The lists are read in one go: each of them ascends if no two numbers descend but where
 // one list ends and the next begins.
 fn are_records(reg: &[u32]) -> bool
-    requires { ⌜ Sound headWords tailWords (now reg) × (getD (now reg) 1 0 ≤ mostListed) ⌝ }
+    requires { ⌜ Sound recordHead recordTail (now reg) × (getD (now reg) 1 0 ≤ mostListed) ⌝ }
     ensures { λ r. ⌜ r ≡ (every recordOk (recordsOf (now (reg .entry))) && ascends keyOf samePair beforePair (recordsOf (now (reg .entry)))) ⌝ }
 {
     let n = table::word(reg, 0);

@@ -14,12 +14,8 @@ use Rattle.rules.specs.Hops.{HopFunction}
 use Rattle.rules.specs.Verdicts.{judged}
 use Rattle.ledger.specs.Routes.{Route, routeAt}
 use Rattle.ledger.specs.Calls.{stamped, differs, countDiffering}
+use Rattle.rejudge.specs.Rejudging.{countBelow}
 use Rattle.rejudge.proofs.Rejudgements.{not-differs, left-alone, gets-verdict, anew, all-once}
-
--- How many of the numbers below n pass a test.
-unfoldable pub countBelow : (ℕ → Bool) → ℕ → ℕ
-countBelow p zero = 0
-countBelow p (suc n) = cond (p n) (suc (countBelow p n)) (countBelow p n)
 
 -- One more, or not; and another, or not.
 two-counts : (b c : Bool) (n : ℕ) → cond b (suc (cond c (suc n) n)) (cond c (suc n) n) ≡ cond c (suc (cond b (suc n) n)) (cond b (suc n) n)

@@ -1,5 +1,4 @@
 pub mod Rejudgements
 pub mod Differences
-pub mod Stores
-pub mod Rows
+pub mod Rerouting
 pub mod Turns

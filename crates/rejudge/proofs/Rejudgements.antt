@@ -11,6 +11,7 @@ use Rattle.types.specs.declared.Verdict.{Verdict}
 use Rattle.types.specs.declared.Verdict.the-variants.{Valid, Invalid, Unknown}
 use Rattle.types.specs.Numbers.{verdictNumber, placeA, placeB, verdictOf}
 use Rattle.types.specs.Roles.{isRole, isUpstream}
+use Rattle.as_path.specs.Reading.{mostNumbers}
 use Rattle.table.specs.Table.{bodies}
 use Rattle.keyed.proofs.Orders.{ordered-ℕ, both-left, both-right, both-intro}
 use Rattle.keyed.proofs.Mapping.{every-map, ascends-map}
@@ -20,7 +21,7 @@ use Rattle.rules.specs.Laws.{Within}
 use Rattle.rules.proofs.Orders.{places-within}
 use Rattle.ledger.specs.Routes.{Route, entryOf, keyOf, pathWords, pathOk, groundOk, routeOk, roomFor, routesOk}
 use Rattle.ledger.specs.Calls.{stamped, differs}
-use Rattle.ledger.proofs.Holding.{has-room, each-ok, in-order}
+use Rattle.ledger.proofs.Holding.{has-room, each-ok, in-order, has-role}
 use Rattle.ledger.proofs.Paths.{path-some, path-few}
 use Rattle.rejudge.specs.Rejudging.{rejudgedRoute}
 
@@ -40,17 +41,12 @@ module _ (hop : HopFunction) (r : Route) where
   gets-verdict e = rw (eq-eqb (r .ground) 0 e)
 
 module _ (r : Route) (e : routeOk r ≡ true) where
-  -- The role of a route is one of the roles.
-  pub has-role : isRole (r .role) ≡ true
-  unfolding routeOk
-  has-role = both-left (isRole (r .role)) _ e
-
   -- What the rules ask of it by its ground.
   pub by-ground : cond (eqb (r .ground) 0) (pathOk (r .role) (r .neighbour) (r .path)) (groundOk r) ≡ true
   unfolding routeOk
   by-ground =
-      both-right (leb (r .b) 64) _
-      (both-right (leb (r .a) 64) _
+      both-right (leb (r .b) mostNumbers) _
+      (both-right (leb (r .a) mostNumbers) _
       (both-right (leb (r .verdict) 2) _
       (both-right (leb (r .ground) 3) _
       (both-right (leb 1 (r .neighbour)) _ (both-right (isRole (r .role)) _ e)))))
@@ -64,8 +60,8 @@ module _ (r : Route) (e : routeOk r ≡ true) where
     pub some-numbers : 1 ≤ length (r .path)
     some-numbers = path-some (r .role) (r .neighbour) (r .path) path-fine
 
-    -- And at most 64.
-    pub few-numbers : length (r .path) ≤ 64
+    -- And not too many.
+    pub few-numbers : length (r .path) ≤ mostNumbers
     few-numbers = path-few (r .role) (r .neighbour) (r .path) path-fine
 
 -- What a stamp leaves, stays whether the route is stamped or not.
@@ -148,8 +144,8 @@ module _ (hop : HopFunction) where
       let w = gets-within r (some-numbers r e g) in
       let few = few-numbers r e g in
       let neighbour : leb 1 (r .neighbour) ≡ true = both-left (leb 1 (r .neighbour)) _ (both-right (isRole (r .role)) _ e) in
-      let a : leb (placeA v) 64 ≡ true = le-leb (placeA v) 64 (omega (arith, w .a)) in
-      let b : leb (placeB v) 64 ≡ true = le-leb (placeB v) 64 (omega (arith, w .b)) in
+      let a : leb (placeA v) mostNumbers ≡ true = le-leb (placeA v) mostNumbers (omega (arith, w .a)) in
+      let b : leb (placeB v) mostNumbers ≡ true = le-leb (placeB v) mostNumbers (omega (arith, w .b)) in
       let word : leb (verdictNumber v) 2 ≡ true = le-leb _ _ (word-within v) in
       ap routeOk (gets-verdict hop r g) ∙ rw (has-role r e, neighbour, word, a, b, g) (path-fine r e g)
 

@@ -5,20 +5,21 @@ use mathlib.Core.Bool.{Bool, true, false, cond}
 use mathlib.Core.List.{List, [], _∷_, _++_, map}
 use native.Mathlib.Omega.{arith}
 use native.Mathlib.Numerals.{add-one}
-use lib.ListN.{length, getD, drop, set, length-map, drop-of-length-le}
+use lib.ListN.{length, drop, set, length-map, drop-of-length-le}
 use lib.Seq.{drop-cons}
 use Rattle.types.specs.Rows.{effect}
 use Rattle.table.specs.Table.{bodies, Sound}
 use Rattle.table.proofs.Exact.{length-encode, passes-sound}
 use Rattle.keyed.proofs.Finds.{every-at}
 use Rattle.rules.specs.Hops.{HopFunction}
-use Rattle.ledger.specs.Routes.{ledgerWords, mostRoutes, mostPathWords, Route, entryOf, routesOf, ledgerOf, routeAt, pathWords, routeOk, ledgerOk}
+use Rattle.ledger.specs.Routes.{ledgerWords, routeHead, routeTail, mostRoutes, mostPathWords, Route, entryOf, routesOf, ledgerOf, routeAt, pathWords, routeOk, ledgerOk}
 use Rattle.ledger.specs.Calls.{differs, countDiffering}
 use Rattle.ledger.proofs.Entries.{entries-wide, routes-fit, routes-of-words, words-formed, words-are}
 use Rattle.ledger.proofs.Holding.{sound, routes-ok, has-room, room-paths, each-ok}
-use Rattle.ledger.proofs.Looking.{count-is, few}
-use Rattle.rejudge.specs.Rejudging.{rejudgedEffect, Judgeable}
-use Rattle.rejudge.proofs.Rows.{Promised}
+use Rattle.ledger.proofs.Looking.{few}
+use Rattle.ledger.specs.Helpers.{RouteIn}
+use Rattle.rejudge.specs.Rejudging.{rejudgedEffect}
+use Rattle.rejudge.proofs.Rerouting.{Promised}
 use Rattle.rejudge.proofs.Rejudgements.{anew, path-stays}
 
 -- ---- some routes judged anew
@@ -89,7 +90,7 @@ module _ (hop : HopFunction) where
 
 -- Words of routes within both limits are a ledger that holds them.
 record Held (ws : List ℕ) (rs : List Route) : Type 0 where
-  sound : Sound 7 0 ws
+  sound : Sound routeHead routeTail ws
   size : length ws ≡ ledgerWords
   routes : routesOf ws ≡ rs
 
@@ -97,12 +98,12 @@ held : (rs : List Route) → length rs ≤ mostRoutes → pathWords rs ≤ mostP
 unfolding ledgerOf
 held rs h k =
     record {
-      sound = passes-sound 7 0 (ledgerOf rs) (words-formed rs h k);
-      size = length-encode 7 0 ledgerWords (map entryOf rs) (entries-wide rs) (rw (length-map rs entryOf) (routes-fit rs h k));
+      sound = passes-sound routeHead routeTail (ledgerOf rs) (words-formed rs h k);
+      size = length-encode routeHead routeTail ledgerWords (map entryOf rs) (entries-wide rs) (rw (length-map rs entryOf) (routes-fit rs h k));
       routes = routes-of-words rs h k;
     }
 
--- A ledger has at most 8192 numbers in its paths.
+-- A ledger's paths keep their limit.
 short-paths : (ws : List ℕ) → ledgerOk ws ≡ true → pathWords (routesOf ws) ≤ mostPathWords
 short-paths ws e = room-paths (routesOf ws) (has-room (routesOf ws) (routes-ok ws e))
 
@@ -120,16 +121,16 @@ pub record Turned (hop : HopFunction) (start : List ℕ) (n : ℕ) (ws : List �
   pub sum : changed + changes hop i (routesOf start) ≡ changes hop 0 (routesOf start)
 
 -- Before the first turn.
-pub turns : (hop : HopFunction) (start : List ℕ) {n : ℕ} → length start ≡ ledgerWords → ledgerOk start ≡ true → n ≡ getD start 0 0
+pub turns : (hop : HopFunction) (start : List ℕ) {n : ℕ} → length start ≡ ledgerWords → ledgerOk start ≡ true → n ≡ length (routesOf start)
     → Turned hop start n start 0 0
 unfolding firstAnew
 turns hop start long ok e =
     record {
       long = long;
       ok = ok;
-      count = e ∙ count-is start ok;
+      count = e;
       within = omega arith;
-      small = omega (arith, e, count-is start ok, few start ok);
+      small = omega (arith, e, few start ok);
       fewer = omega arith;
       words = words-are start (sound start ok) long;
       sum = omega arith;
@@ -163,10 +164,12 @@ module _ {hop : HopFunction} {start ws : List ℕ} {n changed i : ℕ} (t : Turn
     inside = omega (arith, t .count)
 
     -- Route i may be judged anew.
-    pub may-turn : Judgeable ws i
+    pub may-turn : RouteIn ws i
     may-turn =
         record {
-          route = record { sound = holding .sound; size = holding .size; within = rw (holding .routes, first-length hop i routes) inside };
+          sound = holding .sound;
+          size = holding .size;
+          within = rw (holding .routes, first-length hop i routes) inside;
           ok = rw (holding .routes, first-at hop i routes) (every-at routeOk routes (routeAt [] 0) (each-ok _ (routes-ok start (t .ok))) i inside);
         }
 

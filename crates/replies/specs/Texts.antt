@@ -28,7 +28,7 @@ abbrev pub sizedText : List ℕ → List ℕ
 sizedText table = spacedText (length table ∷ withoutZeros table)
 
 abbrev pub shownText : Tables → Named → List ℕ
-shownText t Register = spacedText (usedWords register.slotWords (t .register))
+shownText t Register = spacedText (usedWords register.recordWidth (t .register))
 shownText t Ledger = spacedText (usedWords ledger.routeWidth (t .ledger))
 shownText t Neither = ascii "error"
 

@@ -1,15 +1,14 @@
 -- The edges that the rules name, by the law that what follows bytes without a fault is read as by itself. Assumes nothing.
-use Prim.Native.Nat.{ℕ, zero, suc, _+_, _-_, _*_, _/_, _≤_, _<_}
-use mathlib.Core.Path.{_≡_, refl, sym, _∙_, ap}
-use mathlib.Core.Bool.{Bool, true, false, not, cond, _||_}
+use Prim.Native.Nat.{ℕ, zero, suc, _+_, _-_, _*_, _/_}
+use mathlib.Core.Path.{_≡_, refl, _∙_, ap}
+use mathlib.Core.Bool.{Bool, true, false, _||_}
 use mathlib.Core.List.{List, [], _∷_, _++_}
 use native.Mathlib.Omega.{arith}
 use lib.Dec.{ltb, eqb}
 use lib.ListN.{length, replicate, length-append}
-use Rattle.types.specs.declared.Judged.{Judged}
-use Rattle.types.specs.declared.Judged.the-variants.{Answered, Refused}
+use Rattle.types.specs.declared.Judged.the-variants.{Refused}
 use Rattle.types.specs.declared.Refusal.the-variants.{AttributeLength}
-use Rattle.types.specs.Rows.{rowIf, firstGiven}
+use Rattle.types.specs.Rows.{firstGiven}
 use Rattle.as_path.specs.declared.Scan.the-variants.{Clean}
 use Rattle.as_path.specs.declared.Grounded.the-variants.{Not}
 use Rattle.as_path.specs.Segments.{numberBytes, numberAt, numbersAt, startsFrom, starts, Segment, segments}
@@ -19,7 +18,7 @@ use Rattle.as_path.specs.Merging.{runsAfter, mergeRuns, mergedPath}
 use Rattle.as_path.specs.Reading.{mostNumbers, merged, contentOf}
 use Rattle.as_path.proofs.Contents.{content-merged}
 use Rattle.as_path.proofs.Laws.{position-laws, path-laws}
-use Rattle.rules.specs.Hops.{HopFunction, lowest, highest, climb, descend}
+use Rattle.rules.specs.Hops.{lowest, highest, climb, descend}
 use Rattle.rules.specs.Records.{isIn, attested, united, hopOf}
 use Rattle.rules.specs.Verdicts.{upstream, downstream, judged}
 use Rattle.rules.specs.Judging.{mostBytes, answerTo, judgedRoute}

@@ -1,9 +1,9 @@
 -- The laws of verdicts, gathered. Assumes nothing.
-use Prim.Native.Nat.{ℕ, _+_, _-_, _≤_, _<_}
+use Prim.Native.Nat.{ℕ, _-_, _≤_, _<_}
 use mathlib.Core.Path.{_≡_, refl, sym, _∙_, ap}
 use mathlib.Core.Bool.{Bool, true, false, not, cond}
 use mathlib.Core.List.{List, [], _∷_}
-use mathlib.Core.Option.{Option, none, some}
+use mathlib.Core.Option.{some}
 use native.Mathlib.Omega.{arith}
 use borrow.Author.Tests.{ltb-false}
 use lib.Dec.{ltb, eqb}
@@ -11,7 +11,7 @@ use lib.IntN.{ℤ, pos, _-ℤ_}
 use lib.Signed.{_≤ℤ_}
 use lib.ListN.{length}
 use Rattle.as_path.specs.Segments.{numberBytes}
-use Rattle.types.specs.declared.Fault.{Fault}
+use Rattle.types.specs.declared.Ground.{Ground}
 use Rattle.types.specs.declared.Cause.the-variants.{ByGround}
 use Rattle.types.specs.declared.Verdict.the-variants.{Invalid}
 use Rattle.types.specs.declared.Answer.{Answer}
@@ -21,7 +21,7 @@ use Rattle.types.specs.declared.Refusal.{Refusal}
 use Rattle.types.specs.declared.Refusal.the-variants.{RoleNumber, NeighbourZero, AttributeLength, Attribute, PathLength}
 use Rattle.types.specs.declared.Judged.{Judged}
 use Rattle.types.specs.declared.Judged.the-variants.{Answered, Refused}
-use Rattle.types.specs.Numbers.{answerGap, refusalPlace}
+use Rattle.types.specs.Numbers.{verdictOf, answerGap, refusalPlace}
 use Rattle.types.specs.Roles.{isRole, isUpstream}
 use Rattle.types.specs.Rows.{rowIf, firstGiven}
 use Rattle.types.proofs.Clashes.{clash, some-not-none}
@@ -31,8 +31,8 @@ use Rattle.as_path.proofs.Contents.{merged-means, content-fault}
 use Rattle.as_path.proofs.MergedPaths.{merged-first}
 use Rattle.rules.specs.Hops.{HopFunction}
 use Rattle.rules.specs.Verdicts.{gapOf, upstream, downstream, judged}
-use Rattle.rules.specs.Judging.{mostBytes, argumentRows, judgeRows, answerTo, unlessGiven, judgedRoute}
-use Rattle.rules.specs.Laws.{PlaceLaws, GapLaws, AnswerLaws, DraftLaws}
+use Rattle.rules.specs.Judging.{mostBytes, judgeRows, answerTo, unlessGiven, judgedRoute}
+use Rattle.rules.specs.Laws.{Within, PlaceLaws, GapLaws, AnswerLaws, DraftLaws}
 use Rattle.rules.proofs.Searching.{lowest-is, highest-is, lowest-only, highest-only}
 use Rattle.rules.proofs.Ramps.{ramp-up-is, ramp-up-only, ramp-down-is, ramp-down-only}
 use Rattle.rules.proofs.Gaps.{gap-low, gap-high, gap-least, gap-most}
@@ -40,6 +40,43 @@ use Rattle.rules.proofs.Orders.{not-both, either-order, places-within}
 use Rattle.rules.proofs.Locality.{same-judged}
 use Rattle.rules.proofs.Judges.{refusalOf, judged-reads, Judgement, on-ground, on-path, answered}
 use Rattle.rules.proofs.Drafting.{largest-is, smallest-is, draft-upstream, draft-downstream, short-valid, draft-judged, draft-route}
+
+-- What holds of each route that is answered: on a ground, or by its path of at most the most numbers.
+by-answer : (P : Answer → Type 0) (hop : HopFunction) (role neighbour : ℕ) (attribute : List ℕ) (a : Answer)
+    → judgedRoute hop role neighbour attribute ≡ Answered a → ((g : Ground) → P (Plain (Invalid (ByGround g))))
+    → ((path : List ℕ) → 1 ≤ length path → length path ≤ mostNumbers → P (judged hop path role)) → P a
+by-answer P hop role neighbour attribute a e grounds paths = go (answered hop role neighbour attribute a e)
+  where
+    go : Judgement hop role neighbour attribute → P a
+    go (on-ground g c j) =
+        let y : Answered (Plain (Invalid (ByGround g))) ≡ Answered a = sym j ∙ e in
+        let z : Plain (Invalid (ByGround g)) ≡ a = cc in
+        rw (← z) (grounds g)
+    go (on-path path c short j) =
+        let y : Answered (judged hop path role) ≡ Answered a = sym j ∙ e in
+        let z : judged hop path role ≡ a = cc in
+        let m = merged-means role neighbour attribute path c in
+        let one : 1 ≤ length path = rw (m .same) (merged-first numberBytes attribute (m .clean) (m .some) .0) in
+        rw (← z) (paths path one short)
+
+-- ---- places
+
+judged-within : (hop : HopFunction) (path : List ℕ) (role : ℕ) → 1 ≤ length path → Within (length path) (verdictOf (judged hop path role))
+unfolding judged
+judged-within hop path role one = go (isUpstream role)
+  where
+    go : (b : Bool) → Within (length path) (verdictOf (cond b (Plain (upstream hop path)) (WithGap (downstream hop path) (gapOf hop path))))
+    go true = places-within hop path one .0
+    go false = places-within hop path one .1
+
+answered-within : (hop : HopFunction) (role neighbour : ℕ) (attribute : List ℕ) (a : Answer)
+    → judgedRoute hop role neighbour attribute ≡ Answered a → Within mostNumbers (verdictOf a)
+answered-within hop role neighbour attribute a e =
+    by-answer (λ a. Within mostNumbers (verdictOf a)) hop role neighbour attribute a e
+    (λ g. record { a = omega arith; b = omega arith })
+    (λ path one short.
+    let w : Within (length path) (verdictOf (judged hop path role)) = judged-within hop path role one in
+    record { a = omega (arith, w .a); b = omega (arith, w .b) })
 
 pub place-laws : PlaceLaws
 place-laws =
@@ -56,6 +93,7 @@ place-laws =
       not-both = not-both;
       either-order = either-order;
       places-within = places-within;
+      answered-within = answered-within;
     }
 
 -- ---- the gap
@@ -73,19 +111,11 @@ answer-gap hop path role g = go (isUpstream role)
 answered-gap : (hop : HopFunction) (role neighbour : ℕ) (attribute : List ℕ) (a : Answer) (g : ℤ)
     → judgedRoute hop role neighbour attribute ≡ Answered a → answerGap a ≡ some g
     → ((pos 1 -ℤ pos mostNumbers) ≤ℤ g) × (g ≤ℤ (pos mostNumbers -ℤ pos 1))
-answered-gap hop role neighbour attribute a g e f = go (answered hop role neighbour attribute a e)
-  where
-    go : Judgement hop role neighbour attribute → ((pos 1 -ℤ pos mostNumbers) ≤ℤ g) × (g ≤ℤ (pos mostNumbers -ℤ pos 1))
-    go (on-ground x c j) =
-        let y : Answered (Plain (Invalid (ByGround x))) ≡ Answered a = sym j ∙ e in
-        let z : Plain (Invalid (ByGround x)) ≡ a = cc in
-        some-not-none (sym (ap answerGap z ∙ f))
-    go (on-path path c short j) =
-        let y : Answered (judged hop path role) ≡ Answered a = sym j ∙ e in
-        let z : judged hop path role ≡ a = cc in
-        let m = merged-means role neighbour attribute path c in
-        let one : 1 ≤ length path = rw (m .same) (merged-first numberBytes attribute (m .clean) (m .some) .0) in
-        rw (← answer-gap hop path role g (ap answerGap z ∙ f)) (gap-low hop path one mostNumbers short, gap-high hop path one mostNumbers short)
+answered-gap hop role neighbour attribute a g e =
+    by-answer (λ a. answerGap a ≡ some g → ((pos 1 -ℤ pos mostNumbers) ≤ℤ g) × (g ≤ℤ (pos mostNumbers -ℤ pos 1))) hop role neighbour attribute a e
+    (λ x f. some-not-none (sym f))
+    (λ path one short f.
+    rw (← answer-gap hop path role g f) (gap-low hop path one mostNumbers short, gap-high hop path one mostNumbers short))
 
 pub gap-laws : GapLaws
 gap-laws =

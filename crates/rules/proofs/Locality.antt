@@ -1,12 +1,12 @@
 -- The answer depends on the hops between neighbours of the path, both ways, and on no other. Assumes nothing.
-use Prim.Native.Nat.{ℕ, _+_, _-_, _≤_, _<_}
+use Prim.Native.Nat.{ℕ, _+_, _-_, _≤_}
 use mathlib.Core.Path.{_≡_, ap}
 use mathlib.Core.List.{List}
 use mathlib.Core.Bool.{Bool, not}
 use native.Mathlib.Omega.{arith}
 use lib.ListN.{length}
 use Rattle.types.specs.declared.Hop.{Hop}
-use Rattle.rules.specs.Hops.{HopFunction, isPlus, isNotPlus, isUnattested, asAt, up, down, lowest, highest}
+use Rattle.rules.specs.Hops.{HopFunction, isPlus, isNotPlus, isUnattested, up, down, lowest, highest}
 use Rattle.rules.specs.Verdicts.{rampUp, rampDown, upstream, downstream, judged}
 use Rattle.rules.specs.Laws.{SameHops}
 use Rattle.rules.proofs.Searching.{lowest-same, highest-same}

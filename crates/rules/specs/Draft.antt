@@ -10,7 +10,7 @@ use Rattle.types.specs.declared.Ground.{Ground}
 use Rattle.types.specs.declared.Ground.the-variants.{Empty, NotNeighbour, AsSet}
 use Rattle.types.specs.declared.Cause.the-variants.{ByGround}
 use Rattle.types.specs.declared.Verdict.{Verdict}
-use Rattle.types.specs.declared.Verdict.the-variants as verdict
+use Rattle.types.specs.declared.Verdict.the-variants.{Valid, Invalid, Unknown}
 use Rattle.types.specs.declared.Answer.{Answer}
 use Rattle.types.specs.declared.Answer.the-variants.{Plain, WithGap}
 use Rattle.types.specs.Roles.{isUpstream}
@@ -19,15 +19,6 @@ use Rattle.as_path.specs.Grounds.{isNotNeighbour, hasSet}
 use Rattle.as_path.specs.Merging.{mergedPath}
 use Rattle.rules.specs.Hops.{HopFunction, isPlus, isNotPlus, isUnattested, up, down, lowest, highest}
 use Rattle.rules.specs.Verdicts.{upCause, downCause}
-
-pub data Outcome : Type 0 where
-  Valid Invalid Unknown : Outcome
-
--- The word of a verdict.
-abbrev pub outcomeOf : Verdict → Outcome
-outcomeOf verdict.Valid = Valid
-outcomeOf (verdict.Invalid c) = Invalid
-outcomeOf (verdict.Unknown a b) = Unknown
 
 -- Some, or each, of the n indices from i on passes the test.
 unfoldable pub some : (ℕ → Bool) → ℕ → ℕ → Bool
@@ -65,25 +56,25 @@ module _ (hop : HopFunction) (path : List ℕ) where
   -- Section 6.1. Step 3: N = 1. Step 4: there is an i of 2..N whose hop is Not Provider+. Step 5: there is one that is No Attestation; else Valid.
   unfoldable pub draftUpstream : Verdict
   draftUpstream =
-      cond (eqb (length path) 1) verdict.Valid
-      (cond (some (λ i. isNotPlus (up hop path i)) 2 (length path - 1)) (verdict.Invalid (upCause hop path (lowestUp (λ i. isNotPlus (up hop path i)))))
-      (cond (some (λ i. isUnattested (up hop path i)) 2 (length path - 1)) (verdict.Unknown (lowestUp (λ i. isUnattested (up hop path i))) 0)
-      verdict.Valid))
+      cond (eqb (length path) 1) Valid
+      (cond (some (λ i. isNotPlus (up hop path i)) 2 (length path - 1)) (Invalid (upCause hop path (lowestUp (λ i. isNotPlus (up hop path i)))))
+      (cond (some (λ i. isUnattested (up hop path i)) 2 (length path - 1)) (Unknown (lowestUp (λ i. isUnattested (up hop path i))) 0)
+      Valid))
 
   -- Section 6.2.2. Step 3: N at most 2. Step 4: u_min at most v_max. Step 7: L - K at most 1; else Unknown. The places are the draft's own.
   unfoldable pub draftDownstream : Verdict
   draftDownstream =
-      cond (leb (length path) 2) verdict.Valid
-      (cond (leb uMin vMax) (verdict.Invalid (downCause hop path uMin vMax))
-      (cond (leZ draftGap (pos 1)) verdict.Valid
-      (verdict.Unknown largestK smallestL)))
+      cond (leb (length path) 2) Valid
+      (cond (leb uMin vMax) (Invalid (downCause hop path uMin vMax))
+      (cond (leZ draftGap (pos 1)) Valid
+      (Unknown largestK smallestL)))
 
   -- A provider's routes and a mutual-transit neighbour's go by 6.2.2, the others by 6.1 (section 6).
   unfoldable pub draftJudged : ℕ → Answer
   draftJudged role = cond (isUpstream role) (Plain draftUpstream) (WithGap draftDownstream draftGap)
 
 abbrev pub onGround : Ground → Answer
-onGround g = Plain (verdict.Invalid (ByGround g))
+onGround g = Plain (Invalid (ByGround g))
 
 -- An empty path, and a first number that is not the neighbour's: section 6 calls the UPDATE in error, the rules answer Invalid (docs/DECISIONS.md).
 -- Then, of both procedures, step 1: a set anywhere. Step 2: prepends are collapsed, within each segment. Then the numbered steps on the path.

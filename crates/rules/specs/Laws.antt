@@ -16,7 +16,7 @@ use Rattle.types.specs.declared.Place.the-variants.{Byte}
 use Rattle.types.specs.declared.Refusal.{Refusal}
 use Rattle.types.specs.declared.Judged.{Judged}
 use Rattle.types.specs.declared.Judged.the-variants.{Answered, Refused}
-use Rattle.types.specs.Numbers.{placeA, placeB, answerGap, refusalPlace}
+use Rattle.types.specs.Numbers.{placeA, placeB, verdictOf, answerGap, refusalPlace}
 use Rattle.types.specs.Rows.{firstGiven}
 use Rattle.as_path.specs.Segments.{numberBytes, segments}
 use Rattle.as_path.specs.Reading.{mostNumbers}
@@ -86,6 +86,9 @@ pub record PlaceLaws : Type 0 where
   -- Every place is at most N.
   pub places-within : (hop : HopFunction) (path : List ℕ) → 1 ≤ length path
       → Within (length path) (upstream hop path) × Within (length path) (downstream hop path)
+  -- Of every answer given for a route they are at most the most numbers of a path.
+  pub answered-within : (hop : HopFunction) (role neighbour : ℕ) (attribute : List ℕ) (a : Answer)
+      → judgedRoute hop role neighbour attribute ≡ Answered a → Within mostNumbers (verdictOf a)
 
 -- ---- the gap
 

@@ -10,6 +10,7 @@ use lib.Dec.{ltb, eqb}
 use lib.ListN.{length, getD}
 use Rattle.text.specs.declared.Number.the-variants.{Is}
 use Rattle.text.proofs.Words.{either}
+use Rattle.text.specs.Laws.{DecimalLaws}
 use Rattle.text.specs.Numbers.{valueFrom, allDigits, numberFrom, numberOf, digitsBefore, decimalOf}
 
 -- `out` is n, spelt before `after`.
@@ -120,3 +121,6 @@ decimal-reads zero h = zero-read
 decimal-reads (suc n) h =
     let s : Spelt (suc n) [] (decimalOf (suc n)) = spelt 20 (suc n) [] (omega arith) in
     no-zero-first (decimalOf (suc n)) (s .longer (omega arith)) (s .first (omega arith)) ∙ continued (suc n) h
+
+pub decimal-laws : DecimalLaws
+decimal-laws = record { value = decimal-value; reads = decimal-reads; short = decimal-short }

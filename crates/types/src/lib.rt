@@ -1,7 +1,8 @@
 // The types that every layer shares. The rules number the cases of each enum: specs/Numbers.antt has those numbers.
 ghost use mathlib.Core.Path.{_≡_};
 ghost use Rattle.types.specs.Roles.{isRouteServer, isUpstream};
-ghost use Rattle.types.specs.Numbers.{roleOf, roleNumber, groundNumber, faultNumber, refusalNumber, refusalPlace, verdictNumber, verdictGround, placeA, placeB, verdictOf};
+ghost use Rattle.types.specs.Numbers.{roleOf, roleNumber, groundNumber, faultNumber, refusalNumber, refusalPlace, verdictNumber, verdictGround, placeA};
+ghost use Rattle.types.specs.Numbers.{placeB, verdictOf};
 
 // The number of an autonomous system.
 pub struct AsNumber(pub u32);

@@ -4,24 +4,25 @@ use Prim.Native.Nat.{_+_, _-_}
 use mathlib.Core.Path.{_≡_, refl, sym, _∙_}
 use lib.ListN.{length}
 use native.Mathlib.Omega.{arith}
+use Rattle.as_path.specs.Segments.{numberBytes}
 use Rattle.as_path.proofs.Scanning.{Outer, Inner, start, ends, one-byte, type-zero, type-over, confederation, count-zero, body-short, enters, zero-found, passes, leaves}
 use Rattle.as_path.proofs.first_fault.Statement.{statement}
 use Rattle.as_path.proofs.first_fault.Tie as tie
 
 abbrev Inv-loop : tie.InvT-loop
-Inv-loop attr at left kind from count to body k₀ k = Inner 4 attr from count to body k × (from ≡ at + 2)
+Inv-loop attr at left kind from count to body k₀ k = Inner numberBytes attr from count to body k × (from ≡ at + 2)
 
 abbrev μ-loop : tie.MeasureT-loop
 μ-loop attr at left kind from count to body k₀ k = count - k
 
 abbrev Inv-segments : tie.InvT-segments
-Inv-segments attr at₀ at = Outer 4 attr at
+Inv-segments attr at₀ at = Outer numberBytes attr at
 
 abbrev μ-segments : tie.MeasureT-segments
 μ-segments attr at₀ at = length attr - at
 
 segments-holds : tie.Need-segments-holds Inv-loop μ-loop Inv-segments μ-segments
-segments-holds c = start 4 (c .before .args .attr .now)
+segments-holds c = start numberBytes (c .before .args .attr .now)
 
 sub-left : tie.Need-sub-left Inv-loop μ-loop Inv-segments μ-segments
 sub-left c = search needs

@@ -3,18 +3,19 @@ use borrow.Author.Needs.{needs}
 use Prim.Native.Nat.{_-_}
 use lib.ListN.{length}
 use native.Mathlib.Omega.{arith}
+use Rattle.as_path.specs.Segments.{numberBytes}
 use Rattle.as_path.proofs.Grounding.{Seeking, seeks, not-found, here, found, goes-on}
 use Rattle.as_path.proofs.has_set.Statement.{statement}
 use Rattle.as_path.proofs.has_set.Tie as tie
 
 abbrev Inv-loop : tie.InvT-loop
-Inv-loop attr at₀ at = Seeking 4 attr at
+Inv-loop attr at₀ at = Seeking numberBytes attr at
 
 abbrev μ-loop : tie.MeasureT-loop
 μ-loop attr at₀ at = length attr - at
 
 loop-holds : tie.Need-loop-holds Inv-loop μ-loop
-loop-holds c = seeks 4 _ (c .before .pre)
+loop-holds c = seeks numberBytes _ (c .before .pre)
 
 shared-slice-read-if1 : tie.Need-shared-slice-read-if1 Inv-loop μ-loop
 shared-slice-read-if1 c = search needs

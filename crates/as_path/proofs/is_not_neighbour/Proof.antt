@@ -15,13 +15,13 @@ shared-slice-read-if1 : tie.Need-shared-slice-read-if1
 shared-slice-read-if1 c = search needs
 
 returns : tie.Need-returns
-returns c = no-sequence 4 (c .before .before .before .args .attr .now) (roleNumber (c .before .before .before .args .role)) (c .before .before .before .args .neighbour .0) (c .if1 .taken)
+returns c = no-sequence numberBytes (c .before .before .before .args .attr .now) (roleNumber (c .before .before .before .args .role)) (c .before .before .before .args .neighbour .0) (c .if1 .taken)
 
 is-route-server-requires : tie.Need-is-route-server-requires
 is-route-server-requires c κs = search needs
 
 returns-2 : tie.Need-returns-2
-returns-2 c = from-server 4 (c .before .before .before .before .before .args .attr .now) (roleNumber (c .before .before .before .before .before .args .role)) (c .before .before .before .before .before .args .neighbour .0) (c .before .before .if1 .left) (sym (c .before .is-route-server .ensures) ∙ c .if2 .taken)
+returns-2 c = from-server numberBytes (c .before .before .before .before .before .args .attr .now) (roleNumber (c .before .before .before .before .before .args .role)) (c .before .before .before .before .before .args .neighbour .0) (c .before .before .if1 .left) (sym (c .before .is-route-server .ensures) ∙ c .if2 .taken)
 
 sub-number-at : tie.Need-sub-number-at
 sub-number-at c = search needs
@@ -36,7 +36,7 @@ number-at-requires : tie.Need-number-at-requires
 number-at-requires c κs = search needs
 
 returns-3 : tie.Need-returns-3
-returns-3 c = ap not (ap (λ x. eqb x (c .before .before .before .before .before .before .before .args .neighbour .0)) (c .number-at .ensures ∙ number-part 4 (c .before .before .before .before .before .before .before .args .attr .now) 2 4 0 (omega arith))) ∙ sym (compared 4 (c .before .before .before .before .before .before .before .args .attr .now) (roleNumber (c .before .before .before .before .before .before .before .args .role)) (c .before .before .before .before .before .before .before .args .neighbour .0) (c .before .before .before .before .if1 .left) (sym (c .before .before .before .is-route-server .ensures) ∙ c .before .before .if2 .left) (first-whole numberBytes (c .before .before .before .before .before .before .before .args .attr .now) (c .before .before .before .before .before .before .before .pre .1) (c .before .before .before .before .before .before .before .pre .0) .some))
+returns-3 c = ap not (ap (λ x. eqb x (c .before .before .before .before .before .before .before .args .neighbour .0)) (c .number-at .ensures ∙ number-part numberBytes (c .before .before .before .before .before .before .before .args .attr .now) 2 4 0 (omega arith))) ∙ sym (compared numberBytes (c .before .before .before .before .before .before .before .args .attr .now) (roleNumber (c .before .before .before .before .before .before .before .args .role)) (c .before .before .before .before .before .before .before .args .neighbour .0) (c .before .before .before .before .if1 .left) (sym (c .before .before .before .is-route-server .ensures) ∙ c .before .before .if2 .left) (first-whole numberBytes (c .before .before .before .before .before .before .before .args .attr .now) (c .before .before .before .before .before .before .before .pre .1) (c .before .before .before .before .before .before .before .pre .0) .some))
 
 pub is-not-neighbour-spec : {M : Type 1} → statement M
 is-not-neighbour-spec =

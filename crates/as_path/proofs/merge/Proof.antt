@@ -1,5 +1,6 @@
 -- `as_path::merge` meets its contract. Assumes nothing.
 use Prim.Native.Nat.{_+_, _*_, _≤_}
+use Rattle.as_path.specs.Segments.{numberBytes}
 use Rattle.as_path.proofs.Storing.{body-length}
 use borrow.Author.Needs.{needs}
 use Prim.Native.Nat.{_-_}
@@ -12,13 +13,13 @@ use Rattle.as_path.proofs.merge.Statement.{statement}
 use Rattle.as_path.proofs.merge.Tie as tie
 
 abbrev Inv-loop : tie.InvT-loop
-Inv-loop attr path₀ n₀ at₀ path n at = Gathering 4 attr path₀ path n at
+Inv-loop attr path₀ n₀ at₀ path n at = Gathering numberBytes attr path₀ path n at
 
 abbrev μ-loop : tie.MeasureT-loop
 μ-loop attr path₀ n₀ at₀ path n at = length attr - at
 
 loop-holds : tie.Need-loop-holds Inv-loop μ-loop
-loop-holds c = gathers 4 _ _ (c .before .before .pre)
+loop-holds c = gathers numberBytes _ _ (c .before .before .pre)
 
 add-from : tie.Need-add-from Inv-loop μ-loop
 add-from c = search needs
@@ -48,17 +49,17 @@ part-merge-segment-end : tie.Need-part-merge-segment-end Inv-loop μ-loop
 part-merge-segment-end c = omega (arith, here (c .before .before .before .loop .inv) (c .before .before .loop-test .taken) .body)
 
 merge-segment-requires : tie.Need-merge-segment-requires Inv-loop μ-loop
-merge-segment-requires c κs = let h : c .before .before .before .before .before .loop .at + 2 + 4 * c .before .before .size .result ≤ length (c .before .before .before .before .before .before .before .before .args .attr .now) = omega (arith, here (c .before .before .before .before .before .loop .inv) (c .before .before .before .before .loop-test .taken) .body) in
-    rw (body-length (c .before .before .before .before .before .before .before .before .args .attr .now) (c .before .before .before .before .before .loop .at + 2) (4 * c .before .before .size .result) h)
+merge-segment-requires c κs = let h : c .before .before .before .before .before .loop .at + 2 + numberBytes * c .before .before .size .result ≤ length (c .before .before .before .before .before .before .before .before .args .attr .now) = omega (arith, here (c .before .before .before .before .before .loop .inv) (c .before .before .before .before .loop-test .taken) .body) in
+    rw (body-length (c .before .before .before .before .before .before .before .before .args .attr .now) (c .before .before .before .before .before .loop .at + 2) (numberBytes * c .before .before .size .result) h)
     (omega (arith, here (c .before .before .before .before .before .loop .inv) (c .before .before .before .before .loop-test .taken) .some), omega arith)
 
 loop-less : tie.Need-loop-less Inv-loop μ-loop
 loop-less c = search needs
 
 loop-again : tie.Need-loop-again Inv-loop μ-loop
-loop-again c = let h : c .before .before .before .before .before .before .before .before .loop .at + 2 + 4 * c .before .before .before .before .before .size .result ≤ length (c .before .before .before .before .before .before .before .before .before .before .before .args .attr .now) = omega (arith, here (c .before .before .before .before .before .before .before .before .loop .inv) (c .before .before .before .before .before .before .before .loop-test .taken) .body) in
+loop-again c = let h : c .before .before .before .before .before .before .before .before .loop .at + 2 + numberBytes * c .before .before .before .before .before .size .result ≤ length (c .before .before .before .before .before .before .before .before .before .before .before .args .attr .now) = omega (arith, here (c .before .before .before .before .before .before .before .before .loop .inv) (c .before .before .before .before .before .before .before .loop-test .taken) .body) in
     gathers-on (c .before .before .before .before .before .before .before .before .loop .inv) (c .before .before .before .before .before .before .before .loop-test .taken) _ _ _ _ _ (c .before .before .before .before .before .size .ensures .0) (omega arith)
-    (omega (arith, body-length (c .before .before .before .before .before .before .before .before .before .before .before .args .attr .now) (c .before .before .before .before .before .before .before .before .loop .at + 2) (4 * c .before .before .before .before .before .size .result) h)) refl (c .before .before .merge-segment .ensures)
+    (omega (arith, body-length (c .before .before .before .before .before .before .before .before .before .before .before .args .attr .now) (c .before .before .before .before .before .before .before .before .loop .at + 2) (numberBytes * c .before .before .before .before .before .size .result) h)) refl (c .before .before .merge-segment .ensures)
 
 same-length : tie.Need-same-length Inv-loop μ-loop
 same-length c = c .before .loop .inv .same-length

@@ -4,12 +4,13 @@ use Prim.Native.Nat.{_-_, _+_, _≤_}
 use native.Mathlib.Omega.{arith}
 use mathlib.Core.Path.{_≡_, sym, _∙_}
 use lib.ListN.{length}
+use Rattle.as_path.specs.Segments.{numberBytes}
 use Rattle.as_path.proofs.Storing.{Pushing, pushes, skips, stores, over, segment-stored}
 use Rattle.as_path.proofs.merge_segment.Statement.{statement}
 use Rattle.as_path.proofs.merge_segment.Tie as tie
 
 abbrev Inv-loop : tie.InvT-loop
-Inv-loop body path₀ n count last₀ to₀ k₀ path last to k = Pushing 4 body count path₀ last₀ to₀ k₀ path last to k
+Inv-loop body path₀ n count last₀ to₀ k₀ path last to k = Pushing numberBytes body count path₀ last₀ to₀ k₀ path last to k
 
 abbrev μ-loop : tie.MeasureT-loop
 μ-loop body path₀ n count last₀ to₀ k₀ path last to k = count - k
@@ -54,7 +55,7 @@ same-length : tie.Need-same-length Inv-loop μ-loop
 same-length c = search needs
 
 returns : tie.Need-returns Inv-loop μ-loop
-returns c = segment-stored 4 _ _ _ (omega arith) (c .before .before .before .before .before .before .number-at .ensures) (c .before .before .before .before .put .ensures) (over (c .before .loop .inv) (c .loop-test .left))
+returns c = segment-stored numberBytes _ _ _ (omega arith) (c .before .before .before .before .before .before .number-at .ensures) (c .before .before .before .before .put .ensures) (over (c .before .loop .inv) (c .loop-test .left))
 
 pub merge-segment-spec : {M : Type 1} → statement M
 merge-segment-spec =

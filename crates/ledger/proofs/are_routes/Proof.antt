@@ -1,4 +1,4 @@
--- `routes::are_routes` meets its contract. Assumes nothing.
+-- `ledger::are_routes` meets its contract. Assumes nothing.
 use borrow.Author.Needs.{needs}
 use Prim.Native.Nat.{_-_}
 use mathlib.Core.Path.{sym, _∙_}

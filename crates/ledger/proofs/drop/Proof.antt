@@ -1,4 +1,4 @@
--- `routes::drop` meets its contract. Assumes nothing.
+-- `ledger::drop` meets its contract. Assumes nothing.
 use mathlib.Core.Path.{sym, _∙_}
 use borrow.Author.Tests.{not-true, not-false}
 use Rattle.ledger.proofs.Storing.{drop-length, drop-malformed, drop-none, drop-goes, drop-done}

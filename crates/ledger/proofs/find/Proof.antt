@@ -1,4 +1,4 @@
--- `routes::find` meets its contract. Assumes nothing.
+-- `ledger::find` meets its contract. Assumes nothing.
 use borrow.Author.Needs.{needs}
 use Prim.Native.Nat.{_-_}
 use native.Mathlib.Omega.{arith}
@@ -7,7 +7,7 @@ use Rattle.ledger.proofs.find.Statement.{statement}
 use Rattle.ledger.proofs.find.Tie as tie
 
 abbrev Inv-loop : tie.InvT-loop
-Inv-loop led number low₀ high₀ low high = Between led number low high
+Inv-loop led number low₀ high₀ low high = Between led (number .0) low high
 
 abbrev μ-loop : tie.MeasureT-loop
 μ-loop led number low₀ high₀ low high = high - low
@@ -16,7 +16,7 @@ word-requires : tie.Need-word-requires Inv-loop μ-loop
 word-requires c κs = omega (arith, head-within (c .before .args .led .now) (c .before .pre))
 
 loop-holds : tie.Need-loop-holds Inv-loop μ-loop
-loop-holds c = let s = c .before .before in starts (s .args .led .now) (s .args .number) _ (s .pre) (c .word .ensures .0)
+loop-holds c = let s = c .before .before in starts (s .args .led .now) (s .args .number .0) _ (s .pre) (c .word .ensures .0)
 
 sub-middle : tie.Need-sub-middle Inv-loop μ-loop
 sub-middle c = search needs

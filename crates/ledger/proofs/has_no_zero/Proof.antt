@@ -1,4 +1,4 @@
--- `routes::has_no_zero` meets its contract. Assumes nothing.
+-- `ledger::has_no_zero` meets its contract. Assumes nothing.
 use borrow.Author.Needs.{needs}
 use mathlib.Core.Path.{refl}
 use Prim.Native.Nat.{_-_}

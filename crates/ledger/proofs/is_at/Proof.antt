@@ -1,4 +1,4 @@
--- `routes::is_at` meets its contract. Assumes nothing.
+-- `ledger::is_at` meets its contract. Assumes nothing.
 use native.Mathlib.Omega.{arith}
 use Rattle.ledger.proofs.Looking.{head-within, past, there-in, there}
 use borrow.Author.Needs.{needs}
@@ -20,17 +20,17 @@ mul-result-2 c = search needs
 shared-slice-read-result : tie.Need-shared-slice-read-result
 shared-slice-read-result c =
     let s = c .before .before .before .before in
-    omega (arith, there-in (s .args .led .now) (s .pre .0) (s .args .number) (s .pre .1) (c .before .before .word .ensures .0) (c .before .if1 .taken))
+    omega (arith, there-in (s .args .led .now) (s .pre .0) (s .args .number .0) (s .pre .1) (c .before .before .word .ensures .0) (c .before .if1 .taken))
 
 returns : tie.Need-returns
 returns c =
     let s = c .before .before .before .before in
-    there (s .args .led .now) (s .pre .0) (s .args .number) (s .pre .1) (c .before .before .word .ensures .0) (c .before .if1 .taken)
+    there (s .args .led .now) (s .pre .0) (s .args .number .0) (s .pre .1) (c .before .before .word .ensures .0) (c .before .if1 .taken)
 
 returns-2 : tie.Need-returns-2
 returns-2 c =
     let s = c .before .before .before in
-    past (s .args .led .now) (s .pre .0) (s .args .number) (s .pre .1) (c .before .word .ensures .0) (c .if1 .left)
+    past (s .args .led .now) (s .pre .0) (s .args .number .0) (s .pre .1) (c .before .word .ensures .0) (c .if1 .left)
 
 pub is-at-spec : {M : Type 1} → statement M
 is-at-spec =

@@ -1,4 +1,4 @@
--- `routes::is_behind` meets its contract. Assumes nothing.
+-- `ledger::is_behind` meets its contract. Assumes nothing.
 use native.Mathlib.Omega.{arith}
 use Rattle.ledger.proofs.Checking.{first-behind, behind-in, next-behind}
 use borrow.Author.Needs.{needs}

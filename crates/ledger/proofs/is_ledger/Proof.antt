@@ -1,9 +1,10 @@
--- `routes::is_ledger` meets its contract. Assumes nothing.
+-- `ledger::is_ledger` meets its contract. Assumes nothing.
 use mathlib.Core.Path.{sym, _∙_}
 use native.Mathlib.Omega.{arith}
 use borrow.Author.Tests.{not-true, not-false}
 use Rattle.table.proofs.Exact.{passes-sound}
 use Rattle.ledger.proofs.Checking.{not-formed, routes-over, paths-over, routes-decide}
+use Rattle.ledger.specs.Routes.{routeHead, routeTail}
 use borrow.Author.Needs.{needs}
 use Rattle.ledger.proofs.is_ledger.Statement.{statement}
 use Rattle.ledger.proofs.is_ledger.Tie as tie
@@ -15,7 +16,7 @@ returns : tie.Need-returns
 returns c = not-formed _ (sym (c .before .well-formed .ensures) ∙ not-true _ (c .if1 .taken))
 
 word-requires : tie.Need-word-requires
-word-requires c κs = omega (arith, passes-sound 7 0 _ (sym (c .before .well-formed .ensures) ∙ not-false _ (c .if1 .left)) .fits)
+word-requires c κs = omega (arith, passes-sound routeHead routeTail _ (sym (c .before .well-formed .ensures) ∙ not-false _ (c .if1 .left)) .fits)
 
 returns-2 : tie.Need-returns-2
 returns-2 c =
@@ -25,7 +26,7 @@ returns-2 c =
 word-requires-2 : tie.Need-word-requires-2
 word-requires-2 c κs =
     let w = c .before .before in
-    omega (arith, passes-sound 7 0 _ (sym (w .before .well-formed .ensures) ∙ not-false _ (w .if1 .left)) .fits)
+    omega (arith, passes-sound routeHead routeTail _ (sym (w .before .well-formed .ensures) ∙ not-false _ (w .if1 .left)) .fits)
 
 returns-3 : tie.Need-returns-3
 returns-3 c =
@@ -35,7 +36,7 @@ returns-3 c =
 are-routes-requires : tie.Need-are-routes-requires
 are-routes-requires c κs =
     let w = c .before .before .before .before in
-    passes-sound 7 0 _ (sym (w .before .well-formed .ensures) ∙ not-false _ (w .if1 .left))
+    passes-sound routeHead routeTail _ (sym (w .before .well-formed .ensures) ∙ not-false _ (w .if1 .left))
 
 returns-4 : tie.Need-returns-4
 returns-4 c =

@@ -1,4 +1,4 @@
--- `routes::is_path` meets its contract. Assumes nothing.
+-- `ledger::is_path` meets its contract. Assumes nothing.
 use mathlib.Core.Path.{sym, _∙_}
 use borrow.Author.Tests.{not-true, not-false}
 use Rattle.ledger.proofs.Paths.{path-empty, path-long, path-zero, path-first}
@@ -7,10 +7,10 @@ use Rattle.ledger.proofs.is_path.Statement.{statement}
 use Rattle.ledger.proofs.is_path.Tie as tie
 
 returns : tie.Need-returns
-returns c = let a = c .before .before .args in path-empty (a .role) (a .neighbour) _ (c .if1 .taken)
+returns c = let a = c .before .before .args in path-empty (a .role) (a .neighbour .0) _ (c .if1 .taken)
 
 returns-2 : tie.Need-returns-2
-returns-2 c = let a = c .before .before .before .args in path-long (a .role) (a .neighbour) _ (c .before .if1 .left) (c .if2 .taken)
+returns-2 c = let a = c .before .before .before .args in path-long (a .role) (a .neighbour .0) _ (c .before .if1 .left) (c .if2 .taken)
 
 has-no-zero-requires : tie.Need-has-no-zero-requires
 has-no-zero-requires c κs = search needs
@@ -18,19 +18,30 @@ has-no-zero-requires c κs = search needs
 returns-3 : tie.Need-returns-3
 returns-3 c =
     let a = c .before .before .before .before .before .args in
-    path-zero (a .role) (a .neighbour) _ (c .before .before .before .if1 .left) (c .before .before .if2 .left)
+    path-zero (a .role) (a .neighbour .0) _ (c .before .before .before .if1 .left) (c .before .before .if2 .left)
     (sym (c .before .has-no-zero .ensures) ∙ not-true _ (c .if3 .taken))
+
+number-requires : tie.Need-number-requires
+number-requires c κs = search needs
 
 shared-slice-read-result : tie.Need-shared-slice-read-result
 shared-slice-read-result c = search needs
 
 returns-4 : tie.Need-returns-4
 returns-4 c =
-    let a = c .before .before .before .before .before .before .args in
-    path-first (a .role) (a .neighbour) _ (c .before .before .before .before .if1 .left) (c .before .before .before .if2 .left)
-    (sym (c .before .before .has-no-zero .ensures) ∙ not-false _ (c .before .if3 .left))
+    let z = c .before .before in
+    let a = z .before .before .before .before .before .args in
+    path-first (a .role) (a .neighbour .0) _ (z .before .before .before .if1 .left) (z .before .before .if2 .left) (c .before .number .ensures)
+    (sym (z .before .has-no-zero .ensures) ∙ not-false _ (z .if3 .left))
 
 pub is-path-spec : {M : Type 1} → statement M
 is-path-spec =
     tie.close
-    (tie.spec returns returns-2 has-no-zero-requires returns-3 shared-slice-read-result returns-4)
+    (tie.spec
+    returns
+    returns-2
+    has-no-zero-requires
+    returns-3
+    number-requires
+    shared-slice-read-result
+    returns-4)

@@ -1,4 +1,4 @@
--- `routes::is_route` meets its contract. Assumes nothing.
+-- `ledger::is_route` meets its contract. Assumes nothing.
 use mathlib.Core.Path.{_∙_}
 use native.Mathlib.Omega.{arith}
 use borrow.Author.Tests.{not-true, not-false}
@@ -91,11 +91,17 @@ returns-2 c =
     c .is-path .ensures
     ∙ by-path (r .before .before .before .before .before .before .before .before .pre) (not-false _ (r .if1 .left)) (c .before .before .if2 .taken)
 
+number-requires : tie.Need-number-requires
+number-requires c κs = search needs
+
 sub-result : tie.Need-sub-result
 sub-result c = search needs
 
 returns-3 : tie.Need-returns-3
-returns-3 c = by-ground (c .before .before .before .before .before .before .before .before .before .pre) (not-false _ (c .before .if1 .left)) (c .if2 .left)
+returns-3 c =
+    let r = c .before .before in
+    by-ground (r .before .before .before .before .before .before .before .before .pre) (not-false _ (r .if1 .left)) (c .before .if2 .left)
+    (c .number .ensures)
 
 pub is-route-spec : {M : Type 1} → statement M
 is-route-spec =
@@ -128,5 +134,6 @@ is-route-spec =
     part-is-path-end
     is-path-requires
     returns-2
+    number-requires
     sub-result
     returns-3)

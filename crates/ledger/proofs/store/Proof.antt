@@ -1,4 +1,4 @@
--- `routes::store` meets its contract. Assumes nothing.
+-- `ledger::store` meets its contract. Assumes nothing.
 use mathlib.Core.Path.{sym, _∙_}
 use Rattle.ledger.specs.Calls.{routeFor}
 use Rattle.types.specs.Numbers.{roleNumber}

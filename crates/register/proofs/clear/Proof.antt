@@ -4,7 +4,7 @@ use mathlib.Core.Path.{_≡_, sym, _∙_}
 use borrow.Author.Tests.{not-true, not-false}
 use Rattle.table.specs.Table.{decode}
 use Rattle.table.proofs.Staying.{went}
-use Rattle.register.specs.Register.{headWords, tailWords, sourceWord}
+use Rattle.register.specs.Register.{recordHead, recordTail, sourceWord}
 use Rattle.register.proofs.Filing.{clear-length, clear-malformed, clear-source, clear-may, gone-few, clear-done}
 use borrow.Author.Needs.{needs}
 use Rattle.register.proofs.clear.Statement.{statement}
@@ -35,14 +35,14 @@ clear-requires c κs = clear-may (c .before .before .before .before .before .bef
 
 cast-t14 : tie.Need-cast-t14
 cast-t14 c = let a = c .before .before .before .before .before .before .before .before .before .before .args in
-    omega (arith, gone-few (a .reg .now) (a .source) (c .before .before .before .before .before .before .before .before .if1 .left) (sym (c .before .before .before .before .before .before .is-register .ensures) ∙ not-false _ (c .before .before .before .before .before .if2 .left)) (went sourceWord (a .source) (decode headWords tailWords (a .reg .now)) (c .before .before .clear .ensures .1)))
+    omega (arith, gone-few (a .reg .now) (a .source) (c .before .before .before .before .before .before .before .before .if1 .left) (sym (c .before .before .before .before .before .before .is-register .ensures) ∙ not-false _ (c .before .before .before .before .before .if2 .left)) (went sourceWord (a .source) (decode recordHead recordTail (a .reg .now)) (c .before .before .clear .ensures .1)))
 
 same-length-3 : tie.Need-same-length-3
 same-length-3 c = search needs
 
 returns-4 : tie.Need-returns-4
 returns-4 c = let a = c .before .before .before .before .before .before .before .before .before .before .args in
-    clear-done (a .reg .now) (a .source) (c .before .before .before .before .before .before .before .before .if1 .left) (sym (c .before .before .before .before .before .before .is-register .ensures) ∙ not-false _ (c .before .before .before .before .before .if2 .left)) (went sourceWord (a .source) (decode headWords tailWords (a .reg .now)) (c .before .before .clear .ensures .1)) (c .before .before .before .before .if3 .left) (c .before .before .clear .ensures .0)
+    clear-done (a .reg .now) (a .source) (c .before .before .before .before .before .before .before .before .if1 .left) (sym (c .before .before .before .before .before .before .is-register .ensures) ∙ not-false _ (c .before .before .before .before .before .if2 .left)) (went sourceWord (a .source) (decode recordHead recordTail (a .reg .now)) (c .before .before .clear .ensures .1)) (c .before .before .before .before .if3 .left) (c .before .before .clear .ensures .0)
 
 pub clear-spec : {M : Type 1} → statement M
 clear-spec =

@@ -1,7 +1,7 @@
 -- `register::is_register` meets its contract. Assumes nothing.
 use mathlib.Core.Path.{sym, _∙_}
 use native.Mathlib.Omega.{arith}
-use Rattle.register.specs.Register.{headWords, tailWords}
+use Rattle.register.specs.Register.{recordHead, recordTail}
 use borrow.Author.Tests.{not-true, not-false}
 use Rattle.table.proofs.Exact.{passes-sound}
 use Rattle.register.proofs.Checking.{not-formed, records-over, lists-over, records-decide}
@@ -16,7 +16,7 @@ returns : tie.Need-returns
 returns c = not-formed _ (sym (c .before .well-formed .ensures) ∙ not-true _ (c .if1 .taken))
 
 word-requires : tie.Need-word-requires
-word-requires c κs = omega (arith, passes-sound headWords tailWords _ (sym (c .before .well-formed .ensures) ∙ not-false _ (c .if1 .left)) .fits)
+word-requires c κs = omega (arith, passes-sound recordHead recordTail _ (sym (c .before .well-formed .ensures) ∙ not-false _ (c .if1 .left)) .fits)
 
 returns-2 : tie.Need-returns-2
 returns-2 c =
@@ -26,7 +26,7 @@ returns-2 c =
 word-requires-2 : tie.Need-word-requires-2
 word-requires-2 c κs =
     let w = c .before .before in
-    omega (arith, passes-sound headWords tailWords _ (sym (w .before .well-formed .ensures) ∙ not-false _ (w .if1 .left)) .fits)
+    omega (arith, passes-sound recordHead recordTail _ (sym (w .before .well-formed .ensures) ∙ not-false _ (w .if1 .left)) .fits)
 
 returns-3 : tie.Need-returns-3
 returns-3 c =
@@ -36,7 +36,7 @@ returns-3 c =
 are-records-requires : tie.Need-are-records-requires
 are-records-requires c κs =
     let w = c .before .before .before .before in
-    (passes-sound headWords tailWords _ (sym (w .before .well-formed .ensures) ∙ not-false _ (w .if1 .left)), omega arith)
+    (passes-sound recordHead recordTail _ (sym (w .before .well-formed .ensures) ∙ not-false _ (w .if1 .left)), omega arith)
 
 returns-4 : tie.Need-returns-4
 returns-4 c =

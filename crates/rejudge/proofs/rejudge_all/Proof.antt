@@ -5,11 +5,11 @@ use borrow.Author.Needs.{needs}
 use Rattle.rejudge.proofs.rejudge_all.Statement.{statement}
 use Rattle.rejudge.proofs.rejudge_all.Tie as tie
 
-word-requires : tie.Need-word-requires
-word-requires c κs = search needs
+path-words-requires : tie.Need-path-words-requires
+path-words-requires c κs = search needs
 
-word-requires-2 : tie.Need-word-requires-2
-word-requires-2 c κs = omega (arith, head-within _ (c .before .before .before .before .pre .0))
+word-requires : tie.Need-word-requires
+word-requires c κs = omega (arith, head-within _ (c .before .before .before .before .pre .0))
 
 slice-aggregate-rejudge-routes : tie.Need-slice-aggregate-rejudge-routes
 slice-aggregate-rejudge-routes c = search needs
@@ -45,8 +45,8 @@ pub rejudge-all-spec : {M : Type 1} → statement M
 rejudge-all-spec =
     tie.close
     (tie.spec
+    path-words-requires
     word-requires
-    word-requires-2
     slice-aggregate-rejudge-routes
     rejudge-routes-requires
     same-length

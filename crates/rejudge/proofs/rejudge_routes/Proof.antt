@@ -14,11 +14,11 @@ Inv-loop reg hints led₀ n changed₀ i₀ led changed i = Turned (hopOf (recor
 abbrev μ-loop : tie.MeasureT-loop
 μ-loop reg hints led₀ n changed₀ i₀ led changed i = n - i
 
-word-requires : tie.Need-word-requires Inv-loop μ-loop
-word-requires c κs = omega (arith, c .before .before .before .before .pre .1)
+count-requires : tie.Need-count-requires Inv-loop μ-loop
+count-requires c κs = search needs
 
 loop-holds : tie.Need-loop-holds Inv-loop μ-loop
-loop-holds c = turns _ _ (c .before .before .before .before .before .pre .1) (c .before .before .before .before .before .pre .2) (c .word .ensures .0)
+loop-holds c = turns _ _ (c .before .before .before .before .before .pre .1) (c .before .before .before .before .before .pre .2) (c .count .ensures .0)
 
 rejudge-route-requires : tie.Need-rejudge-route-requires Inv-loop μ-loop
 rejudge-route-requires c κs = (c .before .before .before .before .before .before .before .before .pre .0, may-turn (c .before .before .loop .inv) (c .before .loop-test .taken))
@@ -55,7 +55,7 @@ rejudge-routes-spec =
     (tie.spec
     Inv-loop
     μ-loop
-    word-requires
+    count-requires
     loop-holds
     rejudge-route-requires
     add-i

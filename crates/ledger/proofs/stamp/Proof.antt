@@ -1,10 +1,10 @@
--- `rejudge::restamp` meets its contract. Assumes nothing.
+-- `ledger::stamp` meets its contract. Assumes nothing.
 use lib.ListN.{length-set}
 use native.Mathlib.Omega.{arith}
-use Rattle.rejudge.proofs.Stores.{slot-in, stamped-effect}
+use Rattle.ledger.proofs.Stamping.{slot-in, stamped-effect}
 use borrow.Author.Needs.{needs}
-use Rattle.rejudge.proofs.restamp.Statement.{statement}
-use Rattle.rejudge.proofs.restamp.Tie as tie
+use Rattle.ledger.proofs.stamp.Statement.{statement}
+use Rattle.ledger.proofs.stamp.Tie as tie
 
 mul-slot : tie.Need-mul-slot
 mul-slot c = omega (arith, slot-in (c .before .pre))
@@ -86,8 +86,8 @@ returns c = let p = c .before .before .before .before .before .before .before .p
     let g = c .before .before .before .place-b .ensures in
     stamped-effect p v e f g
 
-pub restamp-spec : {M : Type 1} → statement M
-restamp-spec =
+pub stamp-spec : {M : Type 1} → statement M
+stamp-spec =
     tie.close
     (tie.spec
     mul-slot

@@ -1,0 +1,20 @@
+-- Keep, Drop and Re-judge do what is said of them. Assumes nothing.
+use Rattle.ledger.proofs.Changes.{drops-own, drops-no-other, drops-one}
+use Rattle.filter.specs.Laws.{CallLaws}
+use Rattle.filter.proofs.Answers.{keep-answers, keep-stores, keep-holds, rejudge-rewrites, rejudge-count, rejudge-twice}
+
+pub call-laws : CallLaws
+call-laws =
+    record {
+      keep-answers = λ reg led k a h. keep-answers reg led k h;
+      keep-stores = λ reg led k a h. keep-stores reg led k h;
+      keep-holds = λ reg led k a h. keep-holds reg led k h;
+      drops-own = drops-own;
+      drops-no-other = drops-no-other;
+      drops-one = drops-one;
+      rejudge-rewrites = λ reg led n h i w. rejudge-rewrites reg led h i w;
+      rejudge-count = λ reg led n h. rejudge-count reg led h;
+      rejudge-twice =
+          λ reg led w.
+          rejudge-twice reg led (record { long = w .register-long; ok = w .register-ok }) (record { long = w .ledger-long; ok = w .ledger-ok });
+    }
