@@ -39,7 +39,7 @@ use Rattle.register.proofs.Changes as changes
 use Rattle.register.proofs.Refusals.{Register, records-register}
 use Rattle.ledger.specs.Routes.{ledgerWords, Route, routesOf, routeOk, routesOk, keyOf}
 use Rattle.ledger.specs.Routes as ledger
-use Rattle.ledger.specs.Calls.{ledgerRow, holdsRoute, putRoute, storeRows, eraseRoute, dropEffect, countDiffering}
+use Rattle.ledger.specs.Calls.{ledgerRow, putRoute, storeRows, eraseRoute, dropEffect, countDiffering}
 use Rattle.ledger.proofs.Entries.{routes-of-words}
 use Rattle.ledger.proofs.Entries as ledger-entries
 use Rattle.ledger.proofs.Holding.{room-routes, room-paths, has-room, each-ok}

@@ -22,7 +22,7 @@ use Rattle.types.specs.declared.Rejudged.the-variants.{Changed}
 use Rattle.types.specs.declared.Refusal.{Refusal}
 use Rattle.types.specs.Numbers.{verdictNumber, placeA, placeB, verdictOf}
 use Rattle.types.specs.Rows.{firstGiven, unlessRefused}
-use Rattle.keyed.specs.Keyed.{samePair, beforePair, find}
+use Rattle.keyed.specs.Keyed.{samePair, beforePair}
 use Rattle.keyed.proofs.Orders.{ordered-pairs, ordered-ℕ}
 use Rattle.keyed.proofs.Finds.{find-key, every-found, same-finds}
 use Rattle.keyed.proofs.Mapping.{find-map}
