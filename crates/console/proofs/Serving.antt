@@ -11,7 +11,7 @@ use Rattle.register.specs.Register.{registerWords}
 use Rattle.ledger.specs.Routes.{ledgerWords}
 use Rattle.protocol.specs.declared.State.{State}
 use Rattle.protocol.specs.declared.Lent.{Lent}
-use Rattle.protocol.specs.Commands.{mostLent}
+use Rattle.commands.specs.Commands.{mostLent}
 use Rattle.protocol.specs.Feeding.{Session, fed, fedBytes, HeldBoth, lentTables, lineIn, mostText, Ready}
 use Rattle.protocol.specs.Sessions.{fedAll}
 use Rattle.protocol.proofs.Feedings.{some-used}

@@ -23,7 +23,7 @@ use Rattle.as_path.specs.declared.Scan.{Scan}
 use Rattle.as_path.specs.declared.Scan.the-variants.{Clean, Faulty}
 use Rattle.as_path.specs.declared.Grounded.{Grounded}
 use Rattle.as_path.specs.declared.Grounded.the-variants.{By, Not}
-use Rattle.as_path.specs.Segments.{Segment, segments, segmentAt, typeAt, countAt, numberAt}
+use Rattle.as_path.specs.Segments.{numberBytes, Segment, segments, segmentAt, typeAt, countAt, numberAt}
 use Rattle.as_path.specs.Faults.{firstFault}
 use Rattle.as_path.specs.Grounds.{isSequence, isNotNeighbour, hasSet, groundOf}
 use Rattle.as_path.specs.Merging.{mergedPath}
@@ -75,15 +75,15 @@ module _ (role neighbour : ℕ) (attribute : List ℕ) where
     passes : isNotNeighbour role neighbour (segmentAt 4 attribute 0) ≡ false
 
   -- An attribute without a fault and without a ground is such.
-  ungrounded : firstFault 4 attribute ≡ Clean → groundOf role neighbour (segments 4 attribute) ≡ Not → Ungrounded
+  ungrounded : firstFault numberBytes attribute ≡ Clean → groundOf role neighbour (segments numberBytes attribute) ≡ Not → Ungrounded
   unfolding hasSet
   ungrounded clean ground = go (ltb 0 (length attribute)) refl
     where
       some-bytes : 0 < length attribute → Ungrounded
-      some-bytes h = tests (isNotNeighbour role neighbour (segmentAt 4 attribute 0)) refl (hasSet (segments 4 attribute)) refl
+      some-bytes h = tests (isNotNeighbour role neighbour (segmentAt 4 attribute 0)) refl (hasSet (segments numberBytes attribute)) refl
           (sym (ground-is 4 attribute role neighbour h) ∙ ground)
         where
-          kind : hasSet (segments 4 attribute) ≡ false → typeAt attribute 0 ≡ 2
+          kind : hasSet (segments numberBytes attribute) ≡ false → typeAt attribute 0 ≡ 2
           kind e =
               let w = first-whole 4 attribute clean h in
               let n : typeAt attribute 0 ≡ 1 → ⊥ = eqb-false _ _ (neither-left (eqb (typeAt attribute 0) 1) _ (rw (segments-some 4 attribute h) at e)) in
@@ -92,7 +92,7 @@ module _ (role neighbour : ℕ) (attribute : List ℕ) where
               two : (n : ℕ) → (n ≡ 0 → ⊥) → n ≤ 2 → (n ≡ 1 → ⊥) → n ≡ 2
               two n a b c = omega arith
 
-          tests : (b : Bool) → isNotNeighbour role neighbour (segmentAt 4 attribute 0) ≡ b → (c : Bool) → hasSet (segments 4 attribute) ≡ c
+          tests : (b : Bool) → isNotNeighbour role neighbour (segmentAt 4 attribute 0) ≡ b → (c : Bool) → hasSet (segments numberBytes attribute) ≡ c
               → cond b (By NotNeighbour) (cond c (By AsSet) Not) ≡ Not → Ungrounded
           tests true p c q e = let z : _≡_ {A = ℕ} 0 1 = cc in absurd (omega arith)
           tests false p true q e = let z : _≡_ {A = ℕ} 0 1 = cc in absurd (omega arith)
@@ -109,14 +109,14 @@ module _ (role neighbour : ℕ) (attribute : List ℕ) where
   -- A merged path keeps the rules of a path.
   pub path-ok : (path : List ℕ) → contentOf role neighbour attribute ≡ merged path → length path ≤ mostNumbers → pathOk role neighbour path ≡ true
   unfolding contentOf pathOk
-  path-ok path e short = go (firstFault 4 attribute) refl (groundOf role neighbour (segments 4 attribute)) refl e
+  path-ok path e short = go (firstFault numberBytes attribute) refl (groundOf role neighbour (segments numberBytes attribute)) refl e
     where
-      go : (s : Scan) → firstFault 4 attribute ≡ s → (g : Grounded) → groundOf role neighbour (segments 4 attribute) ≡ g
-          → afterScan s (afterGround g (mergedPath (segments 4 attribute))) ≡ merged path → pathOk role neighbour path ≡ true
+      go : (s : Scan) → firstFault numberBytes attribute ≡ s → (g : Grounded) → groundOf role neighbour (segments numberBytes attribute) ≡ g
+          → afterScan s (afterGround g (mergedPath (segments numberBytes attribute))) ≡ merged path → pathOk role neighbour path ≡ true
       go (Faulty f p) c g n h = let z : _≡_ {A = ℕ} 0 1 = cc in absurd (omega arith)
       go Clean c (By g) n h = let z : _≡_ {A = ℕ} 0 1 = cc in absurd (omega arith)
       go Clean c Not n h =
-          let same : mergedPath (segments 4 attribute) ≡ path = cc in
+          let same : mergedPath (segments numberBytes attribute) ≡ path = cc in
           let u : Ungrounded = ungrounded c n in
           let w = first-whole 4 attribute c (u .bytes) in
           let first = rw same at (merged-first 4 attribute c (u .bytes)) in
@@ -129,14 +129,14 @@ module _ (role neighbour : ℕ) (attribute : List ℕ) where
   -- Ground 2 is never given with role 4.
   pub ground-role : (g : Ground) → contentOf role neighbour attribute ≡ grounded g → not (eqb (groundNumber g) 2 && isRouteServer role) ≡ true
   unfolding contentOf
-  ground-role g e = go (firstFault 4 attribute) (groundOf role neighbour (segments 4 attribute)) refl e
+  ground-role g e = go (firstFault numberBytes attribute) (groundOf role neighbour (segments numberBytes attribute)) refl e
     where
       of-ground : (g : Ground) (b : Bool) → isRouteServer role ≡ b → (g ≡ NotNeighbour → b ≡ false) → not (eqb (groundNumber g) 2 && b) ≡ true
       of-ground Empty b p f = refl
       of-ground AsSet b p f = refl
       of-ground NotNeighbour b p f = rw (f refl)
 
-      server : (b : Bool) → isRouteServer role ≡ b → groundOf role neighbour (segments 4 attribute) ≡ By NotNeighbour → b ≡ false
+      server : (b : Bool) → isRouteServer role ≡ b → groundOf role neighbour (segments numberBytes attribute) ≡ By NotNeighbour → b ≡ false
       server false p h = refl
       server true p h = bytes (ltb 0 (length attribute)) refl
         where
@@ -145,15 +145,15 @@ module _ (role neighbour : ℕ) (attribute : List ℕ) where
           sets false q = let z : _≡_ {A = ℕ} 0 1 = cc in absurd (omega arith)
 
           bytes : (b : Bool) → ltb 0 (length attribute) ≡ b → true ≡ false
-          bytes true q = sets (hasSet (segments 4 attribute)) (rw (ground-is 4 attribute role neighbour (ltb-true _ _ q), spared p) at h)
+          bytes true q = sets (hasSet (segments numberBytes attribute)) (rw (ground-is 4 attribute role neighbour (ltb-true _ _ q), spared p) at h)
           bytes false q =
               let n : length attribute ≡ 0 = omega (arith, ltb-false 0 (length attribute) q) in
               let z : By Empty ≡ By NotNeighbour = ground-empty 4 attribute role neighbour n ∙ h in
               let y : _≡_ {A = ℕ} 0 1 = cc in
               absurd (omega arith)
 
-      go : (s : Scan) (k : Grounded) → groundOf role neighbour (segments 4 attribute) ≡ k
-          → afterScan s (afterGround k (mergedPath (segments 4 attribute))) ≡ grounded g → not (eqb (groundNumber g) 2 && isRouteServer role) ≡ true
+      go : (s : Scan) (k : Grounded) → groundOf role neighbour (segments numberBytes attribute) ≡ k
+          → afterScan s (afterGround k (mergedPath (segments numberBytes attribute))) ≡ grounded g → not (eqb (groundNumber g) 2 && isRouteServer role) ≡ true
       go (Faulty f p) k n h = let z : _≡_ {A = ℕ} 0 1 = cc in absurd (omega arith)
       go Clean Not n h = let z : _≡_ {A = ℕ} 0 1 = cc in absurd (omega arith)
       go Clean (By k) n h =

@@ -19,6 +19,7 @@ use Rattle.types.specs.Numbers.{faultNumber, refusalNumber, refusalPlace}
 use Rattle.types.specs.Rows.{orElse, firstGiven, Ranged}
 use Rattle.types.proofs.Clashes.{clash, some-not-none}
 use Rattle.types.proofs.Refusing.{row-given, row-passed, accepted-none}
+use Rattle.as_path.specs.Segments.{numberBytes}
 use Rattle.as_path.specs.declared.Scan.the-variants.{Faulty}
 use Rattle.as_path.specs.Faults.{firstFault}
 use Rattle.as_path.specs.Reading.{mostNumbers, Content, faulty, grounded, merged, contentOf}
@@ -97,7 +98,7 @@ no-place (none ∷ rows) (n ∷ ns) o h r e = no-place rows ns (both-right (outs
 pub record Placed (attribute : List ℕ) (r : Refusal) (p : ℕ) : Type 0 where
   pub fault : Fault
   pub is : r ≡ Attribute fault p
-  pub first : firstFault 4 attribute ≡ Faulty fault p
+  pub first : firstFault numberBytes attribute ≡ Faulty fault p
   pub short : length attribute ≤ mostBytes
 
 -- The first row of two lists that is given.

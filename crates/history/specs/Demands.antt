@@ -9,7 +9,7 @@ use Rattle.types.specs.declared.Answer.{Answer}
 use Rattle.types.specs.declared.Judged.the-variants.{Answered}
 use Rattle.types.specs.declared.Rejudged.the-variants.{Changed}
 use Rattle.types.specs.Numbers.{verdictNumber, placeA, placeB, verdictOf}
-use Rattle.as_path.specs.Segments.{segments}
+use Rattle.as_path.specs.Segments.{numberBytes, segments}
 use Rattle.rules.specs.Hops.{HopFunction}
 use Rattle.rules.specs.Verdicts.{judged}
 use Rattle.rules.specs.Judging.{judgedRoute}
@@ -60,7 +60,7 @@ pub record Demand2 (t : Tables) : Type 0 where
   -- It is the draft's own, from the attribute's segments on: word, ground or places, and gap.
   pub draft-answers : (l : List Call) (i role neighbour : ℕ) (attribute : List ℕ) (a : Answer)
       → judgedRoute (hopsAt t l i) role neighbour attribute ≡ Answered a
-      → draftRoute (hopsAt t l i) role neighbour (segments 4 attribute) ≡ a
+      → draftRoute (hopsAt t l i) role neighbour (segments numberBytes attribute) ≡ a
   -- A re-judging is never refused, and answers how many routes differ between the ledger before and after it.
   pub rejudge-counts : (l : List Call) (i : ℕ) → callAt l i ≡ rejudge
       → said t l i ≡ rejudged (Changed (countDiffering (routesOf (tables t l i .ledger)) (routesOf (tables t l (suc i) .ledger))))

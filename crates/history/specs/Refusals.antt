@@ -14,6 +14,7 @@ use Rattle.types.specs.declared.Refusal.{Refusal}
 use Rattle.types.specs.declared.Refusal.the-variants.{Attribute}
 use Rattle.types.specs.Numbers.{refusalNumber, refusalPlace}
 use Rattle.types.specs.Rows.{FirstAt, Ranged}
+use Rattle.as_path.specs.Segments.{numberBytes}
 use Rattle.as_path.specs.declared.Scan.the-variants.{Faulty}
 use Rattle.as_path.specs.Faults.{firstFault}
 use Rattle.register.specs.Calls.{fileRows, withdrawRows, clearRows}
@@ -112,6 +113,6 @@ pub record Demand1 : Type 0 where
   pub places-numbered : (r : Refusal) → ((12 ≤ refusalNumber r) × (refusalNumber r ≤ 16)) ↔ ((p : ℕ) × (refusalPlace r ≡ Byte p))
   -- It is then the first fault of the call's attribute, and the place is the fault's, at a byte of the attribute.
   pub place-first : (t : Tables) (c : AnyCall) (r : Refusal) (p : ℕ) → refusalOf t c ≡ some r → refusalPlace r ≡ Byte p
-      → (f : Fault) × ((r ≡ Attribute f p) × (firstFault 4 (attributeOf c) ≡ Faulty f p))
+      → (f : Fault) × ((r ≡ Attribute f p) × (firstFault numberBytes (attributeOf c) ≡ Faulty f p))
   pub place-within : (t : Tables) (c : AnyCall) (r : Refusal) (p : ℕ) → refusalOf t c ≡ some r → refusalPlace r ≡ Byte p
       → p < length (attributeOf c)
