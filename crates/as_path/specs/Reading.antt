@@ -1,6 +1,5 @@
 -- What an attribute is read as: its first fault, else its ground, else its merged path. Row 17 arises only of a merged path.
 use Prim.Native.Nat.{ℕ}
-use mathlib.Core.Path.{_≡_}
 use mathlib.Core.List.{List}
 use mathlib.Core.Bool.{cond}
 use lib.ListN.{length}
@@ -52,7 +51,3 @@ abbrev pub bufferAfter : Content → List ℕ → List ℕ
 bufferAfter (faulty f p) buffer = buffer
 bufferAfter (grounded g) buffer = buffer
 bufferAfter (merged l) buffer = sets buffer 0 l
-
--- The reader's answer to a content, and the buffer before and after it.
-abbrev pub ReadAs : Content → reading.Reading → List ℕ → List ℕ → Type 0
-ReadAs c r before after = (r ≡ readingOf c) × (after ≡ bufferAfter c before)

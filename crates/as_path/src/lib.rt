@@ -13,7 +13,7 @@ ghost use Rattle.as_path.specs.Segments.{numberBytes, numberAt, bodyNumb
 ghost use Rattle.as_path.specs.Faults.{firstFault};
 ghost use Rattle.as_path.specs.Grounds.{hasSet, groundOf, isNotNeighbour};
 ghost use Rattle.as_path.specs.Merging.{mergeRuns, mergedPath};
-ghost use Rattle.as_path.specs.Reading.{contentOf, ReadAs};
+ghost use Rattle.as_path.specs.Reading.{contentOf, readingOf, bufferAfter};
 ghost use Rattle.as_path.specs.Helpers.{Stored};
 
 // The most numbers of a merged path.
@@ -207,7 +207,8 @@ fn merge(attr: &[u8], path: &mut [u32]) -> usize
 
 // Reads an attribute. Of a merged path the buffer takes as much as it holds.
 pub fn read(role: Role, neighbour: AsNumber, attr: &[u8], path: &mut [u32]) -> Reading
-    ensures { λ r. ⌜ ReadAs (contentOf (roleNumber role) (neighbour .0) (now (attr .entry))) r (now (path .entry)) (now (path .exit)) ⌝ }
+    ensures { λ r. ⌜ (r ≡ readingOf (contentOf (roleNumber role) (neighbour .0) (now (attr .entry))))
+        × (now (path .exit) ≡ bufferAfter (contentOf (roleNumber role) (neighbour .0) (now (attr .entry))) (now (path .entry))) ⌝ }
 {
     match first_fault(attr) {
         Scan::Faulty(fault, at) => Reading::Refused(Refusal::Attribute(fault, at)),

@@ -12,8 +12,8 @@ use Rattle.types.specs.declared.Judged.{Judged}
 use Rattle.types.specs.declared.Judged.the-variants.{Answered, Refused}
 use Rattle.types.specs.Numbers.{refusalPlace}
 use Rattle.types.specs.Rows.{Effect, effect}
-use Rattle.rules.specs.Judging.{mostBytes}
-use Rattle.filter.specs.Calls.{Keeping, refusalIn, judgeAnswer, keepEffect}
+use Rattle.rules.specs.Judging.{mostBytes, refusalIn}
+use Rattle.filter.specs.Calls.{Keeping, judgeAnswer, keepEffect}
 use Rattle.filter.proofs.Places.{place-within, judge-placed, keep-placed}
 use Rattle.c_api.specs.Answers.{toldRoute, placeWord, telling}
 use Rattle.c_api.specs.Helpers.{placeIn}

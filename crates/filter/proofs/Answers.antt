@@ -25,7 +25,8 @@ use Rattle.register.proofs.Refusals.{Register}
 use Rattle.rejudge.specs.Rejudging.{rejudgedRoute, countBelow}
 use Rattle.rejudge.proofs.Rejudgements.{rejudged-ok, ground-stays, all-once}
 use Rattle.rejudge.proofs.Differences.{changed-is, second-none}
-use Rattle.filter.specs.Calls.{Keeping, hopIn, refusalIn, pathIn, judgeAnswer, keptAnswer, keptRoute, keepRows, keepEffect, rejudgeRows, rejudgeEffect}
+use Rattle.rules.specs.Judging.{refusalIn}
+use Rattle.filter.specs.Calls.{Keeping, hopIn, pathIn, judgeAnswer, keptAnswer, keptRoute, keepRows, keepEffect, rejudgeRows, rejudgeEffect}
 use Rattle.filter.specs.Laws.{KeptWith}
 use Rattle.filter.proofs.Judgings.{judge-answers}
 use Rattle.filter.proofs.Refusals.{keep-reads}

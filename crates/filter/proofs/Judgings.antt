@@ -31,13 +31,13 @@ use Rattle.as_path.proofs.Contents.{Merged, merged-means}
 use Rattle.as_path.proofs.MergedPaths.{merged-first}
 use Rattle.rules.specs.Hops.{HopFunction}
 use Rattle.rules.specs.Verdicts.{judged}
-use Rattle.rules.specs.Judging.{mostBytes, argumentRows, judgeRows, answerTo, judgedRoute}
+use Rattle.rules.specs.Judging.{mostBytes, argumentRows, judgeRows, answerTo, judgedRoute, refusalIn}
 use Rattle.rules.proofs.Judges.{judged-reads}
 use Rattle.register.specs.Register.{registerWords, registerOk}
 use Rattle.filter.specs.declared.Known.{Known}
 use Rattle.filter.specs.declared.Known.the-variants as known
 use Rattle.filter.specs.Helpers.{afterRole, knownFrom}
-use Rattle.filter.specs.Calls.{hopIn, refusalIn, judgeAnswer}
+use Rattle.filter.specs.Calls.{hopIn, judgeAnswer}
 
 -- ---- what was read
 
@@ -157,7 +157,7 @@ module _ (role neighbour : ℕ) (xs : List ℕ) where
 module _ (hop : HopFunction) (role neighbour : ℕ) (xs : List ℕ) where
   -- A judging is refused as the first of rows 9 to 17 that is given refuses it.
   pub judged-row : refusalIn (judgedRoute hop role neighbour xs) ≡ firstGiven (judgeRows role neighbour xs)
-  judged-row = judged-reads hop role neighbour xs refusalIn (λ r. refl) (λ a. refl)
+  judged-row = judged-reads hop role neighbour xs
 
   pub judged-refused : (r : Refusal) → knownFrom role neighbour xs ≡ known.Refused r → judgedRoute hop role neighbour xs ≡ Refused r
   unfolding judgedRoute

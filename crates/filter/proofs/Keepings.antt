@@ -21,14 +21,14 @@ use Rattle.types.proofs.Clashes.{clash}
 use Rattle.as_path.specs.declared.Reading.the-variants as reading
 use Rattle.as_path.specs.Reading.{contentOf, readingOf}
 use Rattle.rules.specs.Verdicts.{judged}
-use Rattle.rules.specs.Judging.{judgeRows, answerTo, judgedRoute}
+use Rattle.rules.specs.Judging.{judgeRows, answerTo, judgedRoute, refusalIn}
 use Rattle.rules.proofs.Judges.{first-append}
 use Rattle.register.specs.Register.{registerWords, registerOk}
 use Rattle.ledger.specs.Routes.{ledgerWords, Route, routesOf, ledgerOf, ledgerOk}
 use Rattle.ledger.specs.declared.Kept.{Kept}
 use Rattle.ledger.specs.declared.Kept.the-variants as kept
 use Rattle.ledger.specs.Calls.{routeFor, putRoute, storeRows, storeEffect}
-use Rattle.filter.specs.Calls.{Keeping, keeping, hopIn, tableRows, refusalIn, pathIn, keptAnswer, keptRoute, keepRows, keepEffect}
+use Rattle.filter.specs.Calls.{Keeping, keeping, hopIn, tableRows, pathIn, keptAnswer, keptRoute, keepRows, keepEffect}
 use Rattle.filter.specs.Helpers.{storedEffect, Ready}
 use Rattle.filter.proofs.Judgings.{read-refused, read-ground, read-grounded, PathRead, path-judged, judged-row, judged-ready}
 

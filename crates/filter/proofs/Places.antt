@@ -26,10 +26,10 @@ use Rattle.as_path.specs.Reading.{mostNumbers, Content, faulty, grounded, merge
 use Rattle.as_path.proofs.Contents.{content-fault}
 use Rattle.as_path.proofs.Laws.{fault-laws}
 use Rattle.keyed.proofs.Orders.{both-left, both-right}
-use Rattle.rules.specs.Judging.{mostBytes, argumentRows, contentRow, judgeRows}
+use Rattle.rules.specs.Judging.{mostBytes, argumentRows, contentRow, judgeRows, refusalIn}
 use Rattle.rules.proofs.Judges.{first-append}
 use Rattle.ledger.specs.Calls.{storeRows}
-use Rattle.filter.specs.Calls.{Keeping, registerRows, tableRows, refusalIn, judgeRowsOver, judgeAnswer, keptRoute, keepEffect}
+use Rattle.filter.specs.Calls.{Keeping, registerRows, tableRows, judgeRowsOver, judgeAnswer, keptRoute, keepEffect}
 use Rattle.filter.proofs.Keepings.{keep-first}
 use Rattle.filter.proofs.Refusals.{judge-reads, keep-reads, route-numbers, judge-numbers, rejudge-numbers, store-ranges}
 

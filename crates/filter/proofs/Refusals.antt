@@ -21,12 +21,12 @@ use Rattle.types.specs.Rows.{rowIf, orElse, firstGiven, effect, unlessRefused, 
 use Rattle.types.proofs.Clashes.{some-not-none}
 use Rattle.types.proofs.Refusing.{refused-first, first-refuses, answers-first, refusal-leaves, numbered}
 use Rattle.as_path.specs.Reading.{mostNumbers, Content, faulty, grounded, merged, contentOf}
-use Rattle.rules.specs.Judging.{mostBytes, contentRow, judgeRows, unlessGiven, judgedRoute}
+use Rattle.rules.specs.Judging.{mostBytes, contentRow, judgeRows, unlessGiven, judgedRoute, refusalIn}
 use Rattle.rules.proofs.Judges.{first-append}
 use Rattle.register.specs.Register.{registerWords, registerOk}
 use Rattle.ledger.specs.Routes.{ledgerWords, routesOf, ledgerOf, roomFor, ledgerOk}
 use Rattle.ledger.specs.Calls.{holdsRoute, putRoute, storeRows}
-use Rattle.filter.specs.Calls.{Keeping, hopIn, registerRows, tableRows, judgeRowsOver, rejudgeRows, refusalIn, judgeAnswer, keptAnswer, keptRoute, keepRows, keepEffect, rejudgeEffect}
+use Rattle.filter.specs.Calls.{Keeping, hopIn, registerRows, tableRows, judgeRowsOver, rejudgeRows, judgeAnswer, keptAnswer, keptRoute, keepRows, keepEffect, rejudgeEffect}
 use Rattle.filter.proofs.Judgings.{judged-row}
 use Rattle.filter.proofs.Keepings.{keep-first}
 

@@ -13,7 +13,7 @@ use Rattle.types.specs.declared.Rejudged.the-variants as rejudged
 use Rattle.types.specs.Numbers.{refusalNumber}
 use Rattle.types.specs.Rows.{orElse, firstGiven, effect, unlessRefused}
 use Rattle.types.proofs.Refusing.{accepted-none, row-passed}
-use Rattle.rules.specs.Judging.{judgeRows}
+use Rattle.rules.specs.Judging.{judgeRows, refusalIn}
 use Rattle.rules.proofs.Judges.{first-append}
 use Rattle.register.specs.Register.{registerWords}
 use Rattle.register.proofs.Refusals.{Register}
@@ -24,7 +24,7 @@ use Rattle.ledger.proofs.Changes.{put-ok}
 use Rattle.ledger.proofs.Refusals.{Ledger, routes-ledger}
 use Rattle.rejudge.specs.Rejudging.{rejudgedRoute}
 use Rattle.rejudge.proofs.Rejudgements.{rejudged-ok}
-use Rattle.filter.specs.Calls.{Keeping, hopIn, registerRows, tableRows, judgeAnswer, refusalIn, keptAnswer, keptRoute, keepRows, keepEffect, rejudgeRows, rejudgeEffect}
+use Rattle.filter.specs.Calls.{Keeping, hopIn, registerRows, tableRows, judgeAnswer, keptAnswer, keptRoute, keepRows, keepEffect, rejudgeRows, rejudgeEffect}
 use Rattle.filter.proofs.Judgings.{judge-answers, judged-row}
 use Rattle.filter.proofs.Keepings.{tables-none}
 use Rattle.filter.proofs.KeptRoutes.{kept-ok}

@@ -60,11 +60,6 @@ unfoldable pub judgeAnswer : List ℕ → ℕ → ℕ → List ℕ → Judged
 judgeAnswer reg role neighbour attribute =
     unlessGiven (firstGiven (registerRows reg)) (judgedRoute (hopIn reg) role neighbour attribute)
 
--- The refusal that a judging answers.
-abbrev pub refusalIn : Judged → Option Refusal
-refusalIn (Answered a) = none
-refusalIn (Refused r) = some r
-
 -- ---- Keep
 
 -- A refusal has no verdict; no route is stored for one.

@@ -21,7 +21,8 @@ use Rattle.register.specs.Calls.{fileRows, withdrawRows, clearRows, fileEffect,
 use Rattle.register.proofs.Refusals.{file-numbers, withdraw-numbers, clear-numbers}
 use Rattle.ledger.specs.Calls.{dropRows, dropEffect}
 use Rattle.ledger.proofs.Refusals.{drop-numbers}
-use Rattle.filter.specs.Calls.{refusalIn, keepEffect, rejudgeEffect}
+use Rattle.rules.specs.Judging.{refusalIn}
+use Rattle.filter.specs.Calls.{keepEffect, rejudgeEffect}
 use Rattle.filter.proofs.Refusals.{judge-reads, keep-reads, judge-numbers, keep-numbers, rejudge-numbers}
 use Rattle.filter.proofs.Places.{placed, allOutside, no-place, Placed, judge-placed, keep-placed, place-within}
 use Rattle.history.specs.Calls.{Call, file, withdraw, clear, keep, drop, rejudge, Tables, says, leaves}

@@ -19,7 +19,8 @@ use Rattle.as_path.specs.declared.Scan.the-variants.{Faulty}
 use Rattle.as_path.specs.Faults.{firstFault}
 use Rattle.register.specs.Calls.{fileRows, withdrawRows, clearRows}
 use Rattle.ledger.specs.Calls.{dropRows}
-use Rattle.filter.specs.Calls.{judgeRowsOver, keepRows, rejudgeRows, refusalIn, judgeAnswer}
+use Rattle.rules.specs.Judging.{refusalIn}
+use Rattle.filter.specs.Calls.{judgeRowsOver, keepRows, rejudgeRows, judgeAnswer}
 use Rattle.history.specs.Calls.{Call, file, withdraw, clear, keep, drop, rejudge, Tables, says, leaves}
 use Rattle.history.specs.Replies.{ModelReply, new, replaced, done, gone, refused, shown}
 

@@ -129,8 +129,8 @@ abbrev pub commandEnding : State → List ℕ → Command
 commandEnding s line = commandIn (lineIn (s .line) line)
 
 -- The line is answered behind what the output holds, and the next begins.
-abbrev pub Answered : State → Buffers → State → Buffers → Type 0
-Answered s b r e =
+abbrev pub EndsLine : State → Buffers → State → Buffers → Type 0
+EndsLine s b r e =
     (lentTables (r .lent) (e .register) (e .ledger) ≡ after (lentTables (s .lent) (b .register) (b .ledger)) (commandEnding s (b .line)))
     × (r .line ≡ 0)
     × (r .out ≡ s .out + length (answerLine (lentTables (s .lent) (b .register) (b .ledger)) (commandEnding s (b .line))))

@@ -8,7 +8,7 @@ ghost use lib.ListN.{length, take};
 ghost use Rattle.table.specs.Table.{pad};
 ghost use Rattle.lines.specs.Words.{wordsOf};
 ghost use Rattle.commands.specs.Commands.{mostLine, mostLent, resize, resizeCommand, emptyCommand, commandOf};
-ghost use Rattle.protocol.specs.Feeding.{joined, commandIn, lineIn, lineStored, HeldBoth, Ready, buffers, Carried, Answered, Feeds, Finishes};
+ghost use Rattle.protocol.specs.Feeding.{joined, commandIn, lineIn, lineStored, HeldBoth, Ready, buffers, Carried, EndsLine, Feeds, Finishes};
 
 // How many words each table is lent with.
 pub struct Lent {
@@ -168,7 +168,7 @@ fn perform_line(n: usize, line: &[u8], s: Lent, reg: &mut [u32], led: &mut [u32]
 // The line is answered, and the next begins.
 fn end_line(s: State, line: &[u8], reg: &mut [u32], led: &mut [u32], out: &mut [u8]) -> State
     requires { ⌜ Ready s (now line) (now reg) (now led) (now out) ⌝ }
-    ensures { λ r. ⌜ Answered s (buffers (now (line .entry)) (now (reg .entry)) (now (led .entry)) (now (out .entry)))
+    ensures { λ r. ⌜ EndsLine s (buffers (now (line .entry)) (now (reg .entry)) (now (led .entry)) (now (out .entry)))
         r (buffers (now (line .entry)) (now (reg .exit)) (now (led .exit)) (now (out .exit))) ⌝ }
 {
     let n = s.line;

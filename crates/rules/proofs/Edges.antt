@@ -16,13 +16,14 @@ use Rattle.as_path.specs.Faults.{numbersFault, segmentFault, faultAmong, firstF
 use Rattle.as_path.specs.Grounds.{hasSet, isNotNeighbour, groundOf}
 use Rattle.as_path.specs.Merging.{runsAfter, mergeRuns, mergedPath}
 use Rattle.as_path.specs.Reading.{mostNumbers, merged, contentOf}
+use Rattle.as_path.specs.Laws.{moved}
 use Rattle.as_path.proofs.Contents.{content-merged}
 use Rattle.as_path.proofs.Laws.{position-laws, path-laws}
 use Rattle.rules.specs.Hops.{lowest, highest, climb, descend}
 use Rattle.rules.specs.Records.{isIn, attested, united, hopOf}
 use Rattle.rules.specs.Verdicts.{upstream, downstream, judged}
 use Rattle.rules.specs.Judging.{mostBytes, answerTo, judgedRoute}
-use Rattle.rules.specs.Vectors.{bytes, sequence, repeated, numbered, two, longest, judgedEmpty, Edges}
+use Rattle.rules.specs.Vectors.{bytes, sequence, repeated, pair, pairsThen, two, longestThen, judgedEmpty, Edges}
 
 pub length-repeated : (n : ℕ) (l : List ℕ) → length (repeated n l) ≡ n * length l
 unfolding repeated
@@ -60,22 +61,34 @@ unfolding repeated hasSet
 repeated-set zero ss e = refl
 repeated-set (suc n) ss e = set-append ss (repeated n ss) e (repeated-set n ss e)
 
--- Segments without a ground, repeated, have none.
-pub repeated-ground : (role neighbour n : ℕ) (s : Segment) (ss : List Segment) → isNotNeighbour role neighbour s ≡ false → hasSet (s ∷ ss) ≡ false
-    → groundOf role neighbour (repeated (suc n) (s ∷ ss)) ≡ Not
+-- Bytes of sequences that begin with 20, repeated, and then those of others: what they are read as.
+pub repeated-content : (n : ℕ) (b : List ℕ) (s : Segment) (ss : List Segment) (c : List ℕ) (cs : List Segment)
+    → firstFault numberBytes b ≡ Clean → segments numberBytes b ≡ s ∷ ss → isNotNeighbour 1 20 s ≡ false → hasSet (s ∷ ss) ≡ false
+    → firstFault numberBytes c ≡ Clean → segments numberBytes c ≡ cs → hasSet cs ≡ false
+    → contentOf 1 20 (repeated (suc n) b ++ c) ≡ merged (repeated (suc n) (mergedPath (s ∷ ss)) ++ mergedPath cs)
 unfolding groundOf repeated
-repeated-ground role neighbour n s ss e f = rw (e, set-append (s ∷ ss) (repeated n (s ∷ ss)) f (repeated-set n (s ∷ ss) f))
-
--- Bytes of sequences that begin with 20, repeated, are read as their path repeated.
-pub repeated-content : (n : ℕ) (b : List ℕ) (s : Segment) (ss : List Segment) → firstFault numberBytes b ≡ Clean → segments numberBytes b ≡ s ∷ ss
-    → isNotNeighbour 1 20 s ≡ false → hasSet (s ∷ ss) ≡ false
-    → contentOf 1 20 (repeated (suc n) b) ≡ merged (repeated (suc n) (mergedPath (s ∷ ss)))
-repeated-content n b s ss e f g h =
-    content-merged 1 20 (repeated (suc n) b) (repeated-clean numberBytes b e (suc n)) (ap (groundOf 1 20) at ∙ repeated-ground 1 20 n s ss g h)
-    ∙ ap merged (ap mergedPath at ∙ repeated-merged (suc n) (s ∷ ss))
+repeated-content n b s ss c cs e f g h i j k =
+    content-merged 1 20 (repeated (suc n) b ++ c) clean (ap (groundOf 1 20) at ∙ ground) ∙ ap merged (ap mergedPath at ∙ path)
   where
-    at : segments numberBytes (repeated (suc n) b) ≡ repeated (suc n) (s ∷ ss)
-    at = repeated-segments numberBytes b e (suc n) ∙ ap (repeated (suc n)) f
+    before : firstFault numberBytes (repeated (suc n) b) ≡ Clean
+    before = repeated-clean numberBytes b e (suc n)
+
+    clean : firstFault numberBytes (repeated (suc n) b ++ c) ≡ Clean
+    clean = position-laws .any-position numberBytes (repeated (suc n) b) c before ∙ ap (moved (length (repeated (suc n) b))) i
+
+    at : segments numberBytes (repeated (suc n) b ++ c) ≡ repeated (suc n) (s ∷ ss) ++ cs
+    at =
+        position-laws .segments-append numberBytes (repeated (suc n) b) c before
+        ∙ (λ x. (repeated-segments numberBytes b e (suc n) ∙ ap (repeated (suc n)) f) x ++ j x)
+
+    ground : groundOf 1 20 (repeated (suc n) (s ∷ ss) ++ cs) ≡ Not
+    ground = rw (g, set-append (repeated (suc n) (s ∷ ss)) cs (repeated-set (suc n) (s ∷ ss) h) k)
+
+    path : mergedPath (repeated (suc n) (s ∷ ss) ++ cs) ≡ repeated (suc n) (mergedPath (s ∷ ss)) ++ mergedPath cs
+    path = path-laws .append (repeated (suc n) (s ∷ ss)) cs ∙ ap (λ l. l ++ mergedPath cs) (repeated-merged (suc n) (s ∷ ss))
+
+pub length-then : (n : ℕ) (l c : List ℕ) → length (repeated n l ++ c) ≡ n * length l + length c
+length-then n l c = length-append (repeated n l) c ∙ ap (λ k. k + length c) (length-repeated n l)
 
 -- What is answered for an attribute of a length and a content.
 answer-by : (attribute : List ℕ) (n : ℕ) (path : List ℕ) → length attribute ≡ n → ltb mostBytes n ≡ false → contentOf 1 20 attribute ≡ merged path
@@ -87,38 +100,39 @@ too-long : (attribute : List ℕ) (n : ℕ) → length attribute ≡ n → ltb m
 unfolding judgedRoute firstGiven
 too-long attribute n l h = rw (l, h)
 
--- A sequence of one number, and the two of 1,024 bytes, as they are read.
+-- The segments that are repeated, and the one number more, as they are read.
 abbrev ones : List ℕ → Segment
 ones l = record { kind = 2; numbers = l }
 
-one-clean : firstFault numberBytes (sequence (20 ∷ [])) ≡ Clean
+clean : (firstFault numberBytes pair ≡ Clean) × (firstFault numberBytes two ≡ Clean) × (firstFault numberBytes (sequence (20 ∷ [])) ≡ Clean)
 unfolding firstFault starts startsFrom faultAmong segmentFault numbersFault numberAt bytes
-one-clean = refl
+clean = (refl, refl, refl)
 
-one-segment : segments numberBytes (sequence (20 ∷ [])) ≡ ones (20 ∷ []) ∷ []
+read :
+    (segments numberBytes pair ≡ ones (20 ∷ 30 ∷ []) ∷ []) × (segments numberBytes two ≡ ones (20 ∷ []) ∷ ones (replicate 254 30) ∷ [])
+    × (segments numberBytes (sequence (20 ∷ [])) ≡ ones (20 ∷ []) ∷ [])
 unfolding segments starts startsFrom numbersAt numberAt bytes
-one-segment = refl
+read = (refl, refl, refl)
 
-two-clean : firstFault numberBytes two ≡ Clean
-unfolding firstFault starts startsFrom faultAmong segmentFault numbersFault numberAt bytes
-two-clean = refl
+none : (firstFault numberBytes [] ≡ Clean) × (segments numberBytes [] ≡ [])
+unfolding firstFault segments starts startsFrom faultAmong
+none = (refl, refl)
 
-two-segments : segments numberBytes two ≡ ones (20 ∷ []) ∷ ones (replicate 254 20) ∷ []
-unfolding segments starts startsFrom numbersAt numberAt bytes
-two-segments = refl
-
--- A path of n numbers, in n segments.
-numbered-content : (n : ℕ) → contentOf 1 20 (numbered (suc n)) ≡ merged (repeated (suc n) (mergedPath (ones (20 ∷ []) ∷ [])))
+pairs-judged : (c : List ℕ) (cs : List Segment) → firstFault numberBytes c ≡ Clean → segments numberBytes c ≡ cs → hasSet cs ≡ false
+    → ltb mostBytes (mostNumbers / 2 * length pair + length c) ≡ false
+    → judgedEmpty (pairsThen c) ≡ answerTo (hopOf []) 1 (merged (repeated (mostNumbers / 2) (mergedPath (ones (20 ∷ 30 ∷ []) ∷ [])) ++ mergedPath cs))
 unfolding hasSet
-numbered-content n = repeated-content n (sequence (20 ∷ [])) (ones (20 ∷ [])) [] one-clean one-segment refl refl
+pairs-judged c cs e f g h =
+    answer-by (pairsThen c) _ _ (length-then (mostNumbers / 2) pair c) h
+    (repeated-content (mostNumbers / 2 - 1) pair (ones (20 ∷ 30 ∷ [])) [] c cs (clean .0) (read .0) refl refl e f g)
 
-long-content : (n : ℕ) → contentOf 1 20 (repeated (suc n) two) ≡ merged (repeated (suc n) (mergedPath (ones (20 ∷ []) ∷ ones (replicate 254 20) ∷ [])))
-unfolding hasSet
-long-content n = repeated-content n two (ones (20 ∷ [])) (ones (replicate 254 20) ∷ []) two-clean two-segments refl refl
-
-numbered-judged : (n : ℕ) → ltb mostBytes (suc n * length (sequence (20 ∷ []))) ≡ false
-    → judgedEmpty (numbered (suc n)) ≡ answerTo (hopOf []) 1 (merged (repeated (suc n) (mergedPath (ones (20 ∷ []) ∷ []))))
-numbered-judged n h = answer-by (numbered (suc n)) _ _ (length-repeated (suc n) (sequence (20 ∷ []))) h (numbered-content n)
+long-judged :
+    judgedEmpty (longestThen []) ≡ answerTo (hopOf []) 1 (merged (repeated (mostBytes / length two) (mergedPath (ones (20 ∷ []) ∷ ones (replicate 254 30) ∷ [])) ++ []))
+unfolding hasSet mergedPath bytes
+long-judged =
+    answer-by (longestThen []) _ _ (length-then (mostBytes / length two) two []) refl
+    (repeated-content (mostBytes / length two - 1) two (ones (20 ∷ [])) (ones (replicate 254 30) ∷ []) [] [] (clean .1) (read .1) refl refl
+    (none .0) (none .1) refl)
 
 pub edges : Edges
 unfolding bytes repeated judgedRoute firstGiven contentOf startsFrom starts segments segmentFault faultAmong firstFault hasSet groundOf runsAfter mergeRuns mergedPath lowest highest climb descend isIn attested united hopOf upstream downstream judged
@@ -126,11 +140,8 @@ edges =
     record {
       empty = refl;
       lone-byte = refl;
-      most-numbers = numbered-judged (mostNumbers - 1) refl ∙ refl;
-      one-number-more = numbered-judged mostNumbers refl ∙ refl;
-      most-bytes =
-          answer-by longest _ _ (length-repeated (mostBytes / length two) two) refl (long-content (mostBytes / length two - 1)) ∙ refl;
-      one-byte-more =
-          too-long (longest ++ (2 ∷ [])) (mostBytes / length two * length two + 1)
-          (length-append longest (2 ∷ []) ∙ ap (λ n. n + 1) (length-repeated (mostBytes / length two) two)) refl;
+      most-numbers = pairs-judged [] [] (none .0) (none .1) refl refl ∙ refl;
+      one-number-more = pairs-judged (sequence (20 ∷ [])) (ones (20 ∷ []) ∷ []) (clean .2) (read .2) refl refl ∙ refl;
+      most-bytes = long-judged ∙ refl;
+      one-byte-more = too-long (longestThen (2 ∷ [])) _ (length-then (mostBytes / length two) two (2 ∷ [])) refl;
     }

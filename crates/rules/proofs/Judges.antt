@@ -23,12 +23,7 @@ use Rattle.types.proofs.Refusing.{row-passed, accepted-none}
 use Rattle.as_path.specs.Reading.{mostNumbers, Content, faulty, grounded, merged, contentOf}
 use Rattle.rules.specs.Hops.{HopFunction}
 use Rattle.rules.specs.Verdicts.{judged}
-use Rattle.rules.specs.Judging.{argumentRows, contentRow, judgeRows, answerTo, unlessGiven, judgedRoute}
-
--- The refusal of a judging.
-abbrev pub refusalOf : Judged → Option Refusal
-refusalOf (Answered a) = none
-refusalOf (Refused r) = some r
+use Rattle.rules.specs.Judging.{argumentRows, contentRow, judgeRows, answerTo, unlessGiven, judgedRoute, refusalIn}
 
 -- The first given of two lists of rows.
 pub first-append : (xs ys : List (Option Refusal)) → firstGiven (xs ++ ys) ≡ orElse (firstGiven xs) (firstGiven ys)
@@ -38,27 +33,26 @@ first-append (some r ∷ xs) ys = refl
 first-append (none ∷ xs) ys = first-append xs ys
 
 module _ (hop : HopFunction) (role neighbour : ℕ) (attribute : List ℕ) where
-  -- A judging is refused exactly as rows 9 to 17 refuse it: `read` is any reading of the refusal.
-  pub judged-reads : (read : Judged → Option Refusal) → ((r : Refusal) → read (Refused r) ≡ some r) → ((a : Answer) → read (Answered a) ≡ none)
-      → read (judgedRoute hop role neighbour attribute) ≡ firstGiven (judgeRows role neighbour attribute)
+  -- A judging is refused exactly as rows 9 to 17 refuse it.
+  pub judged-reads : refusalIn (judgedRoute hop role neighbour attribute) ≡ firstGiven (judgeRows role neighbour attribute)
   unfolding judgedRoute firstGiven
-  judged-reads read refuses answers =
+  judged-reads =
       by-row (firstGiven (argumentRows role neighbour attribute))
       ∙ sym (first-append (argumentRows role neighbour attribute) (contentRow (contentOf role neighbour attribute) ∷ []))
     where
-      by-content : (c : Content) → read (answerTo hop role c) ≡ orElse (contentRow c) none
-      by-content (faulty f p) = refuses (Attribute f p)
-      by-content (grounded g) = answers (Plain (Invalid (ByGround g)))
+      by-content : (c : Content) → refusalIn (answerTo hop role c) ≡ orElse (contentRow c) none
+      by-content (faulty f p) = refl
+      by-content (grounded g) = refl
       by-content (merged path) = go (ltb mostNumbers (length path))
         where
-          go : (b : Bool) → read (cond b (Refused PathLength) (Answered (judged hop path role))) ≡ orElse (cond b (some PathLength) none) none
-          go true = refuses PathLength
-          go false = answers (judged hop path role)
+          go : (b : Bool) → refusalIn (cond b (Refused PathLength) (Answered (judged hop path role))) ≡ orElse (cond b (some PathLength) none) none
+          go true = refl
+          go false = refl
 
       by-row : (o : Option Refusal)
-          → read (unlessGiven o (answerTo hop role (contentOf role neighbour attribute)))
+          → refusalIn (unlessGiven o (answerTo hop role (contentOf role neighbour attribute)))
           ≡ orElse o (firstGiven (contentRow (contentOf role neighbour attribute) ∷ []))
-      by-row (some r) = refuses r
+      by-row (some r) = refl
       by-row none = by-content (contentOf role neighbour attribute)
 
   -- What a judging that is not refused answers: Invalid on a ground, or the verdict of a merged path.
@@ -92,4 +86,4 @@ module _ (hop : HopFunction) (role neighbour : ℕ) (attribute : List ℕ) where
 
   -- A judging that is answered is not refused.
   pub answered : (a : Answer) → judgedRoute hop role neighbour attribute ≡ Answered a → Judgement
-  answered a e = judgement (sym (judged-reads refusalOf (λ r. refl) (λ a. refl)) ∙ ap refusalOf e)
+  answered a e = judgement (sym judged-reads ∙ ap refusalIn e)

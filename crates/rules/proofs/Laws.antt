@@ -38,7 +38,7 @@ use Rattle.rules.proofs.Ramps.{ramp-up-is, ramp-up-only, ramp-down-is, 
 use Rattle.rules.proofs.Gaps.{gap-low, gap-high, gap-least, gap-most}
 use Rattle.rules.proofs.Orders.{not-both, either-order, places-within}
 use Rattle.rules.proofs.Locality.{same-judged}
-use Rattle.rules.proofs.Judges.{refusalOf, judged-reads, Judgement, on-ground, on-path, answered}
+use Rattle.rules.proofs.Judges.{judged-reads, Judgement, on-ground, on-path, answered}
 use Rattle.rules.proofs.Drafting.{largest-is, smallest-is, draft-upstream, draft-downstream, short-valid, draft-judged, draft-route}
 
 -- What holds of each route that is answered: on a ground, or by its path of at most the most numbers.
@@ -129,20 +129,6 @@ gap-laws =
 
 -- ---- what an answer goes by
 
-module _ (hop : HopFunction) (role neighbour : ℕ) (attribute : List ℕ) (r : Refusal) where
-  by-refusal : refusalOf (judgedRoute hop role neighbour attribute) ≡ firstGiven (judgeRows role neighbour attribute)
-  by-refusal = judged-reads hop role neighbour attribute refusalOf (λ r. refl) (λ a. refl)
-
-  refused-by : judgedRoute hop role neighbour attribute ≡ Refused r → firstGiven (judgeRows role neighbour attribute) ≡ some r
-  refused-by e = sym by-refusal ∙ ap refusalOf e
-
-  rows-refuse : firstGiven (judgeRows role neighbour attribute) ≡ some r → judgedRoute hop role neighbour attribute ≡ Refused r
-  rows-refuse e = go (judgedRoute hop role neighbour attribute) (by-refusal ∙ e)
-    where
-      go : (j : Judged) → refusalOf j ≡ some r → j ≡ Refused r
-      go (Answered a) h = some-not-none (sym h)
-      go (Refused s) h = let z : s ≡ r = cc in ap Refused z
-
 module _ (attribute : List ℕ) (r : Refusal) (p : ℕ) (at : refusalPlace r ≡ Byte p) where
   -- A refusal without a place is none of these.
   nowhere : (s : Refusal) → refusalPlace s ≡ Nowhere → Refused s ≡ Refused r → (p < length attribute) × (p < mostBytes)
@@ -188,8 +174,6 @@ pub answer-laws : AnswerLaws
 answer-laws =
     record {
       same-judged = λ hop hop' path. same-judged;
-      refused-by = refused-by;
-      rows-refuse = rows-refuse;
       judged-reads = judged-reads;
       refused-place = refused-place;
     }

@@ -53,3 +53,8 @@ unlessGiven none next = next
 unfoldable pub judgedRoute : HopFunction → ℕ → ℕ → List ℕ → Judged
 judgedRoute hop role neighbour attribute =
     unlessGiven (firstGiven (argumentRows role neighbour attribute)) (answerTo hop role (contentOf role neighbour attribute))
+
+-- The refusal that a judging answers.
+abbrev pub refusalIn : Judged → Option Refusal
+refusalIn (Answered a) = none
+refusalIn (Refused r) = some r

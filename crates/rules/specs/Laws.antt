@@ -22,7 +22,7 @@ use Rattle.as_path.specs.Segments.{numberBytes, segments}
 use Rattle.as_path.specs.Reading.{mostNumbers}
 use Rattle.rules.specs.Hops.{HopFunction, isPlus, isNotPlus, isUnattested, asAt, up, down}
 use Rattle.rules.specs.Verdicts.{lowestNotPlus, lowestUnattested, highestNotPlus, rampUp, rampDown, gapOf, downCause, upstream, downstream, judged}
-use Rattle.rules.specs.Judging.{mostBytes, judgeRows, judgedRoute}
+use Rattle.rules.specs.Judging.{mostBytes, judgeRows, judgedRoute, refusalIn}
 use Rattle.rules.specs.Draft.{uMin, vMax, largestK, smallestL, draftUpstream, draftDownstream, draftJudged, draftRoute}
 
 -- ---- u, v, K and L
@@ -115,14 +115,8 @@ pub record AnswerLaws : Type 0 where
   -- The answer goes by the hops between neighbours of the path, and by no other.
   pub same-judged : (hop hop' : HopFunction) (path : List ℕ) → SameHops hop hop' path → (role : ℕ) → judged hop path role ≡ judged hop' path role
   -- A judging is refused exactly by the first of rows 9 to 17 that is given, and these go by the arguments alone.
-  pub refused-by : (hop : HopFunction) (role neighbour : ℕ) (attribute : List ℕ) (r : Refusal)
-      → judgedRoute hop role neighbour attribute ≡ Refused r → firstGiven (judgeRows role neighbour attribute) ≡ some r
-  pub rows-refuse : (hop : HopFunction) (role neighbour : ℕ) (attribute : List ℕ) (r : Refusal)
-      → firstGiven (judgeRows role neighbour attribute) ≡ some r → judgedRoute hop role neighbour attribute ≡ Refused r
-  -- The same for any reading of the refusal.
-  pub judged-reads : (hop : HopFunction) (role neighbour : ℕ) (attribute : List ℕ) (read : Judged → Option Refusal)
-      → ((r : Refusal) → read (Refused r) ≡ some r) → ((a : Answer) → read (Answered a) ≡ none)
-      → read (judgedRoute hop role neighbour attribute) ≡ firstGiven (judgeRows role neighbour attribute)
+  pub judged-reads : (hop : HopFunction) (role neighbour : ℕ) (attribute : List ℕ)
+      → refusalIn (judgedRoute hop role neighbour attribute) ≡ firstGiven (judgeRows role neighbour attribute)
   -- The place of a refusal, which rows 12 to 16 have, is a byte of the attribute, and so below the most bytes.
   pub refused-place : (hop : HopFunction) (role neighbour : ℕ) (attribute : List ℕ) (r : Refusal) (p : ℕ)
       → judgedRoute hop role neighbour attribute ≡ Refused r → refusalPlace r ≡ Byte p → (p < length attribute) × (p < mostBytes)

@@ -101,17 +101,19 @@ unfoldable pub repeated : {A : Type 0} → ℕ → List A → List A
 repeated zero l = []
 repeated (suc n) l = l ++ repeated n l
 
--- A path of n numbers: as many segments, each of one number. No run crosses from one to the next.
-abbrev pub numbered : ℕ → List ℕ
-numbered n = repeated n (sequence (20 ∷ []))
+-- n segments of the numbers 20 and 30, and what follows them. No number stands beside itself.
+abbrev pub pair : List ℕ
+pair = sequence (20 ∷ 30 ∷ [])
 
--- Two segments, of 1 and 254 numbers, are 1,024 bytes. Merged, each is one number.
+abbrev pub pairsThen : List ℕ → List ℕ
+pairsThen rest = repeated (mostNumbers / 2) pair ++ rest
+
+-- Two segments, of 1 and 254 numbers, that have 1,024 bytes; as often as there may be bytes, and what follows them. Merged, each is one number.
 abbrev pub two : List ℕ
-two = sequence (20 ∷ []) ++ sequence (replicate 254 20)
+two = sequence (20 ∷ []) ++ sequence (replicate 254 30)
 
--- An attribute of the most bytes.
-abbrev pub longest : List ℕ
-longest = repeated (mostBytes / length two) two
+abbrev pub longestThen : List ℕ → List ℕ
+longestThen rest = repeated (mostBytes / length two) two ++ rest
 
 abbrev pub judgedEmpty : List ℕ → Judged
 judgedEmpty attribute = judgedRoute (hopOf []) 1 20 attribute
@@ -122,8 +124,8 @@ pub record Edges : Type 0 where
   pub empty : judgedEmpty [] ≡ plain (Invalid (ByGround Empty))
   pub lone-byte : judgedEmpty (2 ∷ []) ≡ Refused (Attribute CutShort 0)
   -- A path of the most numbers, and of one more.
-  pub most-numbers : judgedEmpty (numbered mostNumbers) ≡ plain (Unknown 2 0)
-  pub one-number-more : judgedEmpty (numbered (mostNumbers + 1)) ≡ Refused PathLength
+  pub most-numbers : judgedEmpty (pairsThen []) ≡ plain (Unknown 2 0)
+  pub one-number-more : judgedEmpty (pairsThen (sequence (20 ∷ []))) ≡ Refused PathLength
   -- An attribute of the most bytes, and of one more.
-  pub most-bytes : judgedEmpty longest ≡ plain (Unknown 2 0)
-  pub one-byte-more : judgedEmpty (longest ++ (2 ∷ [])) ≡ Refused AttributeLength
+  pub most-bytes : judgedEmpty (longestThen []) ≡ plain (Unknown 2 0)
+  pub one-byte-more : judgedEmpty (longestThen (2 ∷ [])) ≡ Refused AttributeLength

@@ -94,10 +94,6 @@ refusal-leaves rows refuse ws accepted not r = go (firstGiven rows)
 pub numbered : (b : Bool) (s r : Refusal) → rowIf b s ≡ some r → refusalNumber r ≡ refusalNumber s
 numbered b s r e = ap refusalNumber (sym (row-given b s r e .1))
 
--- A step's answer and words.
-pub parts : {A : Type 0} {s : Effect A} {a : A} {ws : List ℕ} → s ≡ record { answer = a; words = ws } → (a ≡ s .answer) × (ws ≡ s .words)
-parts e = (sym (ap (λ s. s .answer) e), sym (ap (λ s. s .words) e))
-
 -- A refusal to remove is told from an acceptance.
 pub removal-apart : (r : Refusal) → removal.Done ≡ removal.Refused r → ⊥
 removal-apart r e = clash (cc)
