@@ -226,6 +226,7 @@ pub fn ground(led: &[u32], i: usize) -> u32
     led[table::COUNTERS + i * WIDTH + GROUND]
 }
 
+// The role of route i. Its word is a role's number, so the way without one is never taken.
 pub fn role(led: &[u32], i: usize) -> Role
     requires { ⌜ RouteIn (now led) i ⌝ }
     ensures { λ r. ⌜ roleNumber r ≡ routeAt (routesOf (now (led .entry))) i .role ⌝ }
@@ -236,6 +237,7 @@ pub fn role(led: &[u32], i: usize) -> Role
     role
 }
 
+// The path of route i, where it stands.
 pub fn path(led: &[u32], i: usize) -> &[u32]
     requires { ⌜ RouteIn (now led) i ⌝ }
     ensures { λ r. ⌜ now r ≡ routeAt (routesOf (now (led .entry))) i .path ⌝ }
@@ -271,7 +273,7 @@ pub enum Kept {
     Refused(Refusal),
 }
 
-// A new route goes in at its position, if its number is free and there is room for it.
+// A new route goes in at its position, if its number is free and there is room for it. Rows 18, 20.
 pub fn store(
     led: &mut [u32],
     number: RouteNumber,
@@ -309,6 +311,7 @@ pub fn store(
     Kept::Done
 }
 
+// Drop: the route under a number goes out; no other changes. Rows 1, 3, 19.
 pub fn drop(led: &mut [u32], number: RouteNumber) -> Removal
     ensures { λ r. ⌜ effect r (now (led .exit)) ≡ dropEffect (now (led .entry)) (number .0) ⌝ }
 {
