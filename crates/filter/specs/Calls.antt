@@ -1,7 +1,7 @@
 -- Judge, Keep and Re-judge over the lent tables ("The calls"). File, Withdraw and Clear are the register's, Drop is the ledger's.
 use Prim.Native.Nat.{ℕ}
 use mathlib.Core.List.{List, [], _∷_, _++_}
-use mathlib.Core.Option.{Option, none, some}
+use mathlib.Core.Option.{Option}
 use Rattle.types.specs.Numbers.{verdictOf}
 use Rattle.types.specs.declared.Verdict.{Verdict}
 use Rattle.types.specs.declared.Verdict.the-variants.{Valid}

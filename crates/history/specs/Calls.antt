@@ -4,7 +4,6 @@ use mathlib.Core.Path.{_≡_}
 use mathlib.Core.Bool.{true}
 use mathlib.Core.List.{List}
 use mathlib.Core.Option.{Option, Option·map}
-use lib.Dec.{eqb, ltb}
 use lib.ListN.{length, getD, replicate}
 use Rattle.types.specs.declared.Filed.{Filed}
 use Rattle.types.specs.declared.Removal.{Removal}
@@ -13,7 +12,6 @@ use Rattle.types.specs.declared.Judged.{Judged}
 use Rattle.types.specs.declared.Rejudged.{Rejudged}
 use Rattle.types.specs.Numbers.{groundNumber}
 use Rattle.as_path.specs.Reading.{Content, faulty, grounded, merged, contentOf}
-use Rattle.keyed.specs.Keyed.{samePair, beforePair, find}
 use Rattle.rules.specs.Records.{Record}
 use Rattle.register.specs.Register.{registerWords, registerOk}
 use Rattle.register.specs.Register as register

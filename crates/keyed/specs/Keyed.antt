@@ -1,10 +1,9 @@
 -- Lists of entries that ascend by a key, no key twice: what a register holds and what a ledger holds.
 use mathlib.Core.Path.{_≡_}
 use mathlib.Core.Bool.{Bool, true, false, cond, _&&_, _||_}
-use mathlib.Core.List.{List, [], _∷_, _++_}
+use mathlib.Core.List.{List, [], _∷_}
 use mathlib.Core.Option.{Option, none, some}
 use Prim.Native.Nat.{ℕ, suc}
-use lib.ListN.{take, drop}
 use lib.Dec.{eqb, ltb}
 
 -- An order of keys, by two tests.

@@ -10,7 +10,8 @@ use lib.ListN.{length, getD}
 use Rattle.types.specs.declared.Refusal.the-variants.{TableLength, RoutesMalformed, RouteTaken, NoRoute, RoutesFull}
 use Rattle.types.specs.declared.Removal.the-variants as removal
 use Rattle.types.specs.Rows.{firstGiven, effect}
-use Rattle.table.specs.Table.{Entry, bodies, encode, decode, Insertable, Removable, insertAt, removeAt}
+use Rattle.table.specs.Table.{Entry, bodies, encode, decode, insertAt, removeAt}
+use Rattle.table.specs.Helpers.{Insertable, Removable}
 use Rattle.table.proofs.Typed.{inserted-entries, removed-entries}
 use Rattle.keyed.proofs.Orders.{both-intro}
 use Rattle.ledger.specs.Routes.{routeHead, routeTail}

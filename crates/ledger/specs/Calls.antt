@@ -1,11 +1,10 @@
 -- A route stored in the ledger, Drop, and a route judged anew ("The calls").
-use Prim.Native.Nat.{ℕ, zero, suc}
-use mathlib.Core.Path.{_≡_}
-use mathlib.Core.Bool.{Bool, true, not, cond, _&&_}
-use mathlib.Core.List.{List, [], _∷_, map}
+use Prim.Native.Nat.{ℕ, suc}
+use mathlib.Core.Bool.{Bool, not, cond, _&&_}
+use mathlib.Core.List.{List, [], _∷_}
 use mathlib.Core.Option.{Option}
 use lib.Dec.{ltb, eqb}
-use lib.ListN.{length, set}
+use lib.ListN.{set}
 use Rattle.types.specs.declared.Refusal.{Refusal}
 use Rattle.types.specs.declared.Refusal.the-variants.{RoutesMalformed, RouteTaken, NoRoute, RoutesFull}
 use Rattle.types.specs.declared.Verdict.{Verdict}
@@ -16,7 +15,7 @@ use Rattle.types.specs.Rows.{rowIf, lengthRow, firstGiven, Effect, unlessRefuse
 use Rattle.keyed.specs.Keyed.{holds, find, put, without}
 use Rattle.ledger.specs.declared.Kept.{Kept}
 use Rattle.ledger.specs.declared.Kept.the-variants as kept
-use Rattle.ledger.specs.Routes.{ledgerWords, Route, routesOf, routeAt, ledgerOf, keyOf, roomFor, ledgerOk, positionOf}
+use Rattle.ledger.specs.Routes.{ledgerWords, Route, routesOf, routeAt, ledgerOf, keyOf, roomFor, ledgerOk}
 
 -- ---- routes: looked for, put in, taken out
 

@@ -1,5 +1,5 @@
 -- What the ledger's own functions, and re-judging, ask of the words that they are handed. No call's promise speaks of it.
-use Prim.Native.Nat.{ℕ, _+_, _*_, _<_}
+use Prim.Native.Nat.{ℕ, _+_, _<_}
 use mathlib.Core.Path.{_≡_}
 use mathlib.Core.Bool.{true}
 use mathlib.Core.List.{List}

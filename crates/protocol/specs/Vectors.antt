@@ -1,7 +1,7 @@
 -- Lines and answers of the console, by computation.
 use Prim.Native.Nat.{ℕ}
 use mathlib.Core.Path.{_≡_, refl}
-use mathlib.Core.List.{List, [], _∷_, map}
+use mathlib.Core.List.{[], _∷_, map}
 use Prim.Native.String.{String}
 use lib.IntN.{pos, negsuc}
 use Rattle.text.specs.Ascii.{ascii}
@@ -14,7 +14,6 @@ use Rattle.types.specs.declared.Ground.the-variants.{AsSet}
 use Rattle.types.specs.declared.Verdict.the-variants.{Valid, Invalid, Unknown}
 use Rattle.types.specs.declared.Fault.the-variants.{UnknownType}
 use Rattle.types.specs.declared.Refusal.the-variants.{RegisterFull, Attribute}
-use Rattle.types.specs.declared.Judged.{Judged}
 use Rattle.types.specs.declared.Judged.the-variants.{Answered, Refused}
 use Rattle.answers.specs.Texts.{eachText, judgedText, spacedText}
 use Rattle.filter.specs.Calls.{keeping}

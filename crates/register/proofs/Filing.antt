@@ -16,7 +16,8 @@ use Rattle.types.specs.declared.Removal.the-variants as removal
 use Rattle.types.specs.declared.Cleared.{Cleared}
 use Rattle.types.specs.declared.Cleared.the-variants as cleared
 use Rattle.types.specs.Rows.{firstGiven, Effect, effect}
-use Rattle.table.specs.Table.{counters, Entry, bodies, encode, decode, Sound, Insertable, Removable, Clearable, stayingEntries, insertAt, removeAt}
+use Rattle.table.specs.Table.{counters, Entry, bodies, encode, decode, Sound, stayingEntries, insertAt, removeAt}
+use Rattle.table.specs.Helpers.{Insertable, Removable, Clearable}
 use Rattle.table.proofs.After.{removed}
 use Rattle.keyed.specs.Keyed.{samePair, beforePair, ascends, without}
 use Rattle.keyed.proofs.Orders.{ordered-pairs, both-intro}

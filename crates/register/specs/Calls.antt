@@ -4,7 +4,6 @@ use mathlib.Core.Bool.{Bool, not, cond}
 use mathlib.Core.List.{List, [], _∷_}
 use mathlib.Core.Option.{Option}
 use lib.Dec.{ltb, eqb}
-use lib.ListN.{length}
 use Rattle.types.specs.declared.Refusal.{Refusal}
 use Rattle.types.specs.declared.Refusal.the-variants.{RegisterMalformed, SourceNumber, CustomerZero, ProviderList, NoRecord, RegisterFull}
 use Rattle.types.specs.declared.Filed.{Filed}

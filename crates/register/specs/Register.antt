@@ -1,10 +1,10 @@
 -- The register ("Tables"): provider records in a packed table with two head words, customer and source, and no tail.
 use Prim.Native.Nat.{ℕ, _+_, _*_}
-use mathlib.Core.Bool.{Bool, true, cond, _&&_}
+use mathlib.Core.Bool.{Bool, true, _&&_}
 use mathlib.Core.List.{List, [], _∷_, map}
-use lib.Dec.{leb, ltb, eqb}
+use lib.Dec.{leb, ltb}
 use lib.ListN.{length, getD}
-use Rattle.table.specs.Table.{Entry, counters, width, bodies, encode, decode, wellFormed}
+use Rattle.table.specs.Table.{Entry, counters, width, encode, decode, wellFormed}
 use Rattle.keyed.specs.Keyed.{samePair, beforePair, ascends, rank, every}
 use Rattle.rules.specs.Records.{Record}
 

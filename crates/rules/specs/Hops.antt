@@ -1,7 +1,7 @@
 -- A path, its hops, and the searches along it ("Roles and hops").
 use Prim.Native.Nat.{ℕ, zero, suc, _+_, _-_}
 use mathlib.Core.List.{List}
-use mathlib.Core.Bool.{Bool, true, false, not, cond}
+use mathlib.Core.Bool.{Bool, true, false, cond}
 use lib.ListN.{length, getD}
 use Rattle.types.specs.declared.Hop.{Hop}
 use Rattle.types.specs.declared.Hop.the-variants.{NoAttestation, ProviderPlus, NotProviderPlus}

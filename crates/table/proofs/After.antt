@@ -6,7 +6,8 @@ use native.Mathlib.Omega.{arith}
 use native.Mathlib.Nat.{suc-mul}
 use lib.ListN.{length, take, drop, getD, length-append, take-append-drop}
 use lib.Seq.{split-at}
-use Rattle.table.specs.Table.{counters, Entry, width, bodies, encode, Wide, decode, Sound, Insertable, Removable, insertAt, removeAt}
+use Rattle.table.specs.Table.{counters, Entry, width, bodies, encode, Wide, decode, Sound, insertAt, removeAt}
+use Rattle.table.specs.Helpers.{Insertable, Removable}
 use Rattle.table.proofs.Tables.{bodies-append, wide-append, wide-left, wide-right}
 use Rattle.table.proofs.Exact.{decode-encode, encode-sound}
 

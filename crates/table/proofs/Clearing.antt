@@ -13,7 +13,8 @@ use lib.Seq.{getD-drop, drop-drop, take-set-lt, length-take-le, take-at, drop-at
 use borrow.Author.Tests.{eq-eqb, ne-eqb}
 use Rattle.runs.specs.Words.{pasted, zeroed}
 use Rattle.runs.proofs.Laws.{length-pasted, paste-none, paste-paste, drop-pasted, set-pasted, take-to-pasted, drop-to-pasted}
-use Rattle.table.specs.Table.{counters, span, Entry, width, slots, bodies, pad, encode, Wide, decode, counts, stayingEntries, goneEntries, stayingSlots, Clearable}
+use Rattle.table.specs.Table.{counters, span, Entry, width, slots, bodies, pad, encode, Wide, decode, stayingEntries, goneEntries}
+use Rattle.table.specs.Helpers.{counts, stayingSlots, Clearable}
 use Rattle.table.proofs.Tables.{slot-head, slot-count, slot-tail, slot-rest, length-slots, counts-slots}
 use Rattle.table.proofs.Laws.{slot-set, count-index, counts-peel}
 use Rattle.table.proofs.Sounds.{less-mul, count-is, body-is}

@@ -8,7 +8,8 @@ use native.Mathlib.Numerals.{add-one}
 use lib.ListN.{length, take, drop, set, getD, length-append, length-drop, take-append-drop}
 use lib.Seq.{length-take-le}
 use Rattle.runs.specs.Words.{spliced}
-use Rattle.table.specs.Table.{counters, Entry, width, slots, bodies, pad, encode, Wide, decode, restarted, counts, Insertable, startOf, insertAt}
+use Rattle.table.specs.Table.{counters, Entry, width, slots, bodies, pad, encode, Wide, decode, startOf, insertAt}
+use Rattle.table.specs.Helpers.{restarted, counts, Insertable}
 use Rattle.table.proofs.Tables.{slots-append, bodies-append, length-slots, wide-append, wide-left, wide-right}
 use Rattle.table.proofs.Tables.{pad-splice, restart-pad, counts-pad, encode-split}
 use Rattle.table.proofs.Sounds.{count-is, body-is, start-under, split-mul}

@@ -9,7 +9,8 @@ use lib.ListN.{length, take, drop, set, getD, length-append, length-drop, take-a
 use lib.Seq.{take-set-le, drop-set-lt, drop-set-add, drop-cons, getD-drop, length-take-le, drop-drop, take-add, set-split, take-append-add}
 use Rattle.runs.specs.Words.{opened, pasted, spliced}
 use Rattle.runs.proofs.Laws.{paste-paste, store-paste, splice-done, opened-long}
-use Rattle.table.specs.Table.{span, width, restarted, counts}
+use Rattle.table.specs.Table.{span, width}
+use Rattle.table.specs.Helpers.{restarted, counts}
 
 -- One slot fewer.
 pub peel : (m w : ℕ) → 0 < m → m * w ≡ (m - 1) * w + w

@@ -6,7 +6,8 @@ use native.Mathlib.Omega.{arith}
 use native.Mathlib.Nat.{suc-mul, add-mul}
 use lib.ListN.{length, take, drop, set, getD, length-append, length-drop}
 use Rattle.runs.specs.Words.{closed}
-use Rattle.table.specs.Table.{counters, Entry, width, slots, bodies, pad, encode, Wide, decode, restarted, counts, Removable, startOf, removeAt}
+use Rattle.table.specs.Table.{counters, Entry, width, slots, bodies, pad, encode, Wide, decode, startOf, removeAt}
+use Rattle.table.specs.Helpers.{restarted, counts, Removable}
 use Rattle.table.proofs.Tables.{bodies-append, length-slots, pad-close, restart-pad, counts-pad, encode-split}
 use Rattle.table.proofs.Sounds.{count-is, body-is, split-mul, nth, cut, start-is, slot-count-is, wide-before, wide-at, before}
 use Rattle.table.proofs.Inserting.{slot, length-slot}

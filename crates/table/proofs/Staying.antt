@@ -11,7 +11,8 @@ use lib.Seq.{drop-cons, take-suc, getD-take, drop-drop}
 use borrow.Author.Tests.{eq-eqb, ne-eqb}
 use Rattle.runs.specs.Words.{pasted}
 use Rattle.runs.proofs.Laws.{length-pasted, paste-none, paste-paste, take-pasted, drop-pasted}
-use Rattle.table.specs.Table.{counters, Entry, width, bodies, Wide, decode, startOf, stayingEntries, goneEntries, Clearable}
+use Rattle.table.specs.Table.{counters, Entry, width, bodies, Wide, decode, startOf, stayingEntries, goneEntries}
+use Rattle.table.specs.Helpers.{Clearable}
 use Rattle.table.proofs.Tables.{bodies-append}
 use Rattle.table.proofs.Sounds.{nth, blank, count-is, start-under, less-mul, slot-count-is, head-is, part-is}
 

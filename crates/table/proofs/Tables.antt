@@ -7,7 +7,8 @@ use native.Mathlib.Nat.{add-zero, zero-add, add-assoc, suc-mul, zero-mul}
 use lib.ListN.{length, take, drop, getD, replicate, length-append, length-replicate, replicate-append-replicate, List·getD-append}
 use lib.Seq.{take-at, drop-at, drop-drop, drop-append-add, getD-append-add, getD-at, take-append-seam}
 use Rattle.runs.specs.Words.{spliced, closed}
-use Rattle.table.specs.Table.{counters, span, Entry, width, slots, bodies, pad, encode, Wide, restarted, counts}
+use Rattle.table.specs.Table.{counters, span, Entry, width, slots, bodies, pad, encode, Wide}
+use Rattle.table.specs.Helpers.{restarted, counts}
 
 -- ---- slots and bodies
 

@@ -4,8 +4,10 @@ ghost use mathlib.Core.List.{[], _∷_, _++_};
 ghost use Prim.Native.Nat.{_+_, _*_, _^_, _≤_, _<_};
 ghost use lib.ListN.{length, take, drop, getD};
 ghost use Rattle.runs.specs.Words.{spliced, pasted};
-ghost use Rattle.table.specs.Table.{counters, width, entry, restarted, counts, decode, startOf, slotsOk, allZero, wellFormed, Sound};
-ghost use Rattle.table.specs.Table.{Insertable, Removable, Clearable, inserted, removed, cleared, goneEntries, bodiesLeft, slotsLeft};
+ghost use Rattle.table.specs.Table.{counters, width, entry, decode, startOf, slotsOk, allZero, wellFormed, Sound};
+ghost use Rattle.table.specs.Helpers.{restarted, counts};
+ghost use Rattle.table.specs.Table.{inserted, removed, cleared, goneEntries};
+ghost use Rattle.table.specs.Helpers.{Insertable, Removable, Clearable, bodiesLeft, slotsLeft};
 
 // The words before the first slot: how many entries there are, and how many body words.
 pub const COUNTERS: usize = 2;

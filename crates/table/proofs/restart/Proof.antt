@@ -6,7 +6,8 @@ use mathlib.Core.List.{_++_}
 use Prim.Native.Nat.{_+_, _*_, _≤_, _<_, _^_}
 use native.Mathlib.Omega.{arith}
 use lib.ListN.{length, take, drop, length-set}
-use Rattle.table.specs.Table.{width, restarted, counts}
+use Rattle.table.specs.Table.{width}
+use Rattle.table.specs.Helpers.{restarted, counts}
 use Rattle.table.proofs.Laws.{peel, restart-step, counts-step, restart-done}
 use Rattle.table.proofs.restart.Statement.{statement}
 use Rattle.table.proofs.restart.Tie as tie
