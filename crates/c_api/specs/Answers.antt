@@ -40,13 +40,27 @@ toldRoute result words gap = record { result = result; words = words; gap = gap 
 abbrev pub telling : {A B : Type 0} → (A → B) → Effect A → Effect B
 telling tell e = effect (tell (e .answer)) (e .words)
 
+-- ---- what is written when a call is refused, so that no answer is read from it
+
+-- In place of a verdict: the verdicts are 0, 1 and 2.
+abbrev pub noVerdict : ℕ
+noVerdict = 3
+
+-- In place of new and replaced, 0 and 1.
+abbrev pub notFiled : ℕ
+notFiled = 2
+
+-- In place of a count: no table has so many entries.
+abbrev pub noCount : ℕ
+noCount = 4294967295
+
 -- ---- the calls on a table
 
 -- File: 0 new, 1 replaced.
 abbrev pub filedTold : Filed → Told
 filedTold filed.New = told 0 (0 ∷ [])
 filedTold filed.Replaced = told 0 (1 ∷ [])
-filedTold (filed.Refused r) = told (refusalNumber r) (0 ∷ [])
+filedTold (filed.Refused r) = told (refusalNumber r) (notFiled ∷ [])
 
 -- Withdraw and Drop: the result alone.
 abbrev pub removalTold : Removal → ℕ
@@ -56,12 +70,12 @@ removalTold (removal.Refused r) = refusalNumber r
 -- Clear: how many records went.
 abbrev pub clearedTold : Cleared → Told
 clearedTold (cleared.Gone n) = told 0 (n ∷ [])
-clearedTold (cleared.Refused r) = told (refusalNumber r) (0 ∷ [])
+clearedTold (cleared.Refused r) = told (refusalNumber r) (noCount ∷ [])
 
 -- Re-judge: how many routes changed.
 abbrev pub rejudgedTold : Rejudged → Told
 rejudgedTold (rejudged.Changed n) = told 0 (n ∷ [])
-rejudgedTold (rejudged.Refused r) = told (refusalNumber r) (0 ∷ [])
+rejudgedTold (rejudged.Refused r) = told (refusalNumber r) (noCount ∷ [])
 
 -- ---- Judge and Keep
 
@@ -85,4 +99,4 @@ verdictWords v given = verdictNumber v ∷ verdictGround v ∷ placeA v ∷ plac
 
 abbrev pub judgedTold : Judged → ToldRoute
 judgedTold (judged.Answered a) = toldRoute 0 (verdictWords (verdictOf a) (gapGiven (answerGap a))) (gapTold (answerGap a))
-judgedTold (judged.Refused r) = toldRoute (refusalNumber r) (0 ∷ 0 ∷ 0 ∷ 0 ∷ 0 ∷ placeWord (refusalPlace r) ∷ []) (pos 0)
+judgedTold (judged.Refused r) = toldRoute (refusalNumber r) (noVerdict ∷ 0 ∷ 0 ∷ 0 ∷ 0 ∷ placeWord (refusalPlace r) ∷ []) (pos 0)

@@ -12,7 +12,8 @@ use types::RouteNumber;
 use types::Verdict;
 ghost use Prim.Native.Nat.{_<_};
 ghost use mathlib.Core.Path.{_≡_};
-ghost use Rattle.types.specs.Numbers.{refusalPlace};
+ghost use mathlib.Core.List.{[], _∷_};
+ghost use Rattle.types.specs.Numbers.{refusalNumber, refusalPlace};
 ghost use Rattle.types.specs.Rows.{effect};
 ghost use Rattle.rules.specs.Judging.{mostBytes};
 ghost use Rattle.register.specs.Calls.{fileEffect, withdrawEffect, clearEffect};
@@ -23,6 +24,11 @@ ghost use Rattle.c_api.specs.Helpers.{placeIn};
 
 // The words of an answer to Judge or Keep: verdict, ground, place a, place b, whether a gap is given, the place of a refusal.
 pub const ANSWER_WORDS: usize = 6;
+
+// What a refused call writes in place of a verdict, of new or replaced, and of a count: no answer has these words.
+pub const NO_VERDICT: u32 = 3;
+pub const NOT_FILED: u32 = 2;
+pub const NO_COUNT: u32 = 4294967295;
 
 // The place of a refusal, 0 if it has none. Every place is below the most bytes of an attribute, so the word holds it.
 fn place_word(r: Refusal) -> u32
@@ -62,13 +68,21 @@ fn tell(j: Judged, out: &mut [u32; ANSWER_WORDS], gap: &mut i32) -> u32
         },
         Judged::Refused(r) => {
             *gap = 0;
-            *out = [0, 0, 0, 0, 0, place_word(r)];
+            *out = [NO_VERDICT, 0, 0, 0, 0, place_word(r)];
             r.number()
         }
     }
 }
 
-// File: out[0] is 0 for new, 1 for replaced. Rows 1, 2, 4, 5, 6, 8.
+// A refusal, with the word that stands for no answer.
+fn refused(r: Refusal, word: u32, out: &mut [u32; 1]) -> u32
+    ensures { λ n. ⌜ told n (now (out .exit)) ≡ told (refusalNumber r) (word ∷ []) ⌝ }
+{
+    *out = [word];
+    r.number()
+}
+
+// File: out[0] is 0 for new, 1 for replaced, NOT_FILED on a refusal. Rows 1, 2, 4, 5, 6, 8.
 #[no_mangle]
 pub extern "C" fn aspa_file(
     register: &mut [u32],
@@ -89,10 +103,7 @@ pub extern "C" fn aspa_file(
             *out = [1];
             0
         }
-        Filed::Refused(r) => {
-            *out = [0];
-            r.number()
-        }
+        Filed::Refused(r) => refused(r, NOT_FILED, out),
     }
 }
 
@@ -107,7 +118,7 @@ pub extern "C" fn aspa_withdraw(register: &mut [u32], source: u32, customer: u32
     }
 }
 
-// Clear: out[0] is how many records went. Rows 1, 2, 4.
+// Clear: out[0] is how many records went, NO_COUNT on a refusal. Rows 1, 2, 4.
 #[no_mangle]
 pub extern "C" fn aspa_clear(register: &mut [u32], source: u32, out: &mut [u32; 1]) -> u32
     ensures { λ r. ⌜ effect (told r (now (out .exit))) (now (register .exit))
@@ -118,14 +129,11 @@ pub extern "C" fn aspa_clear(register: &mut [u32], source: u32, out: &mut [u32; 
             *out = [n];
             0
         }
-        Cleared::Refused(r) => {
-            *out = [0];
-            r.number()
-        }
+        Cleared::Refused(r) => refused(r, NO_COUNT, out),
     }
 }
 
-// Judge: the answer's words in out, the gap beside them. Rows 1, 2, 9, 10, 11, 12 to 16, 17.
+// Judge: the answer's words in out, the gap beside them; NO_VERDICT and the place on a refusal. Rows 1, 2, 9, 10, 11, 12 to 16, 17.
 #[no_mangle]
 pub extern "C" fn aspa_judge(
     register: &[u32],
@@ -185,7 +193,7 @@ pub extern "C" fn aspa_drop(ledger: &mut [u32], number: u32) -> u32
     }
 }
 
-// Re-judge: out[0] is how many routes changed. Rows 1, 2, 3.
+// Re-judge: out[0] is how many routes changed, NO_COUNT on a refusal. Rows 1, 2, 3.
 #[no_mangle]
 pub extern "C" fn aspa_rejudge(register: &[u32], ledger: &mut [u32], out: &mut [u32; 1]) -> u32
     ensures { λ r. ⌜ effect (told r (now (out .exit))) (now (ledger .exit))
@@ -196,9 +204,6 @@ pub extern "C" fn aspa_rejudge(register: &[u32], ledger: &mut [u32], out: &mut [
             *out = [n];
             0
         }
-        Rejudged::Refused(r) => {
-            *out = [0];
-            r.number()
-        }
+        Rejudged::Refused(r) => refused(r, NO_COUNT, out),
     }
 }

@@ -1,8 +1,7 @@
 -- `c_api::aspa_clear` meets its contract. Assumes nothing.
-use mathlib.Core.Path.{refl, ap}
-use mathlib.Core.List.{[], _∷_}
+use mathlib.Core.Path.{refl}
 use Rattle.c_api.proofs.Tellings.{tells}
-use Rattle.c_api.specs.Answers.{told, clearedTold}
+use Rattle.c_api.specs.Answers.{clearedTold}
 use borrow.Author.Needs.{needs}
 use Rattle.c_api.proofs.aspa_clear.Statement.{statement}
 use Rattle.c_api.proofs.aspa_clear.Tie as tie
@@ -16,8 +15,8 @@ enum-known-n c = search needs
 enum-known-r : tie.Need-enum-known-r
 enum-known-r c = search needs
 
-number-requires : tie.Need-number-requires
-number-requires c κs = search needs
+refused-requires : tie.Need-refused-requires
+refused-requires c κs = search needs
 
 same-length : tie.Need-same-length
 same-length c = search needs
@@ -31,7 +30,7 @@ same-length-2 c = search needs
 
 returns-2 : tie.Need-returns-2
 returns-2 c = let e = c .before .before .before .before .before .before .before .clear .ensures in let m = c .before .before .before .r .given .1 in
-    tells clearedTold e m (ap (λ n. told n (0 ∷ [])) (c .number .ensures))
+    tells clearedTold e m (c .refused .ensures)
 
 pub aspa-clear-spec : {M : Type 1} → statement M
 aspa-clear-spec =
@@ -40,7 +39,7 @@ aspa-clear-spec =
     clear-requires
     enum-known-n
     enum-known-r
-    number-requires
+    refused-requires
     same-length
     returns
     same-length-2

@@ -1,8 +1,7 @@
 -- `c_api::aspa_file` meets its contract. Assumes nothing.
-use mathlib.Core.Path.{refl, ap}
-use mathlib.Core.List.{[], _∷_}
+use mathlib.Core.Path.{refl}
 use Rattle.c_api.proofs.Tellings.{tells}
-use Rattle.c_api.specs.Answers.{told, filedTold}
+use Rattle.c_api.specs.Answers.{filedTold}
 use borrow.Author.Needs.{needs}
 use Rattle.c_api.proofs.aspa_file.Statement.{statement}
 use Rattle.c_api.proofs.aspa_file.Tie as tie
@@ -19,8 +18,8 @@ enum-told-2 c = search needs
 enum-known-r : tie.Need-enum-known-r
 enum-known-r c = search needs
 
-number-requires : tie.Need-number-requires
-number-requires c κs = search needs
+refused-requires : tie.Need-refused-requires
+refused-requires c κs = search needs
 
 same-length : tie.Need-same-length
 same-length c = search needs
@@ -41,7 +40,7 @@ same-length-3 c = search needs
 
 returns-3 : tie.Need-returns-3
 returns-3 c = let e = c .before .before .before .before .before .before .before .file .ensures in let m = c .before .before .before .r .given .1 in
-    tells filedTold e m (ap (λ n. told n (0 ∷ [])) (c .number .ensures))
+    tells filedTold e m (c .refused .ensures)
 
 pub aspa-file-spec : {M : Type 1} → statement M
 aspa-file-spec =
@@ -51,7 +50,7 @@ aspa-file-spec =
     enum-told
     enum-told-2
     enum-known-r
-    number-requires
+    refused-requires
     same-length
     returns
     same-length-2

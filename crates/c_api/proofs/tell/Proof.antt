@@ -4,6 +4,7 @@ use mir.Syntax.{w32}
 use mathlib.Core.Path.{refl, ap}
 use mathlib.Core.List.{[], _∷_}
 use Rattle.c_api.proofs.Tellings.{routed}
+use Rattle.c_api.specs.Answers.{noVerdict}
 use borrow.Author.Needs.{needs}
 use Rattle.c_api.proofs.tell.Statement.{statement}
 use Rattle.c_api.proofs.tell.Tie as tie
@@ -41,7 +42,7 @@ returns-2 c = rw (c .before .before .before .before .before .before .j .given .1
 
 returns-3 : tie.Need-returns-3
 returns-3 c = rw (c .before .before .before .before .j2 .given .1)
-    (routed (c .number .ensures) (ap (λ p. 0 ∷ 0 ∷ 0 ∷ 0 ∷ 0 ∷ p ∷ []) (c .before .before .place-word .ensures)) refl)
+    (routed (c .number .ensures) (ap (λ p. noVerdict ∷ 0 ∷ 0 ∷ 0 ∷ 0 ∷ p ∷ []) (c .before .before .place-word .ensures)) refl)
 
 pub tell-spec : {M : Type 1} → statement M
 tell-spec =

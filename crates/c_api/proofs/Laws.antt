@@ -1,0 +1,125 @@
+-- The statements of specs/Laws.antt. Assumes nothing.
+use Prim.Native.Nat.{ℕ, _≤_}
+use mathlib.Core.Path.{_≡_, refl, sym, _∙_, ap}
+use mathlib.Core.List.{List, [], _∷_}
+use mathlib.Core.Option.{Option, none, some}
+use native.Mathlib.Omega.{arith}
+use borrow.Author.Tests.{not-false}
+use Rattle.types.specs.declared.Verdict.{Verdict}
+use Rattle.types.specs.declared.Verdict.the-variants.{Valid, Invalid, Unknown}
+use Rattle.types.specs.declared.Fault.{Fault}
+use Rattle.types.specs.declared.Fault.the-variants.{CutShort, UnknownType, Confederation, NoNumbers, ZeroNumber}
+use Rattle.types.specs.declared.Refusal.{Refusal}
+use Rattle.types.specs.declared.Refusal.the-variants as refusal
+use Rattle.types.specs.declared.Filed.{Filed}
+use Rattle.types.specs.declared.Filed.the-variants as filed
+use Rattle.types.specs.declared.Cleared.{Cleared}
+use Rattle.types.specs.declared.Cleared.the-variants as cleared
+use Rattle.types.specs.declared.Judged.{Judged}
+use Rattle.types.specs.declared.Judged.the-variants as judged
+use Rattle.types.specs.declared.Rejudged.{Rejudged}
+use Rattle.types.specs.declared.Rejudged.the-variants as rejudged
+use Rattle.types.specs.Numbers.{verdictNumber, verdictOf, faultNumber, refusalNumber}
+use Rattle.types.specs.Rows.{firstGiven, Effect, effect, unlessRefused}
+use Rattle.types.proofs.Refusing.{accepted-none, row-passed}
+use Rattle.register.specs.Register.{mostRecords, recordsOf, registerOf}
+use Rattle.register.specs.Calls.{countRecords, clearRecords, clearRows, clearEffect}
+use Rattle.register.proofs.Laws.{register-laws}
+use Rattle.register.proofs.Looking.{few}
+use Rattle.ledger.specs.Routes.{mostRoutes}
+use Rattle.filter.specs.Calls.{rejudgeEffect}
+use Rattle.filter.proofs.Tables.{rejudge-accepts}
+use Rattle.filter.proofs.Answers.{rejudge-accepted}
+use Rattle.filter.proofs.Rejudgings.{few-changed}
+use Rattle.c_api.specs.Answers.{noVerdict, notFiled, noCount, filedTold, clearedTold, rejudgedTold, judgedTold}
+use Rattle.c_api.specs.Laws.{Marks, RefusalLaws}
+
+-- ---- the word of a refusal, and any other
+
+fault-some : (f : Fault) → faultNumber f ≡ 0 → ⊥
+fault-some CutShort e = omega arith
+fault-some UnknownType e = omega arith
+fault-some Confederation e = omega arith
+fault-some NoNumbers e = omega arith
+fault-some ZeroNumber e = omega arith
+
+-- The number of a refusal is not 0.
+number-some : (r : Refusal) → refusalNumber r ≡ 0 → ⊥
+number-some refusal.TableLength e = omega arith
+number-some refusal.RegisterMalformed e = omega arith
+number-some refusal.RoutesMalformed e = omega arith
+number-some refusal.SourceNumber e = omega arith
+number-some refusal.CustomerZero e = omega arith
+number-some refusal.ProviderList e = omega arith
+number-some refusal.NoRecord e = omega arith
+number-some refusal.RegisterFull e = omega arith
+number-some refusal.RoleNumber e = omega arith
+number-some refusal.NeighbourZero e = omega arith
+number-some refusal.AttributeLength e = omega arith
+number-some (refusal.Attribute f p) e = fault-some f e
+number-some refusal.PathLength e = omega arith
+number-some refusal.RouteTaken e = omega arith
+number-some refusal.NoRoute e = omega arith
+number-some refusal.RoutesFull e = omega arith
+
+-- Only the first word counts.
+refused : {word : ℕ} (r : Refusal) → Marks word (refusalNumber r) (word ∷ [])
+refused r = (λ e. number-some r, λ h. refl)
+
+answered : {word x : ℕ} → (x ≡ word → ⊥) → Marks word 0 (x ∷ [])
+answered h = (λ e. absurd (h e), λ z. absurd (z refl))
+
+-- ---- the calls
+
+file-marks : (f : Filed) → Marks notFiled (filedTold f .result) (filedTold f .words)
+file-marks filed.New = answered (λ e. omega arith)
+file-marks filed.Replaced = answered (λ e. omega arith)
+file-marks (filed.Refused r) = refused r
+
+no-verdict : (v : Verdict) → verdictNumber v ≡ noVerdict → ⊥
+no-verdict Valid e = omega arith
+no-verdict (Invalid c) e = omega arith
+no-verdict (Unknown a b) e = omega arith
+
+judge-marks : (j : Judged) → Marks noVerdict (judgedTold j .result) (judgedTold j .words)
+judge-marks (judged.Answered a) = answered (no-verdict (verdictOf a))
+judge-marks (judged.Refused r) = refused r
+
+-- No more records go than the register has.
+gone-few : (reg : List ℕ) (source : ℕ) → firstGiven (clearRows reg source) ≡ none → countRecords source (recordsOf reg) ≤ mostRecords
+gone-few reg source e =
+    let h = register-laws .cleared-count reg source e .1 in
+    omega (arith, h, few reg (not-false _ (row-passed _ _ (accepted-none (clearRows reg source) e 1))))
+
+clear-marks : (reg : List ℕ) (source : ℕ)
+    → Marks noCount (clearedTold (clearEffect reg source .answer) .result) (clearedTold (clearEffect reg source .answer) .words)
+unfolding clearEffect
+clear-marks reg source = go (firstGiven (clearRows reg source)) refl
+  where
+    done : Effect Cleared
+    done = effect (cleared.Gone (countRecords source (recordsOf reg))) (registerOf (clearRecords source (recordsOf reg)))
+
+    go : (o : Option Refusal) → firstGiven (clearRows reg source) ≡ o
+        → Marks noCount (clearedTold (unlessRefused o cleared.Refused reg done .answer) .result) (clearedTold (unlessRefused o cleared.Refused reg done .answer) .words)
+    go (some r) e = refused r
+    go none e = answered (λ z. omega (arith, z, gone-few reg source e))
+
+rejudge-marks : (reg led : List ℕ)
+    → Marks noCount (rejudgedTold (rejudgeEffect reg led .answer) .result) (rejudgedTold (rejudgeEffect reg led .answer) .words)
+rejudge-marks reg led = go (rejudgeEffect reg led .answer) refl
+  where
+    -- No more routes change than the ledger has.
+    few-routes : {n : ℕ} → rejudgeEffect reg led .answer ≡ rejudged.Changed n → n ≤ mostRoutes
+    few-routes h = let t = rejudge-accepted reg led h in
+        few-changed reg led (t .0 .long) (t .1 .long) (t .0 .ok) (t .1 .ok)
+        (counted (sym h ∙ ap (λ s. s .answer) (rejudge-accepts reg led (t .0) (t .1))))
+      where
+        counted : {m n : ℕ} → rejudged.Changed m ≡ rejudged.Changed n → m ≡ n
+        counted e = cc
+
+    go : (a : Rejudged) → rejudgeEffect reg led .answer ≡ a → Marks noCount (rejudgedTold a .result) (rejudgedTold a .words)
+    go (rejudged.Changed n) e = answered (λ z. omega (arith, z, few-routes e))
+    go (rejudged.Refused r) e = refused r
+
+pub refusal-laws : RefusalLaws
+refusal-laws = record { file = file-marks; clear = clear-marks; rejudge = rejudge-marks; judge = judge-marks }
