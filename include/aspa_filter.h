@@ -1,20 +1,23 @@
 /*
- * ASPA route filter: the calls for C.
+ * ASPA route filter: the calls for C99 and C++. The library, libaspa_filter.a, is for x86-64 Linux.
  *
  * The caller lends two tables of 32-bit words, in memory of its own:
  *   - the register, of ASPA_REGISTER_WORDS words: provider records from up to eight sources;
- *   - the ledger, of ASPA_LEDGER_WORDS words: kept routes with their verdicts.
+ *   - the ledger, of ASPA_LEDGER_WORDS words: kept routes with their verdicts. Only aspa_keep, aspa_drop and aspa_rejudge
+ *     need one.
  * A table of zeros is empty and well formed. The library allocates nothing, keeps nothing between calls, and calls
  * nothing but memset. A table may be copied, stored and loaded word by word.
  *
- * Every call returns 0, or the number of the refusal (ASPA_REFUSED_..). Each call tests the rows that concern its own
- * arguments and tables, lowest number first, but 12 to 16 go by place. A refusal changes no table. It does write the
- * answer words `out` and `gap`, as each call says below.
+ * Every call returns ASPA_OK, which is 0, or the number of a refusal. A row is one line of the table of refusals, which is
+ * ASPA_REFUSALS below: a number, a name and what it means. Each call tests the rows that concern its own arguments and
+ * tables, lowest number first, but 12 to 16 go by place, and is refused by the first that is given. A refusal changes no
+ * table. It does write the answer words `out` and `gap`, with words that no answer has: ASPA_NO_VERDICT, ASPA_NOT_FILED,
+ * ASPA_NO_COUNT.
  *
  * What every call asks of its pointers. The library cannot test these, and to break one is undefined behaviour:
- *   - none is null, even where its length is 0;
  *   - a pointer that comes with a length (`.._len`, counted in elements) has that many elements that can be read, and
- *     written too if it is not const; `out` has the number of words that its declaration says, and `gap` one;
+ *     written too if it is not const. With length 0 it may be null: nothing is read there;
+ *   - `out` has the number of words that its declaration says, `gap` one, and neither is null;
  *   - each is aligned for its type, and what it reads from has been written before;
  *   - what a call may write (the table that is not const, `out`, `gap`) overlaps nothing else that is passed to the
  *     same call: not the other table, not a provider list or an attribute, not another answer;
@@ -32,18 +35,52 @@
 extern "C" {
 #endif
 
+/* The version of this header and of the library that is installed with it. */
+#define ASPA_FILTER_VERSION_MAJOR 0
+#define ASPA_FILTER_VERSION_MINOR 2
+#define ASPA_FILTER_VERSION_PATCH 0
+#define ASPA_FILTER_VERSION "0.2.0"
+
+/* gcc and clang warn about a call whose result is not used. */
+#if defined(__GNUC__) || defined(__clang__)
+#define ASPA_USE_RESULT __attribute__((warn_unused_result))
+#else
+#define ASPA_USE_RESULT
+#endif
+
 /* What the tables hold at most: records and the provider numbers of all lists together, routes and the numbers of all paths. */
 #define ASPA_MOST_RECORDS 1024
 #define ASPA_MOST_PROVIDER_WORDS 8192
 #define ASPA_MOST_ROUTES 512
 #define ASPA_MOST_PATH_WORDS 8192
 
-/* The words of a table before its entries, of a record and of a route, and of each whole table. */
+/* The words of a table before its slots, of a record's slot and of a route's, and of each whole table. */
 #define ASPA_COUNT_WORDS 2
 #define ASPA_RECORD_WORDS 4
 #define ASPA_ROUTE_WORDS 9
 #define ASPA_REGISTER_WORDS (ASPA_COUNT_WORDS + ASPA_MOST_RECORDS * ASPA_RECORD_WORDS + ASPA_MOST_PROVIDER_WORDS)
 #define ASPA_LEDGER_WORDS (ASPA_COUNT_WORDS + ASPA_MOST_ROUTES * ASPA_ROUTE_WORDS + ASPA_MOST_PATH_WORDS)
+
+/* Where a table's two counts stand: of its entries, and of the provider or path numbers behind their slots. */
+#define ASPA_COUNT_ENTRIES 0
+#define ASPA_COUNT_NUMBERS 1
+
+/* Where the words of a record stand in its slot. Its list begins so many numbers behind the slots, and has so many. */
+#define ASPA_RECORD_CUSTOMER 0
+#define ASPA_RECORD_SOURCE 1
+#define ASPA_RECORD_START 2
+#define ASPA_RECORD_COUNT 3
+
+/* Where the words of a route stand in its slot; its path begins and is counted likewise. */
+#define ASPA_ROUTE_NUMBER 0
+#define ASPA_ROUTE_ROLE 1
+#define ASPA_ROUTE_NEIGHBOUR 2
+#define ASPA_ROUTE_GROUND 3
+#define ASPA_ROUTE_VERDICT 4
+#define ASPA_ROUTE_PLACE_A 5
+#define ASPA_ROUTE_PLACE_B 6
+#define ASPA_ROUTE_START 7
+#define ASPA_ROUTE_COUNT 8
 
 /* Sources are numbered from 0 to this. */
 #define ASPA_GREATEST_SOURCE 7
@@ -60,10 +97,19 @@ extern "C" {
 #define ASPA_ROLE_ROUTE_SERVER_CLIENT 5
 #define ASPA_ROLE_MUTUAL_TRANSIT 6
 
-/* Verdict words. */
+/* Verdict words, and the one that a refused judging has in their place. */
 #define ASPA_VALID 0
 #define ASPA_INVALID 1
 #define ASPA_UNKNOWN 2
+#define ASPA_NO_VERDICT 3
+
+/* What a filing did, and the word of one that was refused. */
+#define ASPA_NEW 0
+#define ASPA_REPLACED 1
+#define ASPA_NOT_FILED 2
+
+/* In place of a count where a clearing or a re-judging was refused. */
+#define ASPA_NO_COUNT UINT32_MAX
 
 /* Grounds on which a route is Invalid before any hop is looked at. */
 #define ASPA_GROUND_NONE 0
@@ -71,28 +117,39 @@ extern "C" {
 #define ASPA_GROUND_NOT_NEIGHBOUR 2 /* the first number is not the neighbour (never with role 4) */
 #define ASPA_GROUND_AS_SET 3        /* a segment is a set */
 
+/*
+ * The table of refusals: the number of each row, its name and its sentence. ASPA_REFUSED_TABLE_LENGTH is 1, and so on.
+ * Rows 12 to 16 come with a place in the attribute.
+ */
+#define ASPA_REFUSALS(ROW)                                                                                    \
+    ROW(1, TABLE_LENGTH, "a lent table has the wrong length")                                                 \
+    ROW(2, REGISTER_MALFORMED, "the register breaks its word rules")                                          \
+    ROW(3, LEDGER_MALFORMED, "the ledger breaks its word rules")                                              \
+    ROW(4, SOURCE, "the source is above the greatest source")                                                 \
+    ROW(5, CUSTOMER, "the customer is 0")                                                                     \
+    ROW(6, PROVIDERS, "the provider list is empty, too long or not strictly ascending")                       \
+    ROW(7, NO_RECORD, "the source has no record for the customer")                                            \
+    ROW(8, REGISTER_FULL, "the register has no room for the list")                                            \
+    ROW(9, ROLE, "the role is outside 1 to 6")                                                                \
+    ROW(10, NEIGHBOUR, "the neighbour is 0")                                                                  \
+    ROW(11, ATTRIBUTE_LENGTH, "the attribute has too many bytes")                                             \
+    ROW(12, CUT_SHORT, "a segment is cut short")                                                              \
+    ROW(13, SEGMENT_TYPE, "a segment's type is 0 or above 4")                                                 \
+    ROW(14, CONFEDERATION, "a segment is of a confederation (type 3 or 4)")                                   \
+    ROW(15, SEGMENT_EMPTY, "a segment has no numbers")                                                        \
+    ROW(16, AS_ZERO, "an AS number is 0")                                                                     \
+    ROW(17, PATH_LENGTH, "the merged path has too many numbers")                                              \
+    ROW(18, ROUTE_TAKEN, "the route number is taken")                                                         \
+    ROW(19, NO_ROUTE, "the ledger has no such route")                                                         \
+    ROW(20, LEDGER_FULL, "the ledger has no room for the route")
+
 /* What a call returns. */
-#define ASPA_OK 0
-#define ASPA_REFUSED_TABLE_LENGTH 1       /* a lent table has the wrong length */
-#define ASPA_REFUSED_REGISTER_MALFORMED 2   /* the register breaks its word rules */
-#define ASPA_REFUSED_LEDGER_MALFORMED 3     /* the ledger breaks its word rules */
-#define ASPA_REFUSED_SOURCE 4             /* the source is above ASPA_GREATEST_SOURCE */
-#define ASPA_REFUSED_CUSTOMER 5           /* the customer is 0 */
-#define ASPA_REFUSED_PROVIDERS 6          /* the list is empty, over ASPA_MOST_PROVIDERS, or not strictly ascending */
-#define ASPA_REFUSED_NO_RECORD 7          /* withdraw: no such record */
-#define ASPA_REFUSED_REGISTER_FULL 8      /* file: the register would pass one of its two limits */
-#define ASPA_REFUSED_ROLE 9               /* the role is outside 1 to 6 */
-#define ASPA_REFUSED_NEIGHBOUR 10         /* the neighbour is 0 */
-#define ASPA_REFUSED_ATTRIBUTE_LENGTH 11  /* the attribute is over ASPA_MOST_ATTRIBUTE_BYTES */
-#define ASPA_REFUSED_CUT_SHORT 12         /* a segment is cut short; with a place */
-#define ASPA_REFUSED_SEGMENT_TYPE 13      /* a segment's type is 0 or above 4; with a place */
-#define ASPA_REFUSED_CONFEDERATION 14     /* a segment's type is 3 or 4; with a place */
-#define ASPA_REFUSED_SEGMENT_EMPTY 15     /* a segment's count is 0; with a place */
-#define ASPA_REFUSED_AS_ZERO 16           /* an AS number is 0; with a place */
-#define ASPA_REFUSED_PATH_LENGTH 17       /* the merged path has over ASPA_MOST_PATH numbers */
-#define ASPA_REFUSED_ROUTE_TAKEN 18       /* keep: the route number is taken */
-#define ASPA_REFUSED_NO_ROUTE 19          /* drop: no such route */
-#define ASPA_REFUSED_LEDGER_FULL 20       /* keep: the ledger would pass one of its two limits */
+enum {
+#define ASPA_ROW(number, name, sentence) ASPA_REFUSED_##name = number,
+    ASPA_REFUSALS(ASPA_ROW)
+#undef ASPA_ROW
+    ASPA_OK = 0
+};
 
 /* The words of an answer of aspa_judge and aspa_keep. */
 #define ASPA_ANSWER_WORDS 6
@@ -106,18 +163,21 @@ extern "C" {
 /*
  * Files the list of providers of a customer, as one source attests it, and replaces only what that source filed for
  * that customer before. The list ascends strictly; 0 in it matches nobody. Rows 1, 2, 4, 5, 6, 8.
- *   out[0]: 0 the record is new, 1 it replaced one. On a refusal 0.
+ *   out[0]: ASPA_NEW, or ASPA_REPLACED. On a refusal ASPA_NOT_FILED.
  */
+ASPA_USE_RESULT
 uint32_t aspa_file(uint32_t *reg, size_t reg_len, uint32_t source, uint32_t customer,
                    const uint32_t *providers, size_t providers_len, uint32_t out[1]);
 
 /* Withdraws the record of one source for a customer. Rows 1, 2, 4, 5, 7. */
+ASPA_USE_RESULT
 uint32_t aspa_withdraw(uint32_t *reg, size_t reg_len, uint32_t source, uint32_t customer);
 
 /*
  * Withdraws every record of one source. Rows 1, 2, 4.
- *   out[0]: how many records went, 0 included. On a refusal 0.
+ *   out[0]: how many records went, 0 included. On a refusal ASPA_NO_COUNT.
  */
+ASPA_USE_RESULT
 uint32_t aspa_clear(uint32_t *reg, size_t reg_len, uint32_t source, uint32_t out[1]);
 
 /*
@@ -135,8 +195,9 @@ uint32_t aspa_clear(uint32_t *reg, size_t reg_len, uint32_t source, uint32_t out
  *   out[5]  the place of a refusal by 12 to 16, as an index into the attribute's bytes: the first byte of the segment,
  *           or for 16 of the number. Otherwise 0.
  *   *gap    L - K, from 1 - ASPA_MOST_PATH to ASPA_MOST_PATH - 1; 0 where none is given. A negative gap is an answer, not an error.
- * On a refusal out[0] to out[4] and *gap are 0; only the returned number tells it from a Valid.
+ * On a refusal out[0] is ASPA_NO_VERDICT; out[1] to out[4] and *gap are 0.
  */
+ASPA_USE_RESULT
 uint32_t aspa_judge(const uint32_t *reg, size_t reg_len, uint32_t role, uint32_t neighbour,
                     const uint8_t *attribute, size_t attribute_len, uint32_t out[ASPA_ANSWER_WORDS], int32_t *gap);
 
@@ -145,20 +206,122 @@ uint32_t aspa_judge(const uint32_t *reg, size_t reg_len, uint32_t role, uint32_t
  * the verdict and the places of that answer. Rows 1, 2, 3, 9 to 17, 18, 20.
  *   out, *gap: as aspa_judge answers.
  */
+ASPA_USE_RESULT
 uint32_t aspa_keep(const uint32_t *reg, size_t reg_len, uint32_t *ledger, size_t ledger_len,
                    uint32_t route, uint32_t role, uint32_t neighbour,
                    const uint8_t *attribute, size_t attribute_len, uint32_t out[ASPA_ANSWER_WORDS], int32_t *gap);
 
 /* Takes the route with this number out of the ledger. Rows 1, 3, 19. */
+ASPA_USE_RESULT
 uint32_t aspa_drop(uint32_t *ledger, size_t ledger_len, uint32_t route);
 
 /*
  * Judges every kept route that has no ground again by the register, and rewrites its verdict and both places in the
  * ledger. Rows 1, 2, 3.
- *   out[0]: how many entries changed in any of those three words. On a refusal 0.
+ *   out[0]: how many routes changed in any of those three words. On a refusal ASPA_NO_COUNT.
  * It takes some 17 KiB of stack; every other call takes less than 2 KiB.
  */
+ASPA_USE_RESULT
 uint32_t aspa_rejudge(const uint32_t *reg, size_t reg_len, uint32_t *ledger, size_t ledger_len, uint32_t out[1]);
+
+/* ---- conveniences over the calls above, in this header only ---- */
+
+/* An answer of aspa_judge or aspa_keep in a struct, with what the call returned. */
+typedef struct aspa_answer {
+    uint32_t refusal;       /* ASPA_OK, or the number of the refusal */
+    uint32_t verdict;       /* ASPA_NO_VERDICT if refused */
+    uint32_t ground;
+    uint32_t place_a;
+    uint32_t place_b;
+    uint32_t has_gap;
+    int32_t gap;
+    uint32_t refusal_place; /* of rows 12 to 16 */
+} aspa_answer;
+
+static inline aspa_answer aspa_answer_of(uint32_t refusal, const uint32_t out[ASPA_ANSWER_WORDS], int32_t gap) {
+    aspa_answer answer;
+    answer.refusal = refusal;
+    answer.verdict = out[ASPA_ANSWER_VERDICT];
+    answer.ground = out[ASPA_ANSWER_GROUND];
+    answer.place_a = out[ASPA_ANSWER_PLACE_A];
+    answer.place_b = out[ASPA_ANSWER_PLACE_B];
+    answer.has_gap = out[ASPA_ANSWER_HAS_GAP];
+    answer.gap = gap;
+    answer.refusal_place = out[ASPA_ANSWER_REFUSAL_PLACE];
+    return answer;
+}
+
+/* aspa_judge and aspa_keep with their answer in a struct. */
+ASPA_USE_RESULT
+static inline aspa_answer aspa_judge_route(const uint32_t *reg, size_t reg_len, uint32_t role, uint32_t neighbour,
+                                           const uint8_t *attribute, size_t attribute_len) {
+    uint32_t out[ASPA_ANSWER_WORDS];
+    int32_t gap;
+    uint32_t refusal = aspa_judge(reg, reg_len, role, neighbour, attribute, attribute_len, out, &gap);
+    return aspa_answer_of(refusal, out, gap);
+}
+
+ASPA_USE_RESULT
+static inline aspa_answer aspa_keep_route(const uint32_t *reg, size_t reg_len, uint32_t *ledger, size_t ledger_len,
+                                          uint32_t route, uint32_t role, uint32_t neighbour,
+                                          const uint8_t *attribute, size_t attribute_len) {
+    uint32_t out[ASPA_ANSWER_WORDS];
+    int32_t gap;
+    uint32_t refusal =
+        aspa_keep(reg, reg_len, ledger, ledger_len, route, role, neighbour, attribute, attribute_len, out, &gap);
+    return aspa_answer_of(refusal, out, gap);
+}
+
+/* The name of a verdict word; of any other word "no verdict". */
+static inline const char *aspa_verdict_name(uint32_t verdict) {
+    switch (verdict) {
+    case ASPA_VALID: return "Valid";
+    case ASPA_INVALID: return "Invalid";
+    case ASPA_UNKNOWN: return "Unknown";
+    default: return "no verdict";
+    }
+}
+
+/* The name and the sentence of a refusal by its number; ASPA_OK and numbers of no row have some too. */
+static inline const char *aspa_refusal_name(uint32_t refusal) {
+    switch (refusal) {
+    case ASPA_OK: return "OK";
+#define ASPA_ROW(number, name, sentence) case number: return #name;
+    ASPA_REFUSALS(ASPA_ROW)
+#undef ASPA_ROW
+    default: return "UNKNOWN";
+    }
+}
+
+static inline const char *aspa_refusal_sentence(uint32_t refusal) {
+    switch (refusal) {
+    case ASPA_OK: return "not refused";
+#define ASPA_ROW(number, name, sentence) case number: return sentence;
+    ASPA_REFUSALS(ASPA_ROW)
+#undef ASPA_ROW
+    default: return "no refusal has this number";
+    }
+}
+
+/*
+ * The slot of record i of a register and the numbers of its list, the slot of route i of a ledger and the numbers of its
+ * path. i is below the table's count of entries, and the table one that the last call on it did not refuse by 1, 2 or 3.
+ */
+static inline const uint32_t *aspa_record(const uint32_t *reg, uint32_t i) {
+    return reg + ASPA_COUNT_WORDS + (size_t)i * ASPA_RECORD_WORDS;
+}
+
+static inline const uint32_t *aspa_providers(const uint32_t *reg, uint32_t i) {
+    return aspa_record(reg, reg[ASPA_COUNT_ENTRIES]) + aspa_record(reg, i)[ASPA_RECORD_START];
+}
+
+static inline const uint32_t *aspa_route(const uint32_t *ledger, uint32_t i) {
+    return ledger + ASPA_COUNT_WORDS + (size_t)i * ASPA_ROUTE_WORDS;
+}
+
+static inline const uint32_t *aspa_path(const uint32_t *ledger, uint32_t i) {
+    return aspa_route(ledger, ledger[ASPA_COUNT_ENTRIES]) + aspa_route(ledger, i)[ASPA_ROUTE_START];
+}
 
 #ifdef __cplusplus
 }

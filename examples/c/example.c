@@ -8,31 +8,58 @@
 static uint32_t reg[ASPA_REGISTER_WORDS];
 static uint32_t ledger[ASPA_LEDGER_WORDS];
 
-static const char *const verdicts[] = {"Valid", "Invalid", "Unknown"};
+/* A segment's count is one byte. */
+#define MOST_IN_SEGMENT 255
 
-/* One AS_SEQUENCE of four-byte numbers, left end first. Returns its bytes. */
-static size_t sequence(uint8_t *to, const uint32_t *path, size_t n) {
+/* An AS_PATH attribute of one sequence. */
+typedef struct attribute {
+    uint8_t bytes[2 + 4 * MOST_IN_SEGMENT];
+    size_t length;
+} attribute;
+
+/* One sequence of four-byte numbers, the neighbour first and the origin last. Returns 0 if there are none, or too many for one. */
+static int sequence(attribute *to, const uint32_t *path, size_t n) {
     size_t at = 0;
-    to[at++] = 2;
-    to[at++] = (uint8_t)n;
+    if (n == 0 || n > MOST_IN_SEGMENT)
+        return 0;
+    to->bytes[at++] = 2;
+    to->bytes[at++] = (uint8_t)n;
     for (size_t i = 0; i < n; i++)
         for (int shift = 24; shift >= 0; shift -= 8)
-            to[at++] = (uint8_t)(path[i] >> shift);
-    return at;
+            to->bytes[at++] = (uint8_t)(path[i] >> shift);
+    to->length = at;
+    return 1;
 }
 
-static void print_answer(const char *call, uint32_t refusal, const uint32_t *out, int32_t gap) {
-    if (refusal != ASPA_OK) {
-        printf("%s: refused by %" PRIu32 ", place %" PRIu32 "\n", call, refusal, out[ASPA_ANSWER_REFUSAL_PLACE]);
+static void print_refusal(uint32_t refusal) {
+    printf("refused by %" PRIu32 ", %s", refusal, aspa_refusal_sentence(refusal));
+}
+
+static void print_result(const char *call, uint32_t refusal) {
+    printf("%s: ", call);
+    if (refusal == ASPA_OK)
+        printf("done");
+    else
+        print_refusal(refusal);
+    printf("\n");
+}
+
+static void print_answer(const char *call, aspa_answer answer) {
+    printf("%s: ", call);
+    if (answer.refusal != ASPA_OK) {
+        print_refusal(answer.refusal);
+        if (answer.refusal >= ASPA_REFUSED_CUT_SHORT && answer.refusal <= ASPA_REFUSED_AS_ZERO)
+            printf(", at byte %" PRIu32, answer.refusal_place);
+        printf("\n");
         return;
     }
-    printf("%s: %s", call, verdicts[out[ASPA_ANSWER_VERDICT]]);
-    if (out[ASPA_ANSWER_GROUND] != ASPA_GROUND_NONE)
-        printf(", ground %" PRIu32, out[ASPA_ANSWER_GROUND]);
-    else if (out[ASPA_ANSWER_VERDICT] != ASPA_VALID)
-        printf(" %" PRIu32 ", %" PRIu32, out[ASPA_ANSWER_PLACE_A], out[ASPA_ANSWER_PLACE_B]);
-    if (out[ASPA_ANSWER_HAS_GAP])
-        printf(", gap %" PRId32, gap);
+    printf("%s", aspa_verdict_name(answer.verdict));
+    if (answer.ground != ASPA_GROUND_NONE)
+        printf(", ground %" PRIu32, answer.ground);
+    else if (answer.verdict != ASPA_VALID)
+        printf(" %" PRIu32 ", %" PRIu32, answer.place_a, answer.place_b);
+    if (answer.has_gap)
+        printf(", gap %" PRId32, answer.gap);
     printf("\n");
 }
 
@@ -41,59 +68,72 @@ static void file(uint32_t source, uint32_t customer, const uint32_t *providers, 
     uint32_t refusal = aspa_file(reg, ASPA_REGISTER_WORDS, source, customer, providers, n, out);
     printf("file source %" PRIu32 " customer %" PRIu32 ": ", source, customer);
     if (refusal != ASPA_OK)
-        printf("refused by %" PRIu32 "\n", refusal);
+        print_refusal(refusal);
     else
-        printf("%s\n", out[0] ? "replaced" : "new");
+        printf("%s", out[0] == ASPA_NEW ? "new" : "replaced");
+    printf("\n");
 }
 
 static void judge(uint32_t role, const uint32_t *path, size_t n) {
-    uint8_t attribute[2 + 4 * ASPA_MOST_PATH];
-    uint32_t out[ASPA_ANSWER_WORDS];
-    int32_t gap;
-    size_t bytes = sequence(attribute, path, n);
-    uint32_t refusal = aspa_judge(reg, ASPA_REGISTER_WORDS, role, path[0], attribute, bytes, out, &gap);
-    print_answer("judge", refusal, out, gap);
+    attribute a;
+    if (!sequence(&a, path, n)) {
+        printf("judge: %zu numbers make no sequence\n", n);
+        return;
+    }
+    print_answer("judge", aspa_judge_route(reg, ASPA_REGISTER_WORDS, role, path[0], a.bytes, a.length));
 }
 
 static void keep(uint32_t route, uint32_t role, const uint32_t *path, size_t n) {
-    uint8_t attribute[2 + 4 * ASPA_MOST_PATH];
-    uint32_t out[ASPA_ANSWER_WORDS];
-    int32_t gap;
-    size_t bytes = sequence(attribute, path, n);
-    uint32_t refusal = aspa_keep(reg, ASPA_REGISTER_WORDS, ledger, ASPA_LEDGER_WORDS, route, role, path[0], attribute, bytes, out, &gap);
-    print_answer("keep", refusal, out, gap);
+    attribute a;
+    if (!sequence(&a, path, n)) {
+        printf("keep: %zu numbers make no sequence\n", n);
+        return;
+    }
+    print_answer("keep", aspa_keep_route(reg, ASPA_REGISTER_WORDS, ledger, ASPA_LEDGER_WORDS, route, role, path[0], a.bytes, a.length));
 }
 
 static void rejudge(void) {
     uint32_t out[1];
     uint32_t refusal = aspa_rejudge(reg, ASPA_REGISTER_WORDS, ledger, ASPA_LEDGER_WORDS, out);
     if (refusal != ASPA_OK) {
-        printf("rejudge: refused by %" PRIu32 "\n", refusal);
+        print_result("rejudge", refusal);
         return;
     }
     printf("rejudge: %" PRIu32 " changed\n", out[0]);
-    for (uint32_t i = 0; i < ledger[0]; i++) {
-        const uint32_t *entry = ledger + 2 + 9 * i;
-        printf("  route %" PRIu32 ": %s %" PRIu32 ", %" PRIu32 "\n", entry[0], verdicts[entry[4]], entry[5], entry[6]);
+    for (uint32_t i = 0; i < ledger[ASPA_COUNT_ENTRIES]; i++) {
+        const uint32_t *route = aspa_route(ledger, i);
+        printf("  route %" PRIu32 ": %s %" PRIu32 ", %" PRIu32 "\n", route[ASPA_ROUTE_NUMBER],
+               aspa_verdict_name(route[ASPA_ROUTE_VERDICT]), route[ASPA_ROUTE_PLACE_A], route[ASPA_ROUTE_PLACE_B]);
     }
+}
+
+static void clear(uint32_t source) {
+    uint32_t out[1];
+    uint32_t refusal = aspa_clear(reg, ASPA_REGISTER_WORDS, source, out);
+    if (refusal != ASPA_OK)
+        print_result("clear", refusal);
+    else
+        printf("clear: %" PRIu32 " went\n", out[0]);
 }
 
 int main(void) {
     static const uint32_t of_10[] = {20, 30}, of_20[] = {40}, of_20_too[] = {50}, of_40[] = {0}, of_50[] = {40};
-    static const uint32_t up[] = {50, 20, 10}, peak[] = {20, 10, 30}, over[] = {50, 40, 20, 10};
+    static const uint32_t up[] = {50, 20, 10}, peak[] = {20, 10, 30}, over[] = {50, 40, 20, 10}, many[256] = {20};
     static const uint8_t cut[] = {2};
-    uint32_t out[ASPA_ANSWER_WORDS];
-    int32_t gap;
 
+    printf("ASPA filter %s\n", ASPA_FILTER_VERSION);
     file(0, 10, of_10, 2);
     file(0, 20, of_20, 1);
     file(0, 40, of_40, 1);
     file(0, 50, of_50, 1);
+    file(0, 60, NULL, 0);
 
     judge(ASPA_ROLE_CUSTOMER, up, 3);
     judge(ASPA_ROLE_PROVIDER, peak, 3);
     judge(ASPA_ROLE_PROVIDER, over, 4);
-    print_answer("judge", aspa_judge(reg, ASPA_REGISTER_WORDS, ASPA_ROLE_CUSTOMER, 20, cut, 1, out, &gap), out, gap);
+    judge(ASPA_ROLE_CUSTOMER, many, 256);
+    print_answer("judge", aspa_judge_route(reg, ASPA_REGISTER_WORDS, ASPA_ROLE_CUSTOMER, 20, cut, sizeof cut));
+    print_answer("judge", aspa_judge_route(reg, ASPA_REGISTER_WORDS, ASPA_ROLE_CUSTOMER, 20, NULL, 0));
 
     keep(1, ASPA_ROLE_CUSTOMER, up, 3);
     keep(2, ASPA_ROLE_PROVIDER, peak, 3);
@@ -105,16 +145,15 @@ int main(void) {
     file(1, 20, of_20_too, 1);
     rejudge();
 
-    printf("withdraw: %" PRIu32 "\n", aspa_withdraw(reg, ASPA_REGISTER_WORDS, 0, 10));
-    printf("withdraw: %" PRIu32 "\n", aspa_withdraw(reg, ASPA_REGISTER_WORDS, 0, 10));
+    print_result("withdraw", aspa_withdraw(reg, ASPA_REGISTER_WORDS, 0, 10));
+    print_result("withdraw", aspa_withdraw(reg, ASPA_REGISTER_WORDS, 0, 10));
     rejudge();
 
-    printf("clear: %" PRIu32, aspa_clear(reg, ASPA_REGISTER_WORDS, 0, out));
-    printf(", %" PRIu32 " went\n", out[0]);
+    clear(0);
     rejudge();
 
-    printf("drop: %" PRIu32 "\n", aspa_drop(ledger, ASPA_LEDGER_WORDS, 2));
-    printf("drop: %" PRIu32 "\n", aspa_drop(ledger, ASPA_LEDGER_WORDS, 2));
+    print_result("drop", aspa_drop(ledger, ASPA_LEDGER_WORDS, 2));
+    print_result("drop", aspa_drop(ledger, ASPA_LEDGER_WORDS, 2));
     rejudge();
     return 0;
 }
