@@ -3,16 +3,16 @@
  *
  * The caller lends two tables of 32-bit words, in memory of its own:
  *   - the register, of ASPA_REGISTER_WORDS words: provider records from up to eight sources;
- *   - the ledger, of ASPA_LEDGER_WORDS words: kept routes with their verdicts. Only aspa_keep, aspa_drop and aspa_rejudge
- *     need one.
+ *   - the ledger, of ASPA_LEDGER_WORDS words: kept routes with their verdicts. Only aspa_keep, aspa_drop and
+ *     aspa_rejudge need one.
  * A table of zeros is empty and well formed. The library allocates nothing, keeps nothing between calls, and calls
  * nothing but memset. A table may be copied, stored and loaded word by word.
  *
- * Every call returns ASPA_OK, which is 0, or the number of a refusal. A row is one line of the table of refusals, which is
+ * Every call returns ASPA_OK, which is 0, or the number of a refusal. A row is one line of the table of refusals,
  * ASPA_REFUSALS below: a number, a name and what it means. Each call tests the rows that concern its own arguments and
- * tables, lowest number first, but 12 to 16 go by place, and is refused by the first that is given. A refusal changes no
- * table. It does write the answer words `out` and `gap`, with words that no answer has: ASPA_NO_VERDICT, ASPA_NOT_FILED,
- * ASPA_NO_COUNT.
+ * tables, lowest number first, but 12 to 16 go by place, and is refused by the first that is given. A refusal changes
+ * no table. It does write the answer words `out` and `gap`, with words that no answer has: ASPA_NO_VERDICT,
+ * ASPA_NOT_FILED, ASPA_NO_COUNT.
  *
  * What every call asks of its pointers. The library cannot test these, and to break one is undefined behaviour:
  *   - a pointer that comes with a length (`.._len`, counted in elements) has that many elements that can be read, and
@@ -48,7 +48,10 @@ extern "C" {
 #define ASPA_USE_RESULT
 #endif
 
-/* What the tables hold at most: records and the provider numbers of all lists together, routes and the numbers of all paths. */
+/*
+ * What the tables hold at most: records and the provider numbers of all lists together, routes and the numbers of all
+ * paths.
+ */
 #define ASPA_MOST_RECORDS 1024
 #define ASPA_MOST_PROVIDER_WORDS 8192
 #define ASPA_MOST_ROUTES 512
@@ -194,7 +197,8 @@ uint32_t aspa_clear(uint32_t *reg, size_t reg_len, uint32_t source, uint32_t out
  *   out[4]  1 if a gap is given, else 0. Every downstream answer without a ground gives one.
  *   out[5]  the place of a refusal by 12 to 16, as an index into the attribute's bytes: the first byte of the segment,
  *           or for 16 of the number. Otherwise 0.
- *   *gap    L - K, from 1 - ASPA_MOST_PATH to ASPA_MOST_PATH - 1; 0 where none is given. A negative gap is an answer, not an error.
+ *   *gap    L - K, from 1 - ASPA_MOST_PATH to ASPA_MOST_PATH - 1; 0 where none is given. A negative gap is an answer,
+ *           not an error.
  * On a refusal out[0] is ASPA_NO_VERDICT; out[1] to out[4] and *gap are 0.
  */
 ASPA_USE_RESULT
@@ -304,8 +308,9 @@ static inline const char *aspa_refusal_sentence(uint32_t refusal) {
 }
 
 /*
- * The slot of record i of a register and the numbers of its list, the slot of route i of a ledger and the numbers of its
- * path. i is below the table's count of entries, and the table one that the last call on it did not refuse by 1, 2 or 3.
+ * The slot of record i of a register and the numbers of its list, the slot of route i of a ledger and the numbers of
+ * its path. i is below the table's count of entries, and the table one that a call on it, after the last change from
+ * outside, did not refuse by 1, 2 or 3.
  */
 static inline const uint32_t *aspa_record(const uint32_t *reg, uint32_t i) {
     return reg + ASPA_COUNT_WORDS + (size_t)i * ASPA_RECORD_WORDS;
