@@ -29,11 +29,7 @@ fn register_d() -> Register {
 
 /// One sequence, left end first.
 fn sequence(path: &[u32]) -> Vec<u8> {
-    let mut bytes = vec![2, path.len() as u8];
-    for x in path {
-        bytes.extend(x.to_be_bytes());
-    }
-    bytes
+    aspa_filter::sequence(&numbers(path)).unwrap()
 }
 
 fn judge(register: &Register, role: u32, path: &[u32]) -> Result<Answer, Refusal> {
@@ -47,7 +43,7 @@ fn judge_from(
     path: &[u32],
 ) -> Result<Answer, Refusal> {
     register.judge(
-        Role::from_number(role).unwrap(),
+        Role::try_from(role).unwrap(),
         AsNumber(neighbour),
         &sequence(path),
     )
@@ -62,14 +58,14 @@ fn valid(gap: Option<i32>) -> Result<Answer, Refusal> {
 
 fn invalid(a: u32, b: u32, gap: Option<i32>) -> Result<Answer, Refusal> {
     Ok(Answer {
-        verdict: Verdict::Invalid(Cause::Hops(a, b)),
+        verdict: Verdict::Invalid(Cause::Hops { a, b }),
         gap,
     })
 }
 
 fn unknown(a: u32, b: u32, gap: Option<i32>) -> Result<Answer, Refusal> {
     Ok(Answer {
-        verdict: Verdict::Unknown(a, b),
+        verdict: Verdict::Unknown { a, b },
         gap,
     })
 }
