@@ -13,6 +13,9 @@ struct Tables {
 
 type Call = Box<dyn Fn(&mut Tables) -> Result<(), Refusal>>;
 
+/// The refusal of a fault at a place.
+type Faulty = fn(u32) -> Refusal;
+
 /// The text of each row.
 const TEXTS: [&str; 20] = [
     "refused by 1: the register has not 12290 words or the ledger not 12802",
@@ -268,7 +271,7 @@ fn every_row() {
     seen.all(&some, Refusal::AttributeLength, calls);
 
     // The same fault first and after a good segment, which has 10 bytes.
-    let faults: [(&[u8], fn(u32) -> Refusal, u32); 9] = [
+    let faults: [(&[u8], Faulty, u32); 9] = [
         (&[2], |place| Refusal::CutShort { place }, 0),
         (&[2, 1, 0, 0, 0], |place| Refusal::CutShort { place }, 0),
         (&[0, 1], |place| Refusal::SegmentType { place }, 0),
