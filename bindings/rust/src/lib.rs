@@ -36,14 +36,14 @@
 //!
 //! # What to do with an answer
 //!
-//! * [`Verdict::Valid`]: the records carry the whole path. Use the route.
+//! * [`Verdict::Valid`]: every hop that has to be attested is. Use the route.
 //! * [`Verdict::Invalid`]: the path breaks the records, or is one that no route should have ([`Ground`]). Do not use the route. If it is
 //!   kept, a later record may make it good again.
 //! * [`Verdict::Unknown`]: some network on the path has no record. Use the route as you would without the filter.
-//! * [`Refusal`], the error of every call: there is no verdict. The call has changed nothing; the refusal says which row of the rules was
-//!   given, and for a malformed attribute at which byte. Do not take it for a verdict: such a route is as bad as its attribute, and
-//!   [`TableLength`](Refusal::TableLength), [`RegisterMalformed`](Refusal::RegisterMalformed) and
-//!   [`LedgerMalformed`](Refusal::LedgerMalformed) say that words given to `from_words` are no table.
+//! * [`Refusal`], the error of every call: no verdict was given and no table has changed. It says which row of the rules was given, and of
+//!   a malformed attribute at which byte the fault begins. A route that is refused has not been judged: treat it as malformed, and not as
+//!   Valid. [`TableLength`](Refusal::TableLength), [`RegisterMalformed`](Refusal::RegisterMalformed) and
+//!   [`LedgerMalformed`](Refusal::LedgerMalformed) say nothing of the route, but that words given to `from_words` are no table.
 //!
 //! # Keeping routes
 //!

@@ -20,8 +20,8 @@ impl AsNumber {
     /// The same numbers as words.
     pub(crate) fn words(numbers: &[AsNumber]) -> &[u32] {
         #[allow(unsafe_code)]
-        // SAFETY: AsNumber is a transparent u32, so that both have one layout and every value of one is a value of the other; the
-        // pointer, the length and the lifetime are those of the slice.
+        // SAFETY: AsNumber is a transparent u32: both have one layout, and each value of one is a value of the other. The pointer and the
+        // length are those of a slice that stays borrowed.
         unsafe {
             std::slice::from_raw_parts(numbers.as_ptr().cast(), numbers.len())
         }
@@ -30,7 +30,7 @@ impl AsNumber {
     /// The same words as numbers.
     pub(crate) fn numbers(words: &[u32]) -> &[AsNumber] {
         #[allow(unsafe_code)]
-        // SAFETY: as in `words`.
+        // SAFETY: as in `words`, in the other direction.
         unsafe {
             std::slice::from_raw_parts(words.as_ptr().cast(), words.len())
         }

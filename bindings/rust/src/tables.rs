@@ -26,9 +26,9 @@ fn count((row, count): (u32, u32), most: usize) -> Result<u32, Refusal> {
     }
 }
 
-/// Provider records from up to eight sources.
+/// Provider records from sources 0 to [`GREATEST_SOURCE`].
 ///
-/// A register owns its [`REGISTER_WORDS`] words, some 48 KiB. They may be stored and loaded again: [`words`](Register::words) and
+/// A register owns its [`REGISTER_WORDS`] words of four bytes. They may be stored and loaded again: [`words`](Register::words) and
 /// [`from_words`](Register::from_words).
 #[derive(Clone, PartialEq, Eq)]
 pub struct Register(Box<[u32]>);
@@ -150,7 +150,7 @@ impl fmt::Debug for Register {
 
 /// Kept routes with their verdicts.
 ///
-/// A ledger owns its [`LEDGER_WORDS`] words, some 50 KiB. They may be stored and loaded again: [`words`](Ledger::words) and
+/// A ledger owns its [`LEDGER_WORDS`] words of four bytes. They may be stored and loaded again: [`words`](Ledger::words) and
 /// [`from_words`](Ledger::from_words).
 #[derive(Clone, PartialEq, Eq)]
 pub struct Ledger(Box<[u32]>);
@@ -351,12 +351,12 @@ impl<'a> Route<'a> {
         let neighbour = slot[route::NEIGHBOUR];
         let path = body(bodies, slot[route::START], slot[route::COUNT])?;
         // Under a ground no path is kept, and without one there is a path.
-        let most = if slot[route::GROUND] == 0 {
+        let lengths = if slot[route::GROUND] == 0 {
             1..=MOST_PATH
         } else {
             0..=0
         };
-        let meant = neighbour != 0 && most.contains(&path.len());
+        let meant = neighbour != 0 && lengths.contains(&path.len());
         meant.then_some(Route {
             number: RouteNumber(slot[route::NUMBER]),
             role: Role::try_from(slot[route::ROLE]).ok()?,

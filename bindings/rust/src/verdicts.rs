@@ -77,7 +77,7 @@ pub enum Cause {
 /// ```
 #[derive(Clone, Copy, Debug, PartialEq, Eq, Hash)]
 pub enum Verdict {
-    /// Every hop that has to be is attested.
+    /// Every hop that has to be attested is.
     Valid,
     /// The path breaks the records, or has a ground.
     Invalid(Cause),
@@ -177,7 +177,7 @@ impl Answer {
             .filter(|verdict| *verdict != Verdict::Valid || (a, b) == (0, 0));
         let gap = match out[answer::HAS_GAP] {
             0 => Some(None),
-            1 => Some(Some(gap)),
+            1 if (gap.unsigned_abs() as usize) < MOST_PATH => Some(Some(gap)),
             _ => None,
         };
         match (verdict, gap) {
@@ -258,7 +258,15 @@ mod tests {
                 "no answer: the library returned 0 and words that mean nothing here"
             );
         }
-        let valid = Answer::told((0, [0; answer::WORDS], 9));
-        assert_eq!(valid.map(|answer| answer.to_string()), Ok("Valid".into()));
+        let text = |has_gap, gap| {
+            let answer = Answer::told((0, [0, 0, 0, 0, has_gap, 0], gap));
+            answer.map(|answer| answer.to_string())
+        };
+        assert_eq!(text(0, 9), Ok("Valid".into()));
+        assert_eq!(text(1, 63), Ok("Valid gap 63".into()));
+        assert_eq!(text(1, -63), Ok("Valid gap -63".into()));
+        for gap in [64, -64, i32::MIN] {
+            assert_eq!(text(1, gap), Err(Refusal::NoAnswer { number: 0 }));
+        }
     }
 }

@@ -314,3 +314,17 @@ fn kept_and_judged_again() {
     assert_eq!(ledger.drop_route(RouteNumber(7)), Ok(()));
     assert_eq!(ledger, Ledger::new());
 }
+
+/// One register serves several threads, and a table may be made in one and used in another.
+#[test]
+fn threads() {
+    let register = std::thread::spawn(register_d).join().unwrap();
+    let judged = std::thread::scope(|scope| {
+        let threads = [1, 3].map(|role| {
+            let register = &register;
+            scope.spawn(move || judge(register, role, &[40, 20, 10]))
+        });
+        threads.map(|thread| thread.join().unwrap())
+    });
+    assert_eq!(judged, [valid(None), valid(Some(0))]);
+}
