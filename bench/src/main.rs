@@ -157,7 +157,10 @@ fn main() {
             Verdict::Unknown { .. } => &mut unknown,
         } += 1;
     }
-    println!("{ROUTES} routes of {PATH}, {MOST_RECORDS} records of 8, {rounds} rounds: {changed} change; then Valid {valid}, Invalid {invalid}, Unknown {unknown}");
+    println!(
+        "{ROUTES} routes of {PATH}, {MOST_RECORDS} records of 8, {rounds} rounds: {changed} change; \
+         then Valid {valid}, Invalid {invalid}, Unknown {unknown}"
+    );
     let mut times = time_rejudges(&mut timers, &ways, rounds, 0);
     for (i, way) in ways.iter().enumerate().skip(1) {
         print(

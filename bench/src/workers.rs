@@ -1,4 +1,5 @@
-//! Processes that time one library each, so that two builds of it can be compared: both have the same names and cannot stand in one program.
+//! Processes that time one library each, so that two builds of it can be compared: their names are the same, and one program cannot hold
+//! both.
 //!
 //! A worker reads lines: what to time and the round, or `compare`. It answers each by a line: the nanoseconds and the check, or the hash
 //! of the comparison. It ends at the end of its input.

@@ -7,7 +7,7 @@
 use crate::limits::answer;
 
 /// What stands in an answer until the library has written it: no verdict, no count, no filing.
-const UNWRITTEN: u32 = u32::MAX;
+pub const UNWRITTEN: u32 = u32::MAX;
 
 /// The result of a judging: the row or 0, the words of the answer, the gap.
 pub type Judged = (u32, [u32; answer::WORDS], i32);

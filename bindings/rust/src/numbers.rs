@@ -84,7 +84,10 @@ pub struct ParseAsNumberError(());
 
 impl fmt::Display for ParseAsNumberError {
     fn fmt(&self, f: &mut fmt::Formatter<'_>) -> fmt::Result {
-        f.write_str("no AS number: it is a decimal number below 2^32 without sign or leading zeros, after `AS` or alone")
+        f.write_str(
+            "no AS number: it is a decimal number below 2^32 \
+             without sign or leading zeros, after `AS` or alone",
+        )
     }
 }
 

@@ -23,7 +23,7 @@ use std::fmt;
 #[non_exhaustive]
 #[derive(Clone, Copy, Debug, PartialEq, Eq, Hash)]
 pub enum Refusal {
-    /// 1: a table has not [`REGISTER_WORDS`] or [`LEDGER_WORDS`] words.
+    /// 1: a table has the wrong length. A register has [`REGISTER_WORDS`] words, a ledger [`LEDGER_WORDS`].
     TableLength,
     /// 2: the register breaks its word rules.
     RegisterMalformed,
@@ -166,35 +166,56 @@ impl Refusal {
 
 impl fmt::Display for Refusal {
     fn fmt(&self, f: &mut fmt::Formatter<'_>) -> fmt::Result {
-        if let Refusal::NoAnswer { number } = self {
-            return write!(
-                f,
-                "no answer: the library returned {number} and words that mean nothing here"
-            );
-        }
-        write!(f, "refused by {}: ", self.number())?;
         match self {
-            Refusal::TableLength => write!(f, "the register has not {REGISTER_WORDS} words or the ledger not {LEDGER_WORDS}"),
+            Refusal::NoAnswer { .. } => f.write_str("no answer: ")?,
+            _ => write!(f, "refused by {}: ", self.number())?,
+        }
+        match self {
+            Refusal::TableLength => write!(
+                f,
+                "a table has the wrong length: \
+                 a register has {REGISTER_WORDS} words, a ledger {LEDGER_WORDS}"
+            ),
             Refusal::RegisterMalformed => f.write_str("the register is malformed"),
             Refusal::LedgerMalformed => f.write_str("the ledger is malformed"),
             Refusal::Source => write!(f, "the source is above {GREATEST_SOURCE}"),
             Refusal::Customer => f.write_str("the customer is 0"),
-            Refusal::Providers => write!(f, "the provider list is empty, longer than {MOST_PROVIDERS} or not strictly ascending"),
+            Refusal::Providers => write!(
+                f,
+                "the provider list is empty, longer than {MOST_PROVIDERS} \
+                 or not strictly ascending"
+            ),
             Refusal::NoRecord => f.write_str("there is no such record"),
-            Refusal::RegisterFull => write!(f, "the register would hold more than {MOST_RECORDS} records or {MOST_PROVIDER_WORDS} provider numbers"),
+            Refusal::RegisterFull => write!(
+                f,
+                "the register would hold more than {MOST_RECORDS} records \
+                 or {MOST_PROVIDER_WORDS} provider numbers"
+            ),
             Refusal::Role => write!(f, "the role is not 1 to {}", Role::ALL.len()),
             Refusal::Neighbour => f.write_str("the neighbour is 0"),
-            Refusal::AttributeLength => write!(f, "the attribute is longer than {MOST_ATTRIBUTE_BYTES} bytes"),
+            Refusal::AttributeLength => write!(
+                f,
+                "the attribute is longer than {MOST_ATTRIBUTE_BYTES} bytes"
+            ),
             Refusal::CutShort { .. } => f.write_str("a segment is cut short"),
             Refusal::SegmentType { .. } => f.write_str("a segment has an unknown type"),
             Refusal::Confederation { .. } => f.write_str("a segment is of a confederation"),
             Refusal::SegmentEmpty { .. } => f.write_str("a segment has no numbers"),
             Refusal::AsZero { .. } => f.write_str("an AS number is 0"),
-            Refusal::PathLength => write!(f, "the merged path has more than {MOST_PATH} numbers"),
+            Refusal::PathLength => {
+                write!(f, "the merged path has more than {MOST_PATH} numbers")
+            }
             Refusal::RouteTaken => f.write_str("the route number is taken"),
             Refusal::NoRoute => f.write_str("there is no such route"),
-            Refusal::LedgerFull => write!(f, "the ledger would hold more than {MOST_ROUTES} routes or {MOST_PATH_WORDS} path numbers"),
-            Refusal::NoAnswer { .. } => Ok(()),
+            Refusal::LedgerFull => write!(
+                f,
+                "the ledger would hold more than {MOST_ROUTES} routes \
+                 or {MOST_PATH_WORDS} path numbers"
+            ),
+            Refusal::NoAnswer { number } => write!(
+                f,
+                "the library returned {number} and words that mean nothing here"
+            ),
         }?;
         match self.place() {
             Some(place) => write!(f, " (byte {place})"),

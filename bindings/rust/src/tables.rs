@@ -16,6 +16,17 @@ pub enum Filed {
     Replaced,
 }
 
+impl Filed {
+    fn told((row, word): (u32, u32)) -> Result<Filed, Refusal> {
+        Refusal::told(row, 0)?;
+        match word {
+            0 => Ok(Filed::New),
+            1 => Ok(Filed::Replaced),
+            _ => Err(Refusal::NoAnswer { number: row }),
+        }
+    }
+}
+
 /// How many entries a call tells of; a number that no table reaches is no answer.
 fn count((row, count): (u32, u32), most: usize) -> Result<u32, Refusal> {
     Refusal::told(row, 0)?;
@@ -64,13 +75,8 @@ impl Register {
         customer: AsNumber,
         providers: &[AsNumber],
     ) -> Result<Filed, Refusal> {
-        let (row, filed) = ffi::file(&mut self.0, source, customer.0, AsNumber::words(providers));
-        Refusal::told(row, 0)?;
-        match filed {
-            0 => Ok(Filed::New),
-            1 => Ok(Filed::Replaced),
-            _ => Err(Refusal::NoAnswer { number: row }),
-        }
+        let providers = AsNumber::words(providers);
+        Filed::told(ffi::file(&mut self.0, source, customer.0, providers))
     }
 
     /// Withdraws the record of one source for a customer.
@@ -416,5 +422,34 @@ impl fmt::Debug for Records<'_> {
 impl fmt::Debug for Routes<'_> {
     fn fmt(&self, f: &mut fmt::Formatter<'_>) -> fmt::Result {
         f.debug_struct("Routes").finish_non_exhaustive()
+    }
+}
+
+#[cfg(test)]
+mod tests {
+    use super::*;
+    use crate::ffi::UNWRITTEN;
+
+    #[test]
+    fn words_that_are_no_answer() {
+        let none = Refusal::NoAnswer { number: 0 };
+        assert_eq!(Filed::told((0, 1)), Ok(Filed::Replaced));
+        assert_eq!(count((0, 512), MOST_ROUTES), Ok(512));
+        for word in [2, UNWRITTEN] {
+            assert_eq!(Filed::told((0, word)), Err(none));
+        }
+        for word in [513, UNWRITTEN] {
+            assert_eq!(count((0, word), MOST_ROUTES), Err(none));
+        }
+    }
+
+    #[test]
+    fn words_of_a_refusal() {
+        for word in [0, 1, 2, UNWRITTEN] {
+            assert_eq!(Filed::told((6, word)), Err(Refusal::Providers));
+            assert_eq!(count((3, word), 1), Err(Refusal::LedgerMalformed));
+            let none = Refusal::NoAnswer { number: 21 };
+            assert_eq!(count((21, word), 1), Err(none));
+        }
     }
 }

@@ -178,6 +178,15 @@ fn damaged_records() {
     ] {
         assert_eq!(records_with(&[(word, value)]), left, "word {word}: {value}");
     }
+    // It ends for good: the third record is not shown after the second.
+    let mut words = register().words().to_vec();
+    words[6] = 0;
+    let damaged = Register::from_words(words);
+    let shown: Vec<bool> = {
+        let mut records = damaged.records();
+        (0..4).map(|_| records.next().is_some()).collect()
+    };
+    assert_eq!(shown, [true, false, false, false]);
     // Start and count whose sum passes 2^32, and a count above the most of a list.
     assert_eq!(records_with(&[(8, TOP), (9, 2)]), 1);
     assert_eq!(records_with(&[(1, 300), (9, 256)]), 3);

@@ -18,7 +18,7 @@ type Faulty = fn(u32) -> Refusal;
 
 /// The text of each row.
 const TEXTS: [&str; 20] = [
-    "refused by 1: the register has not 12290 words or the ledger not 12802",
+    "refused by 1: a table has the wrong length: a register has 12290 words, a ledger 12802",
     "refused by 2: the register is malformed",
     "refused by 3: the ledger is malformed",
     "refused by 4: the source is above 7",
