@@ -1,17 +1,13 @@
 //! Re-judging in plain Rust on the same tables: what the proved library is measured against.
 
-pub const MOST_RECORDS: usize = 1024;
-pub const MOST_PROVIDER_WORDS: usize = 8192;
-const MOST_PROVIDERS: usize = 256;
-const GREATEST_SOURCE: u32 = 7;
-pub const MOST_ROUTES: usize = 512;
-const MOST_PATH_WORDS: usize = 8192;
-const MOST_PATH: usize = 64;
-/// The words of a record and of a route.
+use aspa_filter::{
+    GREATEST_SOURCE, LEDGER_WORDS, MOST_PATH, MOST_PATH_WORDS, MOST_PROVIDERS, MOST_PROVIDER_WORDS,
+    MOST_RECORDS, MOST_ROUTES, REGISTER_WORDS,
+};
+
+/// The words of a record's slot and of a route's.
 const RECORD: usize = 4;
 pub const ROUTE: usize = 9;
-pub const REGISTER_WORDS: usize = 2 + MOST_RECORDS * RECORD + MOST_PROVIDER_WORDS;
-pub const LEDGER_WORDS: usize = 2 + MOST_ROUTES * ROUTE + MOST_PATH_WORDS;
 
 #[derive(Clone, Copy, PartialEq)]
 enum Hop {
@@ -41,7 +37,7 @@ fn bodies(words: &[u32], width: usize, most: usize, most_body: usize) -> Option<
     Some(begin)
 }
 
-pub fn is_register(reg: &[u32]) -> bool {
+fn is_register(reg: &[u32]) -> bool {
     let Some(mut at) = bodies(reg, RECORD, MOST_RECORDS, MOST_PROVIDER_WORDS) else {
         return false;
     };
@@ -67,7 +63,7 @@ pub fn is_register(reg: &[u32]) -> bool {
     true
 }
 
-pub fn is_ledger(ledger: &[u32]) -> bool {
+fn is_ledger(ledger: &[u32]) -> bool {
     let Some(mut at) = bodies(ledger, ROUTE, MOST_ROUTES, MOST_PATH_WORDS) else {
         return false;
     };
@@ -104,7 +100,7 @@ pub fn is_ledger(ledger: &[u32]) -> bool {
     true
 }
 
-/// A look-up: the index of the first record of a customer, or where it would stand.
+/// A look-up: the position of the first record of a customer, or where it would stand.
 pub trait Find {
     fn over(reg: &[u32]) -> Self;
     fn find(&self, reg: &[u32], customer: u32) -> usize;
@@ -114,7 +110,7 @@ fn customer_at(reg: &[u32], i: usize) -> u32 {
     reg[2 + i * RECORD]
 }
 
-/// The place of a customer that is known to be from low to high, by a loop that halves.
+/// The position of a customer that is known to be from low to high, by a loop that halves.
 #[inline(always)]
 fn halve(reg: &[u32], mut low: usize, mut high: usize, customer: u32) -> usize {
     while low < high {
@@ -249,12 +245,12 @@ impl Find for Hinted {
     }
 }
 
-/// The hop from x to y, over every record of x; the first stands at `place`.
-fn hop(reg: &[u32], place: usize, x: u32, y: u32) -> Hop {
+/// The hop from x to y, over every record of x from the position of the first on.
+fn hop(reg: &[u32], position: usize, x: u32, y: u32) -> Hop {
     let n = reg[0] as usize;
     let begin = 2 + n * RECORD;
     let mut seen = Hop::NoAttestation;
-    for entry in reg[2 + place * RECORD..begin].chunks_exact(RECORD) {
+    for entry in reg[2 + position * RECORD..begin].chunks_exact(RECORD) {
         if entry[0] != x {
             break;
         }
@@ -288,16 +284,16 @@ fn upstream(by: &impl Find, reg: &[u32], path: &[u32]) -> [u32; 3] {
 fn downstream(by: &impl Find, reg: &[u32], path: &[u32]) -> [u32; 3] {
     let n = path.len();
     let (mut u, mut v, mut k, mut l) = (n + 1, 0, 1, 1);
-    let mut place = by.find(reg, path[n - 1]);
+    let mut position = by.find(reg, path[n - 1]);
     for i in 1..n {
         let (x, y) = (path[n - i], path[n - i - 1]);
-        match hop(reg, place, x, y) {
+        match hop(reg, position, x, y) {
             Hop::Provider if k == i => k = i + 1,
             Hop::NotProvider if u > n => u = i + 1,
             _ => {}
         }
-        place = by.find(reg, y);
-        match hop(reg, place, y, x) {
+        position = by.find(reg, y);
+        match hop(reg, position, y, x) {
             Hop::Provider => {}
             Hop::NotProvider => (v, l) = (i, i + 1),
             Hop::NoAttestation => l = i + 1,

@@ -1,6 +1,8 @@
 //! The tables that are measured, made from the same random numbers in every run.
+use aspa_filter::{AsNumber, Ledger, Register, Role, RouteNumber, MOST_ROUTES};
 
 /// xorshift64*.
+#[derive(Clone)]
 pub struct Random(pub u64);
 
 impl Random {
@@ -117,7 +119,7 @@ impl Numbers {
     }
 }
 
-pub const ROUTES: usize = crate::plain::MOST_ROUTES;
+pub const ROUTES: usize = MOST_ROUTES;
 pub const PATH: usize = 16;
 
 pub struct Work {
@@ -135,12 +137,12 @@ pub fn make(random: &mut Random, numbers: &Numbers, records: usize, providers: u
     let mut lists = vec![Vec::new(); records];
     let mut paths = Vec::new();
     for (route, used) in found.chunks_exact(PATH / 2).enumerate() {
-        let mut places: Vec<Option<usize>> = used.iter().map(|&i| Some(i)).collect();
-        places.resize(PATH, None);
-        random.shuffle(&mut places);
+        let mut picks: Vec<Option<usize>> = used.iter().map(|&i| Some(i)).collect();
+        picks.resize(PATH, None);
+        random.shuffle(&mut picks);
         let mut path: Vec<u32> = Vec::new();
-        for place in &places {
-            path.push(match place {
+        for pick in &picks {
+            path.push(match pick {
                 Some(i) => customers[*i],
                 None => loop {
                     let x = numbers.draw(random);
@@ -156,14 +158,14 @@ pub fn make(random: &mut Random, numbers: &Numbers, records: usize, providers: u
                 path[j] = customers[random.below(records)];
             }
         }
-        for (j, place) in places.iter().enumerate() {
-            let climbs_right = role_of(route) == 3 && j < PATH / 2;
+        for (j, pick) in picks.iter().enumerate() {
+            let climbs_right = role_of(route) == Role::Provider && j < PATH / 2;
             let next = if climbs_right {
                 path.get(j + 1)
             } else {
                 j.checked_sub(1).map(|j| &path[j])
             };
-            if let (Some(i), Some(&y)) = (place, next) {
+            if let (Some(i), Some(&y)) = (pick, next) {
                 let list = &mut lists[*i];
                 if random.below(16) != 0 && list.len() < providers && !list.contains(&y) {
                     list.push(y);
@@ -188,19 +190,50 @@ pub fn make(random: &mut Random, numbers: &Numbers, records: usize, providers: u
     }
 }
 
-pub fn role_of(route: usize) -> u32 {
+fn role_of(route: usize) -> Role {
     if route.is_multiple_of(2) {
-        1
+        Role::Customer
     } else {
-        3
+        Role::Provider
     }
+}
+
+pub fn numbers(words: &[u32]) -> Vec<AsNumber> {
+    words.iter().copied().map(AsNumber).collect()
 }
 
 /// One AS_SEQUENCE.
 pub fn attribute(path: &[u32]) -> Vec<u8> {
-    let mut bytes = vec![2, path.len() as u8];
-    for x in path {
-        bytes.extend(x.to_be_bytes());
+    aspa_filter::sequence(&numbers(path)).expect("a short path")
+}
+
+impl Work {
+    /// The register, and a ledger whose routes were kept before any record was filed.
+    pub fn tables(&self) -> (Register, Ledger) {
+        let (mut register, mut ledger) = (Register::new(), Ledger::new());
+        for (route, path) in self.paths.iter().enumerate() {
+            let (number, neighbour) = (RouteNumber(route as u32), AsNumber(path[0]));
+            ledger
+                .keep(
+                    &register,
+                    number,
+                    role_of(route),
+                    neighbour,
+                    &attribute(path),
+                )
+                .expect("kept");
+        }
+        for (customer, list) in self.customers.iter().zip(&self.lists) {
+            register
+                .file(0, AsNumber(*customer), &numbers(list))
+                .expect("filed");
+        }
+        let (records, providers) = (self.customers.len(), self.lists[0].len());
+        assert_eq!(
+            register.words()[..2],
+            [records as u32, (records * providers) as u32]
+        );
+        assert_eq!(ledger.words()[..2], [ROUTES as u32, (ROUTES * PATH) as u32]);
+        (register, ledger)
     }
-    bytes
 }

@@ -1,5 +1,5 @@
 //! Random histories of calls, run through the binding and through the second program's model. Every answer is compared, both tables word
-//! for word every 50 calls, and the refusals of damaged tables. The same seed gives the same history.
+//! for word and entry by entry every 50 calls, and the refusals of damaged tables. The same seed gives the same history.
 use aspa_filter::{
     Answer, AsNumber, Cause, Filed, Ground, Ledger, Refusal, Register, Role, RouteNumber, Verdict,
     LEDGER_WORDS, REGISTER_WORDS,
@@ -68,7 +68,7 @@ fn meant_filed(filed: reference::Filed) -> Said {
 fn meant_answer(judgement: by::Judgement) -> Said {
     let verdict = match judgement.verdict {
         by::Verdict::Valid => Verdict::Valid,
-        by::Verdict::Invalid(by::Cause::Hops { a, b }) => Verdict::Invalid(Cause::Hops(a, b)),
+        by::Verdict::Invalid(by::Cause::Hops { a, b }) => Verdict::Invalid(Cause::Hops { a, b }),
         by::Verdict::Invalid(by::Cause::Ground(ground)) => {
             Verdict::Invalid(Cause::Ground(match ground {
                 by::Ground::Empty => Ground::Empty,
@@ -76,12 +76,30 @@ fn meant_answer(judgement: by::Judgement) -> Said {
                 by::Ground::AsSet => Ground::AsSet,
             }))
         }
-        by::Verdict::Unknown { a, b } => Verdict::Unknown(a, b),
+        by::Verdict::Unknown { a, b } => Verdict::Unknown { a, b },
     };
     Said::Judged(Answer {
         verdict,
         gap: judgement.gap,
     })
+}
+
+/// What a stored route's words mean.
+fn meant_verdict(route: &reference::Route) -> Verdict {
+    let (a, b) = (route.place_a, route.place_b);
+    match (route.verdict, route.ground) {
+        (0, 0) => Verdict::Valid,
+        (1, 0) => Verdict::Invalid(Cause::Hops { a, b }),
+        (1, 1) => Verdict::Invalid(Cause::Ground(Ground::Empty)),
+        (1, 2) => Verdict::Invalid(Cause::Ground(Ground::NotNeighbour)),
+        (1, 3) => Verdict::Invalid(Cause::Ground(Ground::AsSet)),
+        (2, 0) => Verdict::Unknown { a, b },
+        words => panic!("verdict and ground are {words:?}"),
+    }
+}
+
+fn model_numbers(numbers: &[AsNumber]) -> Vec<reference::AsNumber> {
+    numbers.iter().map(|n| reference::AsNumber(n.0)).collect()
 }
 
 /// The tables of the binding.
@@ -247,9 +265,9 @@ impl History<'_> {
                 }
                 match verdict {
                     Verdict::Valid => format!("valid {way}"),
-                    Verdict::Invalid(Cause::Hops(..)) => format!("invalid {way}"),
+                    Verdict::Invalid(Cause::Hops { .. }) => format!("invalid {way}"),
                     Verdict::Invalid(Cause::Ground(ground)) => format!("{ground:?}"),
-                    Verdict::Unknown(..) => format!("unknown {way}"),
+                    Verdict::Unknown { .. } => format!("unknown {way}"),
                 }
             }
         };
@@ -278,6 +296,53 @@ impl History<'_> {
                 panic!("{name}, word {i}: {} and {}, {at}", ours[i], theirs[i]);
             }
         }
+        self.compare_entries();
+    }
+
+    /// The iterators give what the model holds, all entries of any table that is well formed, and no more than fit into any other.
+    fn compare_entries(&self) {
+        let at = format!("seed {}, after call {}", self.seed, self.calls);
+        let Tables { register, ledger } = &self.tables;
+        if let Table::Held(records) = &self.model.register {
+            let ours = register.records().map(|r| {
+                let key = (reference::AsNumber(r.customer.0), r.source);
+                (key, model_numbers(r.providers))
+            });
+            let theirs = records.iter().map(|(key, list)| (*key, list.clone()));
+            assert!(ours.eq(theirs), "records, {at}");
+        }
+        if let Table::Held(routes) = &self.model.ledger {
+            let ours = ledger.routes().map(|r| {
+                let about = (r.number.0, r.role.number(), r.neighbour.0, r.verdict);
+                (about, model_numbers(r.path))
+            });
+            let theirs = routes.iter().map(|(number, r)| {
+                let about = (number.0, r.role, r.neighbour.0, meant_verdict(r));
+                (about, r.path.clone())
+            });
+            assert!(ours.eq(theirs), "routes, {at}");
+        }
+        for (words, entries, width, well_formed) in [
+            (
+                register.words(),
+                register.records().count(),
+                <reference::Records as Form>::ENTRY,
+                self.model.register.well_formed(),
+            ),
+            (
+                ledger.words(),
+                ledger.routes().count(),
+                <reference::Routes as Form>::ENTRY,
+                self.model.ledger.well_formed(),
+            ),
+        ] {
+            if well_formed {
+                assert_eq!(entries, words[0] as usize, "{at}");
+            } else {
+                assert!(entries * width <= words.len(), "{at}");
+            }
+        }
+        assert!(format!("{:?}", (register, ledger)).len() < 200, "{at}");
     }
 
     /// Damages one table or both, makes every call, and repairs them. Altered words that the word rules allow sometimes stay: verdicts
@@ -408,7 +473,7 @@ impl History<'_> {
         };
         let role = self.random.pick(&[1, 2, 3, 3, 3, 4, 5, 6, 6]);
         Route {
-            role: Role::from_number(role).expect("1 to 6"),
+            role: Role::try_from(role).expect("1 to 6"),
             neighbour,
             attribute,
         }
@@ -642,7 +707,7 @@ fn single_words() {
     for role in 1..=6 {
         for (i, attribute) in attributes.iter().enumerate() {
             let route = Route {
-                role: Role::from_number(role).expect("1 to 6"),
+                role: Role::try_from(role).expect("1 to 6"),
                 neighbour: 4,
                 attribute: attribute.clone(),
             };
@@ -665,6 +730,7 @@ fn single_words() {
             words[index] = value;
             history.tables.register = Register::from_words(words);
             assert!(history.model.register.poke(index, value));
+            history.compare_entries();
             history.make(Call::Withdraw(2, 8));
             history.make(Call::Rejudge);
             (history.tables, history.model) = kept.clone();
@@ -677,6 +743,7 @@ fn single_words() {
             words[index] = value;
             history.tables.ledger = Ledger::from_words(words);
             assert!(history.model.ledger.poke(index, value));
+            history.compare_entries();
             history.make(Call::Drop(1));
             history.make(Call::Rejudge);
             (history.tables, history.model) = kept.clone();

@@ -29,11 +29,7 @@ fn register_d() -> Register {
 
 /// One sequence, left end first.
 fn sequence(path: &[u32]) -> Vec<u8> {
-    let mut bytes = vec![2, path.len() as u8];
-    for x in path {
-        bytes.extend(x.to_be_bytes());
-    }
-    bytes
+    aspa_filter::sequence(&numbers(path)).unwrap()
 }
 
 fn judge(register: &Register, role: u32, path: &[u32]) -> Result<Answer, Refusal> {
@@ -47,7 +43,7 @@ fn judge_from(
     path: &[u32],
 ) -> Result<Answer, Refusal> {
     register.judge(
-        Role::from_number(role).unwrap(),
+        Role::try_from(role).unwrap(),
         AsNumber(neighbour),
         &sequence(path),
     )
@@ -62,14 +58,14 @@ fn valid(gap: Option<i32>) -> Result<Answer, Refusal> {
 
 fn invalid(a: u32, b: u32, gap: Option<i32>) -> Result<Answer, Refusal> {
     Ok(Answer {
-        verdict: Verdict::Invalid(Cause::Hops(a, b)),
+        verdict: Verdict::Invalid(Cause::Hops { a, b }),
         gap,
     })
 }
 
 fn unknown(a: u32, b: u32, gap: Option<i32>) -> Result<Answer, Refusal> {
     Ok(Answer {
-        verdict: Verdict::Unknown(a, b),
+        verdict: Verdict::Unknown { a, b },
         gap,
     })
 }
@@ -317,4 +313,18 @@ fn kept_and_judged_again() {
     assert_eq!(refused(ledger.drop_route(RouteNumber(3))), (19, None));
     assert_eq!(ledger.drop_route(RouteNumber(7)), Ok(()));
     assert_eq!(ledger, Ledger::new());
+}
+
+/// One register serves several threads, and a table may be made in one and used in another.
+#[test]
+fn threads() {
+    let register = std::thread::spawn(register_d).join().unwrap();
+    let judged = std::thread::scope(|scope| {
+        let threads = [1, 3].map(|role| {
+            let register = &register;
+            scope.spawn(move || judge(register, role, &[40, 20, 10]))
+        });
+        threads.map(|thread| thread.join().unwrap())
+    });
+    assert_eq!(judged, [valid(None), valid(Some(0))]);
 }

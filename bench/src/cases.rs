@@ -1,0 +1,265 @@
+//! What is timed. Every process makes the same cases, in the same order, from the same random numbers.
+use crate::plain::{self, ROUTE};
+use crate::work::{self, attribute, numbers, Random, Work, ROUTES};
+use aspa_filter::{
+    AsNumber, Filed, Ledger, Refusal, Register, Role, MOST_PROVIDER_WORDS, MOST_RECORDS,
+};
+use std::fmt;
+use std::hash::{DefaultHasher, Hash, Hasher};
+use std::hint::black_box;
+use std::time::Instant;
+
+/// How long a call took, and a hash of its answer and of the words that it left.
+#[derive(Clone, Copy)]
+pub struct Timed {
+    pub nanoseconds: u64,
+    pub check: u64,
+}
+
+fn hash(told: impl Hash) -> u64 {
+    let mut hasher = DefaultHasher::new();
+    told.hash(&mut hasher);
+    hasher.finish()
+}
+
+fn time<T>(f: impl FnOnce() -> T) -> (u64, T) {
+    let began = Instant::now();
+    let r = black_box(f());
+    (began.elapsed().as_nanos() as u64, r)
+}
+
+/// The tables of a re-judging.
+pub struct Tables {
+    pub name: String,
+    pub register: Register,
+    pub stale: Ledger,
+}
+
+type Plain = fn(&[u32], &mut [u32]) -> Result<u32, u32>;
+
+/// The ways to re-judge in plain Rust.
+pub const PLAIN: [(&str, Plain); 3] = [
+    ("Rust, halving", plain::rejudge::<plain::Halving>),
+    ("Rust, standard", plain::rejudge::<plain::Standard>),
+    ("Rust, hints", plain::rejudge::<plain::Hinted>),
+];
+
+/// A call's name and a run of it, in which it changes nothing or a copy.
+pub struct Call {
+    pub name: &'static str,
+    run: Box<dyn Fn(usize) -> Timed>,
+}
+
+/// One thing that is timed.
+#[derive(Clone, Copy)]
+pub enum What {
+    /// A re-judging of these tables by the library, or in this plain way.
+    Rejudge(usize, Option<usize>),
+    Call(usize),
+}
+
+/// In words that a worker reads.
+impl fmt::Display for What {
+    fn fmt(&self, f: &mut fmt::Formatter<'_>) -> fmt::Result {
+        match self {
+            What::Rejudge(tables, None) => write!(f, "library {tables}"),
+            What::Rejudge(tables, Some(way)) => write!(f, "plain {tables} {way}"),
+            What::Call(call) => write!(f, "call {call}"),
+        }
+    }
+}
+
+pub struct Cases {
+    /// The first are those of the main figure, the others those of the table of medians.
+    pub tables: Vec<Tables>,
+    pub calls: Vec<Call>,
+    random: Random,
+}
+
+impl Cases {
+    pub fn make() -> Cases {
+        let mut random = Random(0x9E37_79B9_7F4A_7C15);
+        let work = work::make(&mut random, &work::ALL, MOST_RECORDS, 8);
+        let (register, stale) = work.tables();
+        let mut cases = Cases {
+            calls: calls(&work, &register),
+            tables: vec![Tables {
+                name: "main".into(),
+                register,
+                stale,
+            }],
+            random: random.clone(),
+        };
+        let sorts = std::iter::once(&work::ALL).chain(&work::OTHERS);
+        let sorts = sorts.map(|sort| (sort.name.to_string(), sort, MOST_RECORDS, 8));
+        let lengths = [1, 16, 64, 256].map(|providers| {
+            let records = (MOST_PROVIDER_WORDS / providers).min(MOST_RECORDS);
+            let name = format!("{records} records of {providers}");
+            (name, &work::ALL, records, providers)
+        });
+        for (name, sort, records, providers) in sorts.chain(lengths) {
+            let (register, stale) = work::make(&mut random, sort, records, providers).tables();
+            cases.tables.push(Tables {
+                name,
+                register,
+                stale,
+            });
+        }
+        cases
+    }
+
+    pub fn time(&self, what: What, round: usize) -> Timed {
+        match what {
+            What::Rejudge(tables, way) => self.rejudge(tables, way),
+            What::Call(call) => (self.calls[call].run)(round),
+        }
+    }
+
+    fn rejudge(&self, tables: usize, way: Option<usize>) -> Timed {
+        let Tables {
+            register, stale, ..
+        } = &self.tables[tables];
+        match way {
+            None => {
+                let mut ledger = stale.clone();
+                let (nanoseconds, r) = time(|| black_box(&mut ledger).rejudge(black_box(register)));
+                let check = hash((r.expect("judged anew"), ledger.words()));
+                Timed { nanoseconds, check }
+            }
+            Some(way) => {
+                let mut ledger = stale.words().to_vec();
+                let (nanoseconds, r) =
+                    time(|| PLAIN[way].1(black_box(register.words()), black_box(&mut ledger)));
+                let check = hash((r.expect("judged anew"), &ledger[..]));
+                Timed { nanoseconds, check }
+            }
+        }
+    }
+
+    /// The library and plain Rust must answer the same and leave the same words, on the main tables and on damaged ones. Answers how many
+    /// were refused, and a hash of all answers and words.
+    pub fn compare(&self) -> (usize, u64) {
+        let Tables {
+            register, stale, ..
+        } = &self.tables[0];
+        let mut random = self.random.clone();
+        let (mut refused, mut ends) = (0, DefaultHasher::new());
+        for i in 0..=CHANGED {
+            let (mut reg, mut ledger) = (register.words().to_vec(), stale.words().to_vec());
+            if i > 0 {
+                let t = if i % 2 == 0 { &mut reg } else { &mut ledger };
+                // Mostly the slots, some of the bodies, the counters and the end.
+                let at = if i % 5 == 0 {
+                    random.below(t.len())
+                } else {
+                    random.below(2 + ROUTES * ROUTE)
+                };
+                t[at] = match i % 3 {
+                    0 => random.next(),
+                    1 => random.below(12) as u32,
+                    _ => t[at].wrapping_add(1),
+                };
+            }
+            let mut kept = Ledger::from_words(ledger.clone());
+            let answer = kept.rejudge(&Register::from_words(reg.clone()));
+            let answer = answer.map_err(Refusal::number);
+            for (name, rejudge) in PLAIN {
+                let mut ledger = ledger.clone();
+                assert!(
+                    rejudge(&reg, &mut ledger) == answer && ledger == kept.words(),
+                    "the library and {name} differ on changed tables {i}"
+                );
+            }
+            (answer, kept.words()).hash(&mut ends);
+            refused += answer.is_err() as usize;
+        }
+        (refused, ends.finish())
+    }
+}
+
+/// How many damaged tables are compared.
+pub const CHANGED: usize = 4000;
+
+fn calls(work: &Work, register: &Register) -> Vec<Call> {
+    fn call(name: &'static str, run: impl Fn(usize) -> Timed + 'static) -> Call {
+        let run = Box::new(run);
+        Call { name, run }
+    }
+    let judge = |register: &Register, role: Role| {
+        let register = register.clone();
+        let paths: Vec<_> = work
+            .paths
+            .iter()
+            .map(|path| (AsNumber(path[0]), attribute(&path[..5])))
+            .collect();
+        move |round: usize| {
+            let (neighbour, bytes) = &paths[round % ROUTES];
+            let (nanoseconds, r) =
+                time(|| black_box(&register).judge(role, *neighbour, black_box(bytes)));
+            let check = hash(r.expect("judged"));
+            Timed { nanoseconds, check }
+        }
+    };
+    let rejudge_none = {
+        let register = register.clone();
+        move |_| {
+            let mut none = Ledger::new();
+            let (nanoseconds, r) = time(|| black_box(&mut none).rejudge(black_box(&register)));
+            assert_eq!(r, Ok(0));
+            let check = hash(none.words());
+            Timed { nanoseconds, check }
+        }
+    };
+    let (front, list) = (AsNumber(work.customers[0]), numbers(&work.lists[0]));
+    let without = {
+        let mut register = register.clone();
+        register.withdraw(0, front).expect("withdrawn");
+        register
+    };
+    let file = {
+        let (whole, without) = (register.clone(), without.clone());
+        move |_| {
+            let mut register = without.clone();
+            let (nanoseconds, r) =
+                time(|| black_box(&mut register).file(0, front, black_box(&list)));
+            assert!(
+                r == Ok(Filed::New) && register == whole,
+                "withdrawn and filed again, it is the same"
+            );
+            let check = hash(register.words());
+            Timed { nanoseconds, check }
+        }
+    };
+    let withdraw = {
+        let whole = register.clone();
+        move |_| {
+            let mut register = whole.clone();
+            let (nanoseconds, r) = time(|| black_box(&mut register).withdraw(0, front));
+            assert!(r == Ok(()) && register == without);
+            let check = hash(register.words());
+            Timed { nanoseconds, check }
+        }
+    };
+    let clear = {
+        let whole = register.clone();
+        move |_| {
+            let mut register = whole.clone();
+            let (nanoseconds, r) = time(|| black_box(&mut register).clear(0));
+            assert!(r == Ok(whole.words()[0]) && register == Register::new());
+            let check = hash(register.words());
+            Timed { nanoseconds, check }
+        }
+    };
+    vec![
+        call("re-judge of no route", rejudge_none),
+        call("judge, path of 5, role 1", judge(register, Role::Customer)),
+        call("judge, path of 5, role 3", judge(register, Role::Provider)),
+        call(
+            "judge, path of 5, empty register",
+            judge(&Register::new(), Role::Provider),
+        ),
+        call("file at the front, up to a full register", file),
+        call("withdraw at the front of a full register", withdraw),
+        call("clear a full register of one source", clear),
+    ]
+}

@@ -1,0 +1,65 @@
+//! The limits, and how a table's words lie.
+
+/// The most records of a register.
+pub const MOST_RECORDS: usize = 1024;
+/// The most provider numbers of all lists of a register together.
+pub const MOST_PROVIDER_WORDS: usize = 8192;
+/// The most providers of one list.
+pub const MOST_PROVIDERS: usize = 256;
+/// Sources are numbered from 0 to this.
+pub const GREATEST_SOURCE: u32 = 7;
+/// The most routes of a ledger.
+pub const MOST_ROUTES: usize = 512;
+/// The most numbers of all paths of a ledger together.
+pub const MOST_PATH_WORDS: usize = 8192;
+/// The most bytes of an attribute.
+pub const MOST_ATTRIBUTE_BYTES: usize = 1024;
+/// The most numbers of a merged path.
+pub const MOST_PATH: usize = 64;
+
+/// The words of a register.
+pub const REGISTER_WORDS: usize =
+    counters::WORDS + MOST_RECORDS * record::WORDS + MOST_PROVIDER_WORDS;
+/// The words of a ledger.
+pub const LEDGER_WORDS: usize = counters::WORDS + MOST_ROUTES * route::WORDS + MOST_PATH_WORDS;
+
+/// The two numbers that a table begins with.
+pub(crate) mod counters {
+    pub const ENTRIES: usize = 0;
+    pub const BODY_WORDS: usize = 1;
+    pub const WORDS: usize = BODY_WORDS + 1;
+}
+
+/// The words of a record's slot.
+pub(crate) mod record {
+    pub const CUSTOMER: usize = 0;
+    pub const SOURCE: usize = 1;
+    pub const START: usize = 2;
+    pub const COUNT: usize = 3;
+    pub const WORDS: usize = COUNT + 1;
+}
+
+/// The words of a route's slot.
+pub(crate) mod route {
+    pub const NUMBER: usize = 0;
+    pub const ROLE: usize = 1;
+    pub const NEIGHBOUR: usize = 2;
+    pub const GROUND: usize = 3;
+    pub const VERDICT: usize = 4;
+    pub const PLACE_A: usize = 5;
+    pub const PLACE_B: usize = 6;
+    pub const START: usize = 7;
+    pub const COUNT: usize = 8;
+    pub const WORDS: usize = COUNT + 1;
+}
+
+/// The words of an answer to Judge and Keep.
+pub(crate) mod answer {
+    pub const VERDICT: usize = 0;
+    pub const GROUND: usize = 1;
+    pub const PLACE_A: usize = 2;
+    pub const PLACE_B: usize = 3;
+    pub const HAS_GAP: usize = 4;
+    pub const REFUSAL_PLACE: usize = 5;
+    pub const WORDS: usize = REFUSAL_PLACE + 1;
+}

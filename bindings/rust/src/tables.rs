@@ -1,0 +1,455 @@
+//! The two tables: their calls, and what they hold.
+use crate::limits::{
+    counters, record, route, GREATEST_SOURCE, LEDGER_WORDS, MOST_PATH, MOST_PROVIDERS,
+    MOST_RECORDS, MOST_ROUTES, REGISTER_WORDS,
+};
+use crate::{ffi, Answer, AsNumber, Refusal, Role, RouteNumber, Verdict};
+use std::fmt;
+use std::iter::FusedIterator;
+
+/// What a filing answers.
+#[derive(Clone, Copy, Debug, PartialEq, Eq, Hash)]
+pub enum Filed {
+    /// There was no record of this source for this customer.
+    New,
+    /// The list took the place of an earlier one.
+    Replaced,
+}
+
+impl Filed {
+    fn told((row, word): (u32, u32)) -> Result<Filed, Refusal> {
+        Refusal::told(row, 0)?;
+        match word {
+            0 => Ok(Filed::New),
+            1 => Ok(Filed::Replaced),
+            _ => Err(Refusal::NoAnswer { number: row }),
+        }
+    }
+}
+
+/// How many entries a call tells of; a number that no table reaches is no answer.
+fn count((row, count): (u32, u32), most: usize) -> Result<u32, Refusal> {
+    Refusal::told(row, 0)?;
+    if count as usize <= most {
+        Ok(count)
+    } else {
+        Err(Refusal::NoAnswer { number: row })
+    }
+}
+
+/// Provider records from sources 0 to [`GREATEST_SOURCE`].
+///
+/// A register owns its [`REGISTER_WORDS`] words of four bytes. They may be stored and loaded again: [`words`](Register::words) and
+/// [`from_words`](Register::from_words).
+#[derive(Clone, PartialEq, Eq)]
+pub struct Register(Box<[u32]>);
+
+impl Register {
+    /// The empty register.
+    pub fn new() -> Register {
+        Register(vec![0; REGISTER_WORDS].into())
+    }
+
+    /// A register of any words. Every call tests them first: a wrong length is refused by [`Refusal::TableLength`], words that break the
+    /// rules by [`Refusal::RegisterMalformed`].
+    pub fn from_words(words: impl Into<Box<[u32]>>) -> Register {
+        Register(words.into())
+    }
+
+    /// The words of the table.
+    pub fn words(&self) -> &[u32] {
+        &self.0
+    }
+
+    /// Files the providers of a customer as one source attests them. What this source filed for this customer before is replaced, and
+    /// nothing else. Sources are 0 to [`GREATEST_SOURCE`]; the list ascends strictly and has 1 to [`MOST_PROVIDERS`] numbers. 0 in it
+    /// matches nobody: a list of 0 alone says that the customer has no providers.
+    ///
+    /// # Errors
+    ///
+    /// [`TableLength`](Refusal::TableLength), [`RegisterMalformed`](Refusal::RegisterMalformed), [`Source`](Refusal::Source),
+    /// [`Customer`](Refusal::Customer), [`Providers`](Refusal::Providers), [`RegisterFull`](Refusal::RegisterFull).
+    pub fn file(
+        &mut self,
+        source: u32,
+        customer: AsNumber,
+        providers: &[AsNumber],
+    ) -> Result<Filed, Refusal> {
+        let providers = AsNumber::words(providers);
+        Filed::told(ffi::file(&mut self.0, source, customer.0, providers))
+    }
+
+    /// Withdraws the record of one source for a customer.
+    ///
+    /// # Errors
+    ///
+    /// [`TableLength`](Refusal::TableLength), [`RegisterMalformed`](Refusal::RegisterMalformed), [`Source`](Refusal::Source),
+    /// [`Customer`](Refusal::Customer), [`NoRecord`](Refusal::NoRecord).
+    pub fn withdraw(&mut self, source: u32, customer: AsNumber) -> Result<(), Refusal> {
+        Refusal::told(ffi::withdraw(&mut self.0, source, customer.0), 0)
+    }
+
+    /// Withdraws every record of one source, and answers how many went.
+    ///
+    /// # Errors
+    ///
+    /// [`TableLength`](Refusal::TableLength), [`RegisterMalformed`](Refusal::RegisterMalformed), [`Source`](Refusal::Source).
+    pub fn clear(&mut self, source: u32) -> Result<u32, Refusal> {
+        count(ffi::clear(&mut self.0, source), MOST_RECORDS)
+    }
+
+    /// Judges a route: the role and the number of the neighbour that sent it, and the value of its AS_PATH attribute with four-byte
+    /// numbers (see [`PathBuilder`](crate::PathBuilder)). Needs no ledger and changes nothing.
+    ///
+    /// # Errors
+    ///
+    /// [`TableLength`](Refusal::TableLength), [`RegisterMalformed`](Refusal::RegisterMalformed), [`Neighbour`](Refusal::Neighbour),
+    /// [`AttributeLength`](Refusal::AttributeLength); for the attribute's first fault [`CutShort`](Refusal::CutShort),
+    /// [`SegmentType`](Refusal::SegmentType), [`Confederation`](Refusal::Confederation), [`SegmentEmpty`](Refusal::SegmentEmpty) or
+    /// [`AsZero`](Refusal::AsZero); [`PathLength`](Refusal::PathLength).
+    pub fn judge(
+        &self,
+        role: Role,
+        neighbour: AsNumber,
+        attribute: &[u8],
+    ) -> Result<Answer, Refusal> {
+        Answer::told(ffi::judge(&self.0, role.number(), neighbour.0, attribute))
+    }
+
+    /// The records, by customer and then by source.
+    ///
+    /// Nothing is tested beforehand, and no words make this panic. Over words that break the rules it ends at the first entry that does
+    /// not lie in the table or has a word that means nothing, and before any if the two counters lead past the table's end.
+    ///
+    /// ```
+    /// use aspa_filter::{AsNumber, Register};
+    ///
+    /// let mut register = Register::new();
+    /// register.file(0, AsNumber(64496), &[64500, 64501].map(AsNumber))?;
+    /// for record in register.records() {
+    ///     println!("{} has {} providers", record.customer, record.providers.len());
+    /// }
+    /// # assert_eq!(register.records().next().unwrap().providers.len(), 2);
+    /// # Ok::<(), aspa_filter::Refusal>(())
+    /// ```
+    pub fn records(&self) -> Records<'_> {
+        Records(Entries::of(&self.0, record::WORDS))
+    }
+}
+
+impl Default for Register {
+    fn default() -> Register {
+        Register::new()
+    }
+}
+
+/// The words, and the two counters as they stand.
+impl fmt::Debug for Register {
+    fn fmt(&self, f: &mut fmt::Formatter<'_>) -> fmt::Result {
+        f.debug_struct("Register")
+            .field("words", &self.0.len())
+            .field("records", &counter(&self.0, counters::ENTRIES))
+            .field("provider_words", &counter(&self.0, counters::BODY_WORDS))
+            .finish()
+    }
+}
+
+/// Kept routes with their verdicts.
+///
+/// A ledger owns its [`LEDGER_WORDS`] words of four bytes. They may be stored and loaded again: [`words`](Ledger::words) and
+/// [`from_words`](Ledger::from_words).
+#[derive(Clone, PartialEq, Eq)]
+pub struct Ledger(Box<[u32]>);
+
+impl Ledger {
+    /// The empty ledger.
+    pub fn new() -> Ledger {
+        Ledger(vec![0; LEDGER_WORDS].into())
+    }
+
+    /// A ledger of any words. Every call tests them first: a wrong length is refused by [`Refusal::TableLength`], words that break the
+    /// rules by [`Refusal::LedgerMalformed`].
+    pub fn from_words(words: impl Into<Box<[u32]>>) -> Ledger {
+        Ledger(words.into())
+    }
+
+    /// The words of the table.
+    pub fn words(&self) -> &[u32] {
+        &self.0
+    }
+
+    /// Judges a route as [`Register::judge`] does, and keeps it under a number that is free, with that verdict and its merged path.
+    ///
+    /// # Errors
+    ///
+    /// Those of [`Register::judge`]; also [`LedgerMalformed`](Refusal::LedgerMalformed), [`RouteTaken`](Refusal::RouteTaken),
+    /// [`LedgerFull`](Refusal::LedgerFull).
+    pub fn keep(
+        &mut self,
+        register: &Register,
+        route: RouteNumber,
+        role: Role,
+        neighbour: AsNumber,
+        attribute: &[u8],
+    ) -> Result<Answer, Refusal> {
+        Answer::told(ffi::keep(
+            &register.0,
+            &mut self.0,
+            route.0,
+            role.number(),
+            neighbour.0,
+            attribute,
+        ))
+    }
+
+    /// Takes one route out.
+    ///
+    /// # Errors
+    ///
+    /// [`TableLength`](Refusal::TableLength), [`LedgerMalformed`](Refusal::LedgerMalformed), [`NoRoute`](Refusal::NoRoute).
+    pub fn drop_route(&mut self, route: RouteNumber) -> Result<(), Refusal> {
+        Refusal::told(ffi::drop_route(&mut self.0, route.0), 0)
+    }
+
+    /// Judges every kept route without a ground again by the register as it is now, and answers how many changed in their verdict or
+    /// its places. It takes some 17 KiB of stack; every other call takes less than 2 KiB.
+    ///
+    /// # Errors
+    ///
+    /// [`TableLength`](Refusal::TableLength), [`RegisterMalformed`](Refusal::RegisterMalformed),
+    /// [`LedgerMalformed`](Refusal::LedgerMalformed).
+    pub fn rejudge(&mut self, register: &Register) -> Result<u32, Refusal> {
+        count(ffi::rejudge(&register.0, &mut self.0), MOST_ROUTES)
+    }
+
+    /// The kept routes, by number, with the verdicts of their keeping or of the last re-judging.
+    ///
+    /// Nothing is tested beforehand, and no words make this panic. Over words that break the rules it ends at the first entry that does
+    /// not lie in the table or has a word that means nothing, and before any if the two counters lead past the table's end.
+    ///
+    /// ```
+    /// use aspa_filter::{sequence, AsNumber, Ledger, Register, Role, RouteNumber, Verdict};
+    ///
+    /// let register = Register::new();
+    /// let mut ledger = Ledger::new();
+    /// let path = sequence(&[20, 10].map(AsNumber))?;
+    /// ledger.keep(&register, RouteNumber(7), Role::Customer, AsNumber(20), &path)?;
+    /// let route = ledger.routes().find(|route| route.number == RouteNumber(7)).unwrap();
+    /// assert_eq!(route.verdict, Verdict::Unknown { a: 2, b: 0 });
+    /// assert_eq!(route.path, [20, 10].map(AsNumber));
+    /// # Ok::<(), Box<dyn std::error::Error>>(())
+    /// ```
+    pub fn routes(&self) -> Routes<'_> {
+        Routes(Entries::of(&self.0, route::WORDS))
+    }
+}
+
+impl Default for Ledger {
+    fn default() -> Ledger {
+        Ledger::new()
+    }
+}
+
+/// The words, and the two counters as they stand.
+impl fmt::Debug for Ledger {
+    fn fmt(&self, f: &mut fmt::Formatter<'_>) -> fmt::Result {
+        f.debug_struct("Ledger")
+            .field("words", &self.0.len())
+            .field("routes", &counter(&self.0, counters::ENTRIES))
+            .field("path_words", &counter(&self.0, counters::BODY_WORDS))
+            .finish()
+    }
+}
+
+/// One of the two counters; 0 in a table that is too short to have it.
+fn counter(words: &[u32], index: usize) -> u32 {
+    words.get(index).copied().unwrap_or(0)
+}
+
+/// A record: the providers of a customer as one source attests them.
+#[derive(Clone, Copy, Debug, PartialEq, Eq, Hash)]
+pub struct Record<'a> {
+    /// Whose providers they are.
+    pub customer: AsNumber,
+    /// Who attests them, 0 to [`GREATEST_SOURCE`].
+    pub source: u32,
+    /// The providers, ascending.
+    pub providers: &'a [AsNumber],
+}
+
+/// A kept route.
+#[derive(Clone, Copy, Debug, PartialEq, Eq, Hash)]
+pub struct Route<'a> {
+    /// The caller's number.
+    pub number: RouteNumber,
+    /// What the neighbour is.
+    pub role: Role,
+    /// Who sent the route.
+    pub neighbour: AsNumber,
+    /// The verdict of the keeping or of the last re-judging. A ground, if there is one, is in its cause.
+    pub verdict: Verdict,
+    /// The merged path, left end first: the last number is the origin. Empty under a ground.
+    pub path: &'a [AsNumber],
+}
+
+/// The slots and bodies of a table, entry by entry.
+#[derive(Clone)]
+struct Entries<'a> {
+    width: usize,
+    slots: &'a [u32],
+    bodies: &'a [u32],
+}
+
+impl<'a> Entries<'a> {
+    /// Nothing where the counters lead past the end, which a sum that does not fit leads to as well.
+    fn of(words: &'a [u32], width: usize) -> Entries<'a> {
+        let parts = || {
+            let entries = counter(words, counters::ENTRIES) as usize;
+            let slots = entries.checked_mul(width)?;
+            let (slots, rest) = words.get(counters::WORDS..)?.split_at_checked(slots)?;
+            let bodies = rest.get(..counter(words, counters::BODY_WORDS) as usize)?;
+            Some((slots, bodies))
+        };
+        let (slots, bodies) = parts().unwrap_or_default();
+        Entries {
+            width,
+            slots,
+            bodies,
+        }
+    }
+
+    /// What the next entry is by `read`. At one that is nothing the entries end.
+    fn next<T>(&mut self, read: impl FnOnce(&'a [u32], &'a [u32]) -> Option<T>) -> Option<T> {
+        let (slot, rest) = self.slots.split_at_checked(self.width)?;
+        let entry = read(slot, self.bodies);
+        self.slots = if entry.is_some() { rest } else { &[] };
+        entry
+    }
+
+    fn size_hint(&self) -> (usize, Option<usize>) {
+        (0, Some(self.slots.len() / self.width))
+    }
+}
+
+/// The body of an entry, if it lies among the bodies.
+fn body(bodies: &[u32], start: u32, count: u32) -> Option<&[AsNumber]> {
+    let words = bodies.get(start as usize..)?.get(..count as usize)?;
+    Some(AsNumber::numbers(words))
+}
+
+impl<'a> Record<'a> {
+    fn read(slot: &'a [u32], bodies: &'a [u32]) -> Option<Record<'a>> {
+        let (customer, source) = (slot[record::CUSTOMER], slot[record::SOURCE]);
+        let providers = body(bodies, slot[record::START], slot[record::COUNT])?;
+        let meant = customer != 0
+            && source <= GREATEST_SOURCE
+            && (1..=MOST_PROVIDERS).contains(&providers.len());
+        meant.then_some(Record {
+            customer: AsNumber(customer),
+            source,
+            providers,
+        })
+    }
+}
+
+impl<'a> Route<'a> {
+    fn read(slot: &'a [u32], bodies: &'a [u32]) -> Option<Route<'a>> {
+        let neighbour = slot[route::NEIGHBOUR];
+        let path = body(bodies, slot[route::START], slot[route::COUNT])?;
+        // Under a ground no path is kept, and without one there is a path.
+        let lengths = if slot[route::GROUND] == 0 {
+            1..=MOST_PATH
+        } else {
+            0..=0
+        };
+        let meant = neighbour != 0 && lengths.contains(&path.len());
+        meant.then_some(Route {
+            number: RouteNumber(slot[route::NUMBER]),
+            role: Role::try_from(slot[route::ROLE]).ok()?,
+            neighbour: AsNumber(neighbour),
+            verdict: Verdict::from_words(
+                slot[route::VERDICT],
+                slot[route::GROUND],
+                slot[route::PLACE_A],
+                slot[route::PLACE_B],
+            )?,
+            path,
+        })
+    }
+}
+
+/// The records of a register: see [`Register::records`].
+#[derive(Clone)]
+pub struct Records<'a>(Entries<'a>);
+
+/// The routes of a ledger: see [`Ledger::routes`].
+#[derive(Clone)]
+pub struct Routes<'a>(Entries<'a>);
+
+impl<'a> Iterator for Records<'a> {
+    type Item = Record<'a>;
+
+    fn next(&mut self) -> Option<Record<'a>> {
+        self.0.next(Record::read)
+    }
+
+    fn size_hint(&self) -> (usize, Option<usize>) {
+        self.0.size_hint()
+    }
+}
+
+impl<'a> Iterator for Routes<'a> {
+    type Item = Route<'a>;
+
+    fn next(&mut self) -> Option<Route<'a>> {
+        self.0.next(Route::read)
+    }
+
+    fn size_hint(&self) -> (usize, Option<usize>) {
+        self.0.size_hint()
+    }
+}
+
+impl FusedIterator for Records<'_> {}
+impl FusedIterator for Routes<'_> {}
+
+impl fmt::Debug for Records<'_> {
+    fn fmt(&self, f: &mut fmt::Formatter<'_>) -> fmt::Result {
+        f.debug_struct("Records").finish_non_exhaustive()
+    }
+}
+
+impl fmt::Debug for Routes<'_> {
+    fn fmt(&self, f: &mut fmt::Formatter<'_>) -> fmt::Result {
+        f.debug_struct("Routes").finish_non_exhaustive()
+    }
+}
+
+#[cfg(test)]
+mod tests {
+    use super::*;
+    use crate::ffi::UNWRITTEN;
+
+    #[test]
+    fn words_that_are_no_answer() {
+        let none = Refusal::NoAnswer { number: 0 };
+        assert_eq!(Filed::told((0, 1)), Ok(Filed::Replaced));
+        assert_eq!(count((0, 512), MOST_ROUTES), Ok(512));
+        for word in [2, UNWRITTEN] {
+            assert_eq!(Filed::told((0, word)), Err(none));
+        }
+        for word in [513, UNWRITTEN] {
+            assert_eq!(count((0, word), MOST_ROUTES), Err(none));
+        }
+    }
+
+    #[test]
+    fn words_of_a_refusal() {
+        for word in [0, 1, 2, UNWRITTEN] {
+            assert_eq!(Filed::told((6, word)), Err(Refusal::Providers));
+            assert_eq!(count((3, word), 1), Err(Refusal::LedgerMalformed));
+            let none = Refusal::NoAnswer { number: 21 };
+            assert_eq!(count((21, word), 1), Err(none));
+        }
+    }
+}

@@ -1,0 +1,272 @@
+//! Verdicts with their causes, and what a judging answers.
+use crate::limits::{answer, MOST_PATH};
+use crate::numbers::decimal;
+use crate::{ffi, Refusal};
+use std::error::Error;
+use std::fmt;
+use std::str::FromStr;
+
+/// Why a route is Invalid before any hop is looked at. Its text is a short sentence.
+#[derive(Clone, Copy, Debug, PartialEq, Eq, PartialOrd, Ord, Hash)]
+#[repr(u32)]
+pub enum Ground {
+    /// The attribute has no bytes.
+    Empty = 1,
+    /// The first number is not the neighbour. Never with [`Role::RouteServer`](crate::Role::RouteServer).
+    NotNeighbour = 2,
+    /// A segment is a set.
+    AsSet = 3,
+}
+
+impl Ground {
+    const ALL: [Ground; 3] = [Ground::Empty, Ground::NotNeighbour, Ground::AsSet];
+
+    /// The ground's number, 1 to 3.
+    pub const fn number(self) -> u32 {
+        self as u32
+    }
+
+    fn from_number(number: u32) -> Option<Ground> {
+        Ground::ALL.into_iter().find(|g| g.number() == number)
+    }
+}
+
+impl fmt::Display for Ground {
+    fn fmt(&self, f: &mut fmt::Formatter<'_>) -> fmt::Result {
+        f.pad(match self {
+            Ground::Empty => "the path is empty",
+            Ground::NotNeighbour => "the first number is not the neighbour",
+            Ground::AsSet => "a segment is a set",
+        })
+    }
+}
+
+/// Why a route is Invalid.
+#[derive(Clone, Copy, Debug, PartialEq, Eq, Hash)]
+pub enum Cause {
+    /// Something about the path as a whole; no record was looked up.
+    Ground(Ground),
+    /// Hops that are Not Provider+: their customer has records, and none of its lists holds the next number.
+    Hops {
+        /// The lowest place u whose hop from AS(u-1) to AS(u) is Not Provider+.
+        a: u32,
+        /// Downstream the highest place v whose hop from AS(v+1) to AS(v) is Not Provider+, which is `a` or above; upstream 0.
+        b: u32,
+    },
+}
+
+/// Whether a path keeps to the records.
+///
+/// A place counts the merged path from the origin: AS(1) is the origin, the path's right end, and AS(N) is the left end. In the `path` of
+/// a kept [`Route`](crate::Route) AS(u) is `path[path.len() - u]`.
+///
+/// The text is that of the console, and is read back:
+///
+/// ```
+/// use aspa_filter::{Cause, Ground, Verdict};
+///
+/// for (verdict, text) in [
+///     (Verdict::Valid, "Valid"),
+///     (Verdict::Invalid(Cause::Ground(Ground::NotNeighbour)), "Invalid ground 2"),
+///     (Verdict::Invalid(Cause::Hops { a: 3, b: 0 }), "Invalid 3 0"),
+///     (Verdict::Unknown { a: 1, b: 3 }, "Unknown 1 3"),
+/// ] {
+///     assert_eq!(verdict.to_string(), text);
+///     assert_eq!(text.parse(), Ok(verdict));
+/// }
+/// ```
+#[derive(Clone, Copy, Debug, PartialEq, Eq, Hash)]
+pub enum Verdict {
+    /// Every hop that has to be attested is.
+    Valid,
+    /// The path breaks the records, or has a ground.
+    Invalid(Cause),
+    /// The records do not say enough.
+    Unknown {
+        /// Upstream the lowest place u whose hop from AS(u-1) to AS(u) has no attestation: AS(u-1) has no record. Downstream K, the
+        /// highest place that is reached from the origin by attested hops upward.
+        a: u32,
+        /// Upstream 0. Downstream L, the lowest place that is reached from the left end by attested hops from AS(j) to AS(j-1).
+        b: u32,
+    },
+}
+
+impl Verdict {
+    /// A verdict by the word rules of a ledger: they tie places to a ground, and not to Valid. `None` where a word means nothing.
+    pub(crate) fn from_words(verdict: u32, ground: u32, a: u32, b: u32) -> Option<Verdict> {
+        if a.max(b) as usize > MOST_PATH {
+            return None;
+        }
+        match (verdict, ground) {
+            (0, 0) => Some(Verdict::Valid),
+            (1, 0) => Some(Verdict::Invalid(Cause::Hops { a, b })),
+            (2, 0) => Some(Verdict::Unknown { a, b }),
+            (1, ground) if (a, b) == (0, 0) => {
+                Ground::from_number(ground).map(|ground| Verdict::Invalid(Cause::Ground(ground)))
+            }
+            _ => None,
+        }
+    }
+}
+
+impl fmt::Display for Verdict {
+    fn fmt(&self, f: &mut fmt::Formatter<'_>) -> fmt::Result {
+        match self {
+            Verdict::Valid => f.write_str("Valid"),
+            Verdict::Invalid(Cause::Ground(ground)) => {
+                write!(f, "Invalid ground {}", ground.number())
+            }
+            Verdict::Invalid(Cause::Hops { a, b }) => write!(f, "Invalid {a} {b}"),
+            Verdict::Unknown { a, b } => write!(f, "Unknown {a} {b}"),
+        }
+    }
+}
+
+impl FromStr for Verdict {
+    type Err = ParseVerdictError;
+
+    fn from_str(text: &str) -> Result<Verdict, ParseVerdictError> {
+        let number = |word| decimal(word).ok_or(ParseVerdictError(()));
+        let words: Vec<&str> = text.split(' ').collect();
+        match words[..] {
+            ["Valid"] => Ok(Verdict::Valid),
+            ["Invalid", "ground", ground] => Ground::from_number(number(ground)?)
+                .map(|ground| Verdict::Invalid(Cause::Ground(ground)))
+                .ok_or(ParseVerdictError(())),
+            ["Invalid", a, b] => Ok(Verdict::Invalid(Cause::Hops {
+                a: number(a)?,
+                b: number(b)?,
+            })),
+            ["Unknown", a, b] => Ok(Verdict::Unknown {
+                a: number(a)?,
+                b: number(b)?,
+            }),
+            _ => Err(ParseVerdictError(())),
+        }
+    }
+}
+
+/// A text that is no verdict's.
+#[derive(Clone, Copy, Debug, PartialEq, Eq, Hash)]
+pub struct ParseVerdictError(());
+
+impl fmt::Display for ParseVerdictError {
+    fn fmt(&self, f: &mut fmt::Formatter<'_>) -> fmt::Result {
+        f.write_str("no verdict: it is `Valid`, `Invalid ground G`, `Invalid A B` or `Unknown A B`")
+    }
+}
+
+impl Error for ParseVerdictError {}
+
+/// What a judging answers. Its text is that of the verdict, and ` gap -1` after it where a gap is given.
+#[derive(Clone, Copy, Debug, PartialEq, Eq, Hash)]
+pub struct Answer {
+    /// The verdict, with its cause or places.
+    pub verdict: Verdict,
+    /// Of a route that is judged downstream and has no ground: L - K, of absolute value below [`MOST_PATH`]. It is 1 or less if the
+    /// route is Valid; negative where the two ramps overlap.
+    pub gap: Option<i32>,
+}
+
+impl Answer {
+    /// What the library's result says. Words that are no answer are an error, and never Valid.
+    pub(crate) fn told((row, out, gap): ffi::Judged) -> Result<Answer, Refusal> {
+        Refusal::told(row, out[answer::REFUSAL_PLACE])?;
+        let (a, b) = (out[answer::PLACE_A], out[answer::PLACE_B]);
+        let verdict = Verdict::from_words(out[answer::VERDICT], out[answer::GROUND], a, b)
+            .filter(|verdict| *verdict != Verdict::Valid || (a, b) == (0, 0));
+        let gap = match out[answer::HAS_GAP] {
+            0 => Some(None),
+            1 if (gap.unsigned_abs() as usize) < MOST_PATH => Some(Some(gap)),
+            _ => None,
+        };
+        match (verdict, gap) {
+            (Some(verdict), Some(gap)) => Ok(Answer { verdict, gap }),
+            _ => Err(Refusal::NoAnswer { number: row }),
+        }
+    }
+}
+
+impl fmt::Display for Answer {
+    fn fmt(&self, f: &mut fmt::Formatter<'_>) -> fmt::Result {
+        self.verdict.fmt(f)?;
+        match self.gap {
+            Some(gap) => write!(f, " gap {gap}"),
+            None => Ok(()),
+        }
+    }
+}
+
+#[cfg(test)]
+mod tests {
+    use super::*;
+    use crate::limits::REGISTER_WORDS;
+
+    const TOP: u32 = u32::MAX;
+
+    /// The typed calls cannot pass a number that is no role's, so the library is asked itself.
+    #[test]
+    fn a_role_that_is_none() {
+        let register = [0; REGISTER_WORDS];
+        for role in [0, 7, TOP] {
+            let told = ffi::judge(&register, role, 0, &[]);
+            assert_eq!(Answer::told(told), Err(Refusal::Role), "before row 10");
+        }
+    }
+
+    /// Of a refusal's words only the place counts, and only where the row has one.
+    #[test]
+    fn words_of_a_refusal() {
+        for words in [[0; 5], [3, 0, 0, 0, 0], [TOP; 5], [1, 2, 0, 0, 1]] {
+            let [verdict, ground, a, b, has_gap] = words;
+            for row in 1..=20 {
+                let told = (row, [verdict, ground, a, b, has_gap, 77], 5);
+                let refusal = Answer::told(told).expect_err("refused");
+                assert_eq!(refusal.number(), row);
+                let place = (12..=16).contains(&row).then_some(77);
+                assert_eq!(refusal.place(), place, "{row}");
+            }
+        }
+    }
+
+    /// A result that is no row, and words that are no answer.
+    #[test]
+    fn no_answer() {
+        for row in [21, TOP] {
+            let refusal = Answer::told((row, [0; answer::WORDS], 0)).expect_err("no row");
+            assert_eq!(refusal, Refusal::NoAnswer { number: row });
+            assert_eq!((refusal.number(), refusal.place()), (row, None));
+        }
+        for words in [
+            [3, 0, 0, 0, 0, 0],
+            [ffi::UNWRITTEN; 6],
+            [0, 1, 0, 0, 0, 0],
+            [0, 0, 1, 0, 0, 0],
+            [0, 0, 0, 1, 0, 0],
+            [0, 0, 0, 0, 2, 0],
+            [0, 0, 0, 0, TOP, 0],
+            [1, 4, 0, 0, 0, 0],
+            [1, 1, 2, 0, 0, 0],
+            [1, 0, 65, 0, 0, 0],
+            [2, 1, 0, 0, 0, 0],
+            [2, 0, 1, 65, 0, 0],
+        ] {
+            let refusal = Answer::told((0, words, 0)).expect_err("no answer");
+            assert_eq!(refusal, Refusal::NoAnswer { number: 0 }, "{words:?}");
+            assert_eq!(
+                refusal.to_string(),
+                "no answer: the library returned 0 and words that mean nothing here"
+            );
+        }
+        let text = |has_gap, gap| {
+            let answer = Answer::told((0, [0, 0, 0, 0, has_gap, 0], gap));
+            answer.map(|answer| answer.to_string())
+        };
+        assert_eq!(text(0, 9), Ok("Valid".into()));
+        assert_eq!(text(1, 63), Ok("Valid gap 63".into()));
+        assert_eq!(text(1, -63), Ok("Valid gap -63".into()));
+        for gap in [64, -64, i32::MIN] {
+            assert_eq!(text(1, gap), Err(Refusal::NoAnswer { number: 0 }));
+        }
+    }
+}

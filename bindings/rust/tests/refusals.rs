@@ -1,0 +1,338 @@
+//! Every row through the binding: its number, its place, its text, and both tables as they were.
+use aspa_filter::{
+    sequence, AsNumber, Ledger, PathBuilder, Refusal, Register, Role, RouteNumber, LEDGER_WORDS,
+    MOST_ATTRIBUTE_BYTES, MOST_PATH, MOST_PROVIDERS, MOST_RECORDS, MOST_ROUTES, REGISTER_WORDS,
+};
+use std::collections::BTreeSet;
+
+#[derive(Clone, PartialEq, Debug)]
+struct Tables {
+    register: Register,
+    ledger: Ledger,
+}
+
+type Call = Box<dyn Fn(&mut Tables) -> Result<(), Refusal>>;
+
+/// The refusal of a fault at a place.
+type Faulty = fn(u32) -> Refusal;
+
+/// The text of each row.
+const TEXTS: [&str; 20] = [
+    "refused by 1: a table has the wrong length: a register has 12290 words, a ledger 12802",
+    "refused by 2: the register is malformed",
+    "refused by 3: the ledger is malformed",
+    "refused by 4: the source is above 7",
+    "refused by 5: the customer is 0",
+    "refused by 6: the provider list is empty, longer than 256 or not strictly ascending",
+    "refused by 7: there is no such record",
+    "refused by 8: the register would hold more than 1024 records or 8192 provider numbers",
+    "refused by 9: the role is not 1 to 6",
+    "refused by 10: the neighbour is 0",
+    "refused by 11: the attribute is longer than 1024 bytes",
+    "refused by 12: a segment is cut short",
+    "refused by 13: a segment has an unknown type",
+    "refused by 14: a segment is of a confederation",
+    "refused by 15: a segment has no numbers",
+    "refused by 16: an AS number is 0",
+    "refused by 17: the merged path has more than 64 numbers",
+    "refused by 18: the route number is taken",
+    "refused by 19: there is no such route",
+    "refused by 20: the ledger would hold more than 512 routes or 8192 path numbers",
+];
+
+fn path() -> Vec<u8> {
+    sequence(&[20, 10].map(AsNumber)).unwrap()
+}
+
+/// A few records and two routes.
+fn some() -> Tables {
+    let (mut register, mut ledger) = (Register::new(), Ledger::new());
+    register.file(0, AsNumber(10), &[AsNumber(20)]).unwrap();
+    register.file(7, AsNumber(20), &[AsNumber(0)]).unwrap();
+    for (number, role) in [(1, Role::Customer), (4, Role::Provider)] {
+        ledger
+            .keep(&register, RouteNumber(number), role, AsNumber(20), &path())
+            .unwrap();
+    }
+    Tables { register, ledger }
+}
+
+fn numbers(count: usize) -> Vec<AsNumber> {
+    (1..=count as u32).map(AsNumber).collect()
+}
+
+/// As many records, and routes, as there may be.
+fn full() -> Tables {
+    let Tables {
+        mut register,
+        mut ledger,
+    } = some();
+    for customer in 100.. {
+        if register.records().count() == MOST_RECORDS {
+            break;
+        }
+        register.file(1, AsNumber(customer), &numbers(3)).unwrap();
+    }
+    for number in 100.. {
+        if ledger.routes().count() == MOST_ROUTES {
+            break;
+        }
+        let number = RouteNumber(number);
+        ledger
+            .keep(&register, number, Role::Peer, AsNumber(20), &path())
+            .unwrap();
+    }
+    Tables { register, ledger }
+}
+
+/// As many provider numbers, and path numbers, as there may be, but few entries.
+fn full_bodies() -> Tables {
+    let (mut register, mut ledger) = (Register::new(), Ledger::new());
+    for customer in 1..=32 {
+        let providers = numbers(MOST_PROVIDERS);
+        register.file(1, AsNumber(customer), &providers).unwrap();
+    }
+    let path = sequence(&numbers(MOST_PATH)).unwrap();
+    for number in 1..=128 {
+        let number = RouteNumber(number);
+        ledger
+            .keep(&register, number, Role::Peer, AsNumber(1), &path)
+            .unwrap();
+    }
+    Tables { register, ledger }
+}
+
+fn with_words(change: impl Fn(&mut Vec<u32>, &mut Vec<u32>)) -> Tables {
+    let Tables { register, ledger } = some();
+    let (mut r, mut l) = (register.words().to_vec(), ledger.words().to_vec());
+    change(&mut r, &mut l);
+    Tables {
+        register: Register::from_words(r),
+        ledger: Ledger::from_words(l),
+    }
+}
+
+fn file(source: u32, customer: u32, providers: Vec<AsNumber>) -> Call {
+    Box::new(move |t| {
+        let filed = t.register.file(source, AsNumber(customer), &providers);
+        filed.map(|_| ())
+    })
+}
+
+fn withdraw(source: u32, customer: u32) -> Call {
+    Box::new(move |t| t.register.withdraw(source, AsNumber(customer)))
+}
+
+fn clear(source: u32) -> Call {
+    Box::new(move |t| t.register.clear(source).map(|_| ()))
+}
+
+fn judge(neighbour: u32, attribute: Vec<u8>) -> Call {
+    Box::new(move |t| {
+        let answer = t
+            .register
+            .judge(Role::Customer, AsNumber(neighbour), &attribute);
+        answer.map(|_| ())
+    })
+}
+
+fn keep(number: u32, neighbour: u32, attribute: Vec<u8>) -> Call {
+    Box::new(move |t| {
+        let (number, neighbour) = (RouteNumber(number), AsNumber(neighbour));
+        let answer = t
+            .ledger
+            .keep(&t.register, number, Role::Customer, neighbour, &attribute);
+        answer.map(|_| ())
+    })
+}
+
+fn drop_route(number: u32) -> Call {
+    Box::new(move |t| t.ledger.drop_route(RouteNumber(number)))
+}
+
+fn rejudge() -> Call {
+    Box::new(|t| t.ledger.rejudge(&t.register).map(|_| ()))
+}
+
+/// The rows that have been seen.
+#[derive(Default)]
+struct Seen(BTreeSet<u32>);
+
+impl Seen {
+    /// Each call on these tables is refused so.
+    fn all(&mut self, tables: &Tables, refusal: Refusal, calls: Vec<Call>) {
+        for (i, call) in calls.iter().enumerate() {
+            let mut after = tables.clone();
+            assert_eq!(call(&mut after), Err(refusal), "call {i}");
+            // By words: the tables' own text is short.
+            assert_eq!(after.register.words(), tables.register.words());
+            assert_eq!(after.ledger.words(), tables.ledger.words());
+        }
+        self.told(refusal);
+    }
+
+    fn told(&mut self, refusal: Refusal) {
+        let number = refusal.number();
+        let text = TEXTS[number as usize - 1];
+        match (12..=16).contains(&number).then(|| refusal.place()) {
+            Some(place) => {
+                let place = place.expect("a place");
+                assert_eq!(refusal.to_string(), format!("{text} (byte {place})"));
+            }
+            None => {
+                assert_eq!(refusal.place(), None);
+                assert_eq!(refusal.to_string(), text);
+            }
+        }
+        self.0.insert(number);
+    }
+}
+
+#[test]
+fn every_row() {
+    let mut seen = Seen::default();
+    let some = some();
+
+    for (register, ledger) in [
+        (REGISTER_WORDS - 1, LEDGER_WORDS - 1),
+        (REGISTER_WORDS + 1, LEDGER_WORDS + 1),
+        (0, 0),
+    ] {
+        let tables = with_words(|r, l| {
+            r.resize(register, 0);
+            l.resize(ledger, 0);
+        });
+        let calls = vec![
+            file(0, 10, numbers(1)),
+            withdraw(0, 10),
+            clear(0),
+            judge(20, path()),
+            keep(2, 20, path()),
+            drop_route(1),
+            rejudge(),
+        ];
+        seen.all(&tables, Refusal::TableLength, calls);
+        // A wrong ledger does not touch who is not lent it, but comes before a malformed register.
+        let tables = with_words(|r, l| {
+            r[1] += 1;
+            l.resize(ledger, 0);
+        });
+        let calls = vec![keep(2, 20, path()), drop_route(1), rejudge()];
+        seen.all(&tables, Refusal::TableLength, calls);
+    }
+    let calls = vec![
+        file(0, 10, numbers(1)),
+        withdraw(0, 10),
+        clear(0),
+        judge(20, path()),
+        keep(2, 20, path()),
+        rejudge(),
+    ];
+    let tables = with_words(|r, l| {
+        r[0] = u32::MAX;
+        l[0] = u32::MAX;
+    });
+    seen.all(&tables, Refusal::RegisterMalformed, calls);
+    let calls = vec![keep(2, 20, path()), drop_route(1), rejudge()];
+    let tables = with_words(|_, l| l[1] += 1);
+    seen.all(&tables, Refusal::LedgerMalformed, calls);
+
+    let calls = vec![file(8, 0, vec![]), withdraw(8, 0), clear(u32::MAX)];
+    seen.all(&some, Refusal::Source, calls);
+    let calls = vec![file(7, 0, vec![]), withdraw(7, 0)];
+    seen.all(&some, Refusal::Customer, calls);
+    let calls = vec![
+        file(0, 1, vec![]),
+        file(0, 1, numbers(MOST_PROVIDERS + 1)),
+        file(0, 1, [2, 2].map(AsNumber).to_vec()),
+        file(0, 1, [3, 2].map(AsNumber).to_vec()),
+    ];
+    seen.all(&some, Refusal::Providers, calls);
+    let calls = vec![withdraw(1, 10), withdraw(0, 11)];
+    seen.all(&some, Refusal::NoRecord, calls);
+    seen.all(&full(), Refusal::RegisterFull, vec![file(0, 1, numbers(1))]);
+    let calls = vec![file(0, 1, numbers(1)), file(0, 33, numbers(1))];
+    seen.all(&full_bodies(), Refusal::RegisterFull, calls);
+
+    // A Role is always one: its row is what a number that is no role's becomes.
+    for number in [0, 7, u32::MAX] {
+        let judged = |number| -> Result<_, Refusal> {
+            let role = Role::try_from(number)?;
+            some.register.judge(role, AsNumber(20), &path())
+        };
+        assert_eq!(judged(number), Err(Refusal::Role));
+    }
+    seen.told(Refusal::Role);
+
+    let calls = vec![judge(0, vec![9]), keep(1, 0, vec![9])];
+    seen.all(&some, Refusal::Neighbour, calls);
+    let long = vec![0; MOST_ATTRIBUTE_BYTES + 1];
+    let calls = vec![judge(20, long.clone()), keep(1, 20, long)];
+    seen.all(&some, Refusal::AttributeLength, calls);
+
+    // The same fault first and after a good segment, which has 10 bytes.
+    let faults: [(&[u8], Faulty, u32); 9] = [
+        (&[2], |place| Refusal::CutShort { place }, 0),
+        (&[2, 1, 0, 0, 0], |place| Refusal::CutShort { place }, 0),
+        (&[0, 1], |place| Refusal::SegmentType { place }, 0),
+        (&[5, 0], |place| Refusal::SegmentType { place }, 0),
+        (&[3, 0], |place| Refusal::Confederation { place }, 0),
+        (&[4, 1], |place| Refusal::Confederation { place }, 0),
+        (&[2, 0], |place| Refusal::SegmentEmpty { place }, 0),
+        (&[1, 0, 9], |place| Refusal::SegmentEmpty { place }, 0),
+        (
+            &[2, 2, 0, 0, 0, 20, 0, 0, 0, 0],
+            |place| Refusal::AsZero { place },
+            6,
+        ),
+    ];
+    for (bytes, refusal, place) in faults {
+        let calls = vec![judge(20, bytes.to_vec()), keep(1, 20, bytes.to_vec())];
+        seen.all(&some, refusal(place), calls);
+        let bytes = [&path(), bytes].concat();
+        let calls = vec![judge(20, bytes.clone()), keep(1, 20, bytes)];
+        seen.all(&some, refusal(10 + place), calls);
+    }
+
+    let long = sequence(&numbers(MOST_PATH + 1)).unwrap();
+    let calls = vec![judge(1, long.clone()), keep(1, 1, long)];
+    seen.all(&some, Refusal::PathLength, calls);
+    let calls = vec![keep(1, 20, path()), keep(4, 9, vec![])];
+    seen.all(&some, Refusal::RouteTaken, calls);
+    seen.all(&full(), Refusal::RouteTaken, vec![keep(1, 20, path())]);
+    let calls = vec![drop_route(0), drop_route(2)];
+    seen.all(&some, Refusal::NoRoute, calls);
+    let calls = vec![keep(2, 20, path()), keep(2, 20, vec![])];
+    seen.all(&full(), Refusal::LedgerFull, calls);
+    seen.all(
+        &full_bodies(),
+        Refusal::LedgerFull,
+        vec![keep(0, 20, path())],
+    );
+
+    assert!(seen.0.into_iter().eq(1..=20), "every row");
+}
+
+/// What full tables still take.
+#[test]
+fn room() {
+    let mut tables = full_bodies();
+    // A shorter list and a route with a ground need no body words.
+    assert_eq!(file(1, 1, numbers(255))(&mut tables), Ok(()));
+    assert_eq!(file(0, 1, numbers(1))(&mut tables), Ok(()));
+    assert_eq!(keep(200, 20, vec![])(&mut tables), Ok(()));
+    assert_eq!(drop_route(7)(&mut tables), Ok(()));
+    assert_eq!(keep(7, 20, path())(&mut tables), Ok(()));
+    assert_eq!(
+        keep(8, 20, path())(&mut tables),
+        Err(Refusal::RouteTaken),
+        "only 7 was dropped"
+    );
+}
+
+#[test]
+fn a_set_is_no_fault() {
+    let path = PathBuilder::new().set(&[AsNumber(20)]).unwrap();
+    let mut tables = some();
+    assert_eq!(judge(9, path.into())(&mut tables), Ok(()));
+}
