@@ -200,6 +200,8 @@ uint32_t aspa_clear(uint32_t *reg, size_t reg_len, uint32_t source, uint32_t out
  *   *gap    L - K, from 1 - ASPA_MOST_PATH to ASPA_MOST_PATH - 1; 0 where none is given. A negative gap is an answer,
  *           not an error.
  * On a refusal out[0] is ASPA_NO_VERDICT; out[1] to out[4] and *gap are 0.
+ * Compare out[0] with the verdicts that you accept, and not with ASPA_INVALID alone, which ASPA_NO_VERDICT is not
+ * either.
  */
 ASPA_USE_RESULT
 uint32_t aspa_judge(const uint32_t *reg, size_t reg_len, uint32_t role, uint32_t neighbour,

@@ -144,40 +144,70 @@ static void begin(void) {
     remember();
 }
 
+/* A table with one word more, which is zero. */
+static uint32_t *with_one_more(const uint32_t *table, size_t n) {
+    uint32_t *longer = (uint32_t *)calloc(n + 1, sizeof *longer);
+    if (longer == NULL)
+        abort();
+    memcpy(longer, table, n * sizeof *longer);
+    return longer;
+}
+
+/* Every call that is lent a register, with so many words of it. */
+static void register_refused(size_t n, uint32_t row) {
+    REFUSED_FILING(aspa_file(reg, n, 0, 10, provider, 1, fresh()), row);
+    REFUSED(aspa_withdraw(reg, n, 0, 10), row);
+    REFUSED_COUNT(aspa_clear(reg, n, 0, fresh()), row);
+    REFUSED_COUNT(aspa_rejudge(reg, n, ledger, L, fresh()), row);
+    not_judged(n, good, row, 0, __LINE__);
+    not_kept(n, L, 1, good, row, 0, __LINE__);
+}
+
+/* Every call that is lent a ledger. */
+static void ledger_refused(size_t n, uint32_t row) {
+    REFUSED(aspa_drop(ledger, n, 7), row);
+    REFUSED_COUNT(aspa_rejudge(reg, R, ledger, n, fresh()), row);
+    not_kept(R, n, 1, good, row, 0, __LINE__);
+}
+
 static void wrong_lengths(void) {
-    size_t i;
+    uint32_t *lent;
     begin();
-    for (i = 0; i < 3; i++) {
-        static const size_t short_by[] = {1, 2, ASPA_REGISTER_WORDS};
-        size_t n = R - short_by[i];
-        REFUSED_FILING(aspa_file(reg, n, 0, 10, provider, 1, fresh()), ASPA_REFUSED_TABLE_LENGTH);
-        REFUSED(aspa_withdraw(reg, n, 0, 10), ASPA_REFUSED_TABLE_LENGTH);
-        REFUSED_COUNT(aspa_clear(reg, n, 0, fresh()), ASPA_REFUSED_TABLE_LENGTH);
-        REFUSED_COUNT(aspa_rejudge(reg, n, ledger, L, fresh()), ASPA_REFUSED_TABLE_LENGTH);
-        not_judged(n, good, ASPA_REFUSED_TABLE_LENGTH, 0, __LINE__);
-        not_kept(n, L, 1, good, ASPA_REFUSED_TABLE_LENGTH, 0, __LINE__);
-    }
-    REFUSED(aspa_drop(ledger, L - 1, 7), ASPA_REFUSED_TABLE_LENGTH);
-    REFUSED_COUNT(aspa_rejudge(reg, R, ledger, L - 1, fresh()), ASPA_REFUSED_TABLE_LENGTH);
-    not_kept(R, L - 1, 1, good, ASPA_REFUSED_TABLE_LENGTH, 0, __LINE__);
+    register_refused(R - 1, ASPA_REFUSED_TABLE_LENGTH);
+    register_refused(ASPA_COUNT_WORDS, ASPA_REFUSED_TABLE_LENGTH);
+    register_refused(0, ASPA_REFUSED_TABLE_LENGTH);
+    ledger_refused(L - 1, ASPA_REFUSED_TABLE_LENGTH);
+    ledger_refused(ASPA_COUNT_WORDS, ASPA_REFUSED_TABLE_LENGTH);
+    ledger_refused(0, ASPA_REFUSED_TABLE_LENGTH);
+    /* One word too many, of tables that are otherwise the same. */
+    lent = reg;
+    reg = with_one_more(reg, R);
+    register_refused(R + 1, ASPA_REFUSED_TABLE_LENGTH);
+    free(reg);
+    reg = lent;
+    lent = ledger;
+    ledger = with_one_more(ledger, L);
+    ledger_refused(L + 1, ASPA_REFUSED_TABLE_LENGTH);
+    free(ledger);
+    ledger = lent;
 }
 
 static void malformed(void) {
-    /* The counts, a slot, a list, and the zeros at the end of the register. */
-    static const size_t register_words[] = {0, 1, 2, 3, 4, 5, ASPA_REGISTER_WORDS - 1};
+    /* Both counts, each word of the first slot, and a word that has to be zero. */
+    static const size_t words[] = {ASPA_COUNT_ENTRIES,
+                                   ASPA_COUNT_NUMBERS,
+                                   ASPA_COUNT_WORDS + ASPA_RECORD_CUSTOMER,
+                                   ASPA_COUNT_WORDS + ASPA_RECORD_SOURCE,
+                                   ASPA_COUNT_WORDS + ASPA_RECORD_START,
+                                   ASPA_COUNT_WORDS + ASPA_RECORD_COUNT,
+                                   ASPA_REGISTER_WORDS - 1};
     size_t i;
-    for (i = 0; i < sizeof register_words / sizeof *register_words; i++) {
+    for (i = 0; i < sizeof words / sizeof *words; i++) {
         begin();
-        reg[register_words[i]] = UINT32_MAX;
-        if (register_words[i] == 2)
-            reg[2] = 0;
+        /* A customer may be every number but 0. */
+        reg[words[i]] = words[i] == ASPA_COUNT_WORDS + ASPA_RECORD_CUSTOMER ? 0 : UINT32_MAX;
         remember();
-        REFUSED_FILING(aspa_file(reg, R, 0, 10, provider, 1, fresh()), ASPA_REFUSED_REGISTER_MALFORMED);
-        REFUSED(aspa_withdraw(reg, R, 0, 10), ASPA_REFUSED_REGISTER_MALFORMED);
-        REFUSED_COUNT(aspa_clear(reg, R, 0, fresh()), ASPA_REFUSED_REGISTER_MALFORMED);
-        REFUSED_COUNT(aspa_rejudge(reg, R, ledger, L, fresh()), ASPA_REFUSED_REGISTER_MALFORMED);
-        not_judged(R, good, ASPA_REFUSED_REGISTER_MALFORMED, 0, __LINE__);
-        not_kept(R, L, 1, good, ASPA_REFUSED_REGISTER_MALFORMED, 0, __LINE__);
+        register_refused(R, ASPA_REFUSED_REGISTER_MALFORMED);
     }
     for (i = 0; i < ASPA_COUNT_WORDS + ASPA_ROUTE_WORDS; i++) {
         begin();
@@ -185,9 +215,7 @@ static void malformed(void) {
             continue; /* every route number is allowed */
         ledger[i] = UINT32_MAX;
         remember();
-        REFUSED(aspa_drop(ledger, L, 7), ASPA_REFUSED_LEDGER_MALFORMED);
-        REFUSED_COUNT(aspa_rejudge(reg, R, ledger, L, fresh()), ASPA_REFUSED_LEDGER_MALFORMED);
-        not_kept(R, L, 1, good, ASPA_REFUSED_LEDGER_MALFORMED, 0, __LINE__);
+        ledger_refused(L, ASPA_REFUSED_LEDGER_MALFORMED);
     }
 }
 

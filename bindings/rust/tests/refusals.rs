@@ -154,6 +154,23 @@ fn rejudge() -> Call {
     Box::new(|t| t.ledger.rejudge(&t.register).map(|_| ()))
 }
 
+/// Every call that is lent a register.
+fn on_register() -> Vec<Call> {
+    vec![
+        file(0, 10, numbers(1)),
+        withdraw(0, 10),
+        clear(0),
+        judge(20, path()),
+        keep(2, 20, path()),
+        rejudge(),
+    ]
+}
+
+/// Every call that is lent a ledger.
+fn on_ledger() -> Vec<Call> {
+    vec![keep(2, 20, path()), drop_route(1), rejudge()]
+}
+
 /// The rows that have been seen.
 #[derive(Default)]
 struct Seen(BTreeSet<u32>);
@@ -202,40 +219,22 @@ fn every_row() {
             r.resize(register, 0);
             l.resize(ledger, 0);
         });
-        let calls = vec![
-            file(0, 10, numbers(1)),
-            withdraw(0, 10),
-            clear(0),
-            judge(20, path()),
-            keep(2, 20, path()),
-            drop_route(1),
-            rejudge(),
-        ];
-        seen.all(&tables, Refusal::TableLength, calls);
+        seen.all(&tables, Refusal::TableLength, on_register());
+        seen.all(&tables, Refusal::TableLength, on_ledger());
         // A wrong ledger does not touch who is not lent it, but comes before a malformed register.
         let tables = with_words(|r, l| {
             r[1] += 1;
             l.resize(ledger, 0);
         });
-        let calls = vec![keep(2, 20, path()), drop_route(1), rejudge()];
-        seen.all(&tables, Refusal::TableLength, calls);
+        seen.all(&tables, Refusal::TableLength, on_ledger());
     }
-    let calls = vec![
-        file(0, 10, numbers(1)),
-        withdraw(0, 10),
-        clear(0),
-        judge(20, path()),
-        keep(2, 20, path()),
-        rejudge(),
-    ];
     let tables = with_words(|r, l| {
         r[0] = u32::MAX;
         l[0] = u32::MAX;
     });
-    seen.all(&tables, Refusal::RegisterMalformed, calls);
-    let calls = vec![keep(2, 20, path()), drop_route(1), rejudge()];
+    seen.all(&tables, Refusal::RegisterMalformed, on_register());
     let tables = with_words(|_, l| l[1] += 1);
-    seen.all(&tables, Refusal::LedgerMalformed, calls);
+    seen.all(&tables, Refusal::LedgerMalformed, on_ledger());
 
     let calls = vec![file(8, 0, vec![]), withdraw(8, 0), clear(u32::MAX)];
     seen.all(&some, Refusal::Source, calls);

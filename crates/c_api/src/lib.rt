@@ -25,10 +25,14 @@ ghost use Rattle.c_api.specs.Helpers.{placeIn};
 // The words of an answer to Judge or Keep: verdict, ground, place a, place b, whether a gap is given, the place of a refusal.
 pub const ANSWER_WORDS: usize = 6;
 
-// What a refused call writes in place of a verdict, of new or replaced, and of a count: no answer has these words.
-pub const NO_VERDICT: u32 = 3;
-pub const NOT_FILED: u32 = 2;
-pub const NO_COUNT: u32 = 4294967295;
+// What a refused call writes, which no answer has: in place of a verdict,
+const NO_VERDICT: u32 = 3;
+
+// of new or replaced,
+const NOT_FILED: u32 = 2;
+
+// and of a count.
+const NO_COUNT: u32 = 4294967295;
 
 // The place of a refusal, 0 if it has none. Every place is below the most bytes of an attribute, so the word holds it.
 fn place_word(r: Refusal) -> u32
