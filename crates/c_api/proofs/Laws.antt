@@ -61,6 +61,10 @@ number-some refusal.PathLength e = omega arith
 number-some refusal.RouteTaken e = omega arith
 number-some refusal.NoRoute e = omega arith
 number-some refusal.RoutesFull e = omega arith
+number-some refusal.OutputLength e = omega arith
+number-some refusal.Edition e = omega arith
+number-some refusal.Contents e = omega arith
+number-some refusal.SnapshotLength e = omega arith
 
 -- Only the first word counts.
 refused : {word : ℕ} (r : Refusal) → Marks word (refusalNumber r) (word ∷ [])

@@ -14,7 +14,7 @@ use Rattle.types.specs.declared.Place.the-variants.{Nowhere, Byte}
 use Rattle.types.specs.declared.Fault.{Fault}
 use Rattle.types.specs.declared.Fault.the-variants.{CutShort, UnknownType, Confederation, NoNumbers, ZeroNumber}
 use Rattle.types.specs.declared.Refusal.{Refusal}
-use Rattle.types.specs.declared.Refusal.the-variants.{TableLength, RegisterMalformed, RoutesMalformed, SourceNumber, CustomerZero, ProviderList, NoRecord, RegisterFull, RoleNumber, NeighbourZero, AttributeLength, Attribute, PathLength, RouteTaken, NoRoute, RoutesFull}
+use Rattle.types.specs.declared.Refusal.the-variants.{TableLength, RegisterMalformed, RoutesMalformed, SourceNumber, CustomerZero, ProviderList, NoRecord, RegisterFull, RoleNumber, NeighbourZero, AttributeLength, Attribute, PathLength, RouteTaken, NoRoute, RoutesFull, OutputLength, Edition, Contents, SnapshotLength}
 use Rattle.types.specs.Numbers.{faultNumber, refusalNumber, refusalPlace}
 use Rattle.types.specs.Rows.{orElse, firstGiven, Ranged}
 use Rattle.types.proofs.Clashes.{clash, some-not-none}
@@ -65,6 +65,10 @@ placed PathLength = (λ h. absurd (omega (arith, h .1)), λ p. nowhere (p .0) (p
 placed RouteTaken = (λ h. absurd (omega (arith, h .1)), λ p. nowhere (p .0) (p .1))
 placed NoRoute = (λ h. absurd (omega (arith, h .1)), λ p. nowhere (p .0) (p .1))
 placed RoutesFull = (λ h. absurd (omega (arith, h .1)), λ p. nowhere (p .0) (p .1))
+placed OutputLength = (λ h. absurd (omega (arith, h .1)), λ p. nowhere (p .0) (p .1))
+placed Edition = (λ h. absurd (omega (arith, h .1)), λ p. nowhere (p .0) (p .1))
+placed Contents = (λ h. absurd (omega (arith, h .1)), λ p. nowhere (p .0) (p .1))
+placed SnapshotLength = (λ h. absurd (omega (arith, h .1)), λ p. nowhere (p .0) (p .1))
 
 -- A range without 12 to 16.
 abbrev outside : ℕ × ℕ → Bool

@@ -21,7 +21,7 @@ use Rattle.types.specs.declared.Place.the-variants.{Nowhere, Byte}
 use Rattle.types.specs.declared.Fault.{Fault}
 use Rattle.types.specs.declared.Fault.the-variants.{CutShort, UnknownType, Confederation, NoNumbers, ZeroNumber}
 use Rattle.types.specs.declared.Refusal.{Refusal}
-use Rattle.types.specs.declared.Refusal.the-variants.{TableLength, RegisterMalformed, RoutesMalformed, SourceNumber, CustomerZero, ProviderList, NoRecord, RegisterFull, RoleNumber, NeighbourZero, AttributeLength, Attribute, PathLength, RouteTaken, NoRoute, RoutesFull}
+use Rattle.types.specs.declared.Refusal.the-variants.{TableLength, RegisterMalformed, RoutesMalformed, SourceNumber, CustomerZero, ProviderList, NoRecord, RegisterFull, RoleNumber, NeighbourZero, AttributeLength, Attribute, PathLength, RouteTaken, NoRoute, RoutesFull, OutputLength, Edition, Contents, SnapshotLength}
 
 -- Roles: 1 customer, 2 lateral peer, 3 provider, 4 route server, 5 route-server client, 6 mutual transit.
 abbrev pub roleNumber : Role → ℕ
@@ -124,6 +124,10 @@ refusalNumber PathLength = 17
 refusalNumber RouteTaken = 18
 refusalNumber NoRoute = 19
 refusalNumber RoutesFull = 20
+refusalNumber OutputLength = 21
+refusalNumber Edition = 22
+refusalNumber Contents = 23
+refusalNumber SnapshotLength = 24
 
 -- The place of a refusal: for rows 12 to 16 the byte of the attribute where the fault begins. No other row has one.
 abbrev pub refusalPlace : Refusal → Place
@@ -143,3 +147,7 @@ refusalPlace PathLength = Nowhere
 refusalPlace RouteTaken = Nowhere
 refusalPlace NoRoute = Nowhere
 refusalPlace RoutesFull = Nowhere
+refusalPlace OutputLength = Nowhere
+refusalPlace Edition = Nowhere
+refusalPlace Contents = Nowhere
+refusalPlace SnapshotLength = Nowhere

@@ -254,6 +254,10 @@ pub enum Refusal {
     RouteTaken,
     NoRoute,
     RoutesFull,
+    OutputLength,
+    Edition,
+    Contents,
+    SnapshotLength,
 }
 
 impl Refusal {
@@ -277,6 +281,10 @@ impl Refusal {
             Refusal::RouteTaken => 18,
             Refusal::NoRoute => 19,
             Refusal::RoutesFull => 20,
+            Refusal::OutputLength => 21,
+            Refusal::Edition => 22,
+            Refusal::Contents => 23,
+            Refusal::SnapshotLength => 24,
         }
     }
 
@@ -300,6 +308,10 @@ impl Refusal {
             Refusal::RouteTaken => Place::Nowhere,
             Refusal::NoRoute => Place::Nowhere,
             Refusal::RoutesFull => Place::Nowhere,
+            Refusal::OutputLength => Place::Nowhere,
+            Refusal::Edition => Place::Nowhere,
+            Refusal::Contents => Place::Nowhere,
+            Refusal::SnapshotLength => Place::Nowhere,
         }
     }
 }
@@ -332,5 +344,17 @@ pub enum Cleared {
 // What Re-judge answers: how many routes changed.
 pub enum Rejudged {
     Changed(u32),
+    Refused(Refusal),
+}
+
+// What writing a snapshot answers: its length in bytes.
+pub enum Written {
+    Bytes(usize),
+    Refused(Refusal),
+}
+
+// What reading a snapshot answers.
+pub enum Restored {
+    Done,
     Refused(Refusal),
 }
