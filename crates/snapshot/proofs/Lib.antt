@@ -6,3 +6,4 @@ pub mod Parts
 pub mod RoundTrips
 pub mod Writing
 pub mod Reading
+pub mod Laws

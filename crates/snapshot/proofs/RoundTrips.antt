@@ -119,7 +119,7 @@ module _ (reg led : List ℕ) (t : FormedTables reg led) where
         ledger-used = (rw ledger-back (sym f₄));
       }
 
-  written-again : (reg₀ led₀ : List ℕ) → length reg₀ ≡ registerWords → length led₀ ≡ ledgerWords
+  pub written-again : (reg₀ led₀ : List ℕ) → length reg₀ ≡ registerWords → length led₀ ≡ ledgerWords
       → readEffect (snapshotOf reg led) reg₀ led₀ ≡ reading restored.Done reg led
   unfolding readEffect
   written-again reg₀ led₀ e f =
