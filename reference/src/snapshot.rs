@@ -16,10 +16,14 @@ const NUMBER: usize = 4;
 const SHORTEST_PART: u64 = 8;
 
 pub fn write(records: &Records, routes: &Routes) -> Vec<u8> {
-    let (register, ledger) = (bytes(&records.write()), bytes(&routes.write()));
-    let second = CONTENTS + register.len();
-    let places = [CONTENTS, register.len(), second, ledger.len()].map(|place| place as u32);
-    [bytes(&[EDITION]), bytes(&places), register, ledger].concat()
+    file(&records.write(), &routes.write())
+}
+
+/// The file with these words of a register and of a ledger.
+pub fn file(register: &[u32], ledger: &[u32]) -> Vec<u8> {
+    let (first, second) = (NUMBER * register.len(), NUMBER * ledger.len());
+    let places = [CONTENTS, first, CONTENTS + first, second].map(|place| place as u32);
+    [&[EDITION], &places[..], register, ledger].iter().flat_map(|part| bytes(part)).collect()
 }
 
 /// Rows 24 for an input without whole contents, 22, 23, 24, 2, 3.
@@ -74,10 +78,32 @@ fn table<T: Form>(body: &[u8]) -> Result<T, Refusal> {
     Ok(T::read(&words))
 }
 
-pub fn bytes(numbers: &[u32]) -> Vec<u8> {
+fn bytes(numbers: &[u32]) -> Vec<u8> {
     numbers.iter().flat_map(|number| number.to_be_bytes()).collect()
 }
 
 fn numbers(bytes: &[u8]) -> Vec<u32> {
     bytes.chunks_exact(NUMBER).map(|b| u32::from_be_bytes([b[0], b[1], b[2], b[3]])).collect()
+}
+
+// For streams and tests
+
+/// Number `index` of a file that has it.
+pub fn number_at(file: &[u8], index: usize) -> u32 {
+    numbers(&file[NUMBER * index..][..NUMBER])[0]
+}
+
+/// The file with some of its numbers, counted from 0, replaced.
+pub fn with(file: &[u8], numbers: &[(usize, u32)]) -> Vec<u8> {
+    let mut file = file.to_vec();
+    for (index, number) in numbers {
+        file[NUMBER * index..][..NUMBER].copy_from_slice(&bytes(&[*number]));
+    }
+    file
+}
+
+/// The words of the register and of the ledger of a file whose second start is right.
+pub fn parts(file: &[u8]) -> [Vec<u32>; 2] {
+    let second = number_at(file, 3) as usize;
+    [numbers(&file[CONTENTS..second]), numbers(&file[second..])]
 }

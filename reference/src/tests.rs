@@ -2,6 +2,7 @@ use crate::attributes::{hex, segment};
 use crate::console::answer;
 use crate::judge::{self, slow, Hop};
 use crate::random::Random;
+use crate::snapshot::{number_at, parts, with};
 use crate::words::{padded, Form};
 use crate::*;
 
@@ -603,19 +604,6 @@ fn row<T>(result: Result<T, Refusal>) -> u8 {
     result.map_or_else(|refusal| refusal.row, |_| 0)
 }
 
-/// The file with some of its numbers, counted from 0, replaced.
-fn with(file: &[u8], numbers: &[(usize, u32)]) -> Vec<u8> {
-    let mut file = file.to_vec();
-    for (index, number) in numbers {
-        file[4 * index..4 * index + 4].copy_from_slice(&number.to_be_bytes());
-    }
-    file
-}
-
-fn number_at(file: &[u8], index: usize) -> u32 {
-    file[4 * index..4 * index + 4].iter().fold(0, |high, low| high * 256 + u32::from(*low))
-}
-
 fn same_words(one: &Model, other: &Model) -> bool {
     one.register.words() == other.register.words() && one.ledger.words() == other.ledger.words()
 }
@@ -724,7 +712,7 @@ fn reading_in_order() {
         expect(&vec![0xff; length], 24);
         expect(&vec![0; length], 24);
     }
-    for edition in [0, 2, 3, 256, 1 << 24, u32::MAX] {
+    for edition in [0, 2, 3, 256, 257, 65_537, 1 << 24, (1 << 24) + 1, u32::MAX] {
         let worse = with(&file, &[(0, edition), (1, 0), (4, 3), (5, 9), (18, 9)]);
         for input in [&with(&file, &[(0, edition)]), &worse, &worse[..20], &worse[..159]] {
             expect(input, 22);
@@ -810,18 +798,11 @@ fn contents_of_a_snapshot() {
     assert_eq!(row(Model::new().read(&[&file[..72], &low[72..]].concat())), 3);
 }
 
-/// Part 0 is the register, 1 the ledger. Gives the file with one of them other
-/// words, its length and the second start to match.
+/// The file with other words of its register (part 0) or ledger (part 1).
 fn with_part(file: &[u8], part: usize, words: &[u32]) -> Vec<u8> {
-    let second = number_at(file, 3) as usize;
-    let bytes = snapshot::bytes(words);
-    let (register, ledger) = match part {
-        0 => (&bytes[..], &file[second..]),
-        _ => (&file[20..second], &bytes[..]),
-    };
-    let lengths = [register.len() as u32, 20 + register.len() as u32, ledger.len() as u32];
-    let contents = with(&file[..20], &[(2, lengths[0]), (3, lengths[1]), (4, lengths[2])]);
-    [&contents, register, ledger].concat()
+    let mut parts = parts(file);
+    parts[part] = words.to_vec();
+    snapshot::file(&parts[0], &parts[1])
 }
 
 #[test]
@@ -845,6 +826,12 @@ fn lengths_unlike_the_counts() {
         expect(&[0, 0, 0], damaged);
         expect(&padded(vec![0, 0], [12_290, 12_802][part]), damaged);
         expect(&padded(words.clone(), [12_290, 12_802][part]), damaged);
+        // used words that are zero, and so would be there without the file
+        let zeros = [&[1, 1, 5, 0, 0, 1, 0][..], &[1, 0, 7, 4, 5, 1, 1, 0, 0, 0, 0]][part];
+        expect(zeros, 0);
+        for length in [6, 7][part]..zeros.len() {
+            expect(&zeros[..length], damaged);
+        }
         // counts whose sum, in words or in bytes, wraps round to what is there
         for counts in [
             [1 << 28, 0],
@@ -1003,23 +990,16 @@ fn damaged_snapshot(random: &mut Random, file: &[u8]) -> Vec<u8> {
                 let number = number_at(&file, index).wrapping_add(random.pick(&steps));
                 file = with(&file, &[(index, number)]);
             }
-            6 if length >= 36 && rows_of_a_read(&file) != 23 => {
+            6 if [0, 2, 3].contains(&rows_of_a_read(&file)) => {
                 // one word more or less, and contents to match
                 let part = random.below(2);
-                let (start, end) = match part {
-                    0 => (20, number_at(&file, 3) as usize),
-                    _ => (number_at(&file, 3) as usize, length),
-                };
-                if start < end && end <= length {
-                    let mut words: Vec<u32> =
-                        (start / 4..end / 4).map(|index| number_at(&file, index)).collect();
-                    if random.percent(50) {
-                        words.push(random.pick(&[0, 0, 1]));
-                    } else {
-                        words.pop();
-                    }
-                    file = with_part(&file, part, &words);
+                let mut words = parts(&file)[part].clone();
+                if random.percent(50) {
+                    words.push(random.pick(&[0, 0, 1]));
+                } else {
+                    words.pop();
                 }
+                file = with_part(&file, part, &words);
             }
             _ => {}
         }

@@ -6,7 +6,7 @@
 use reference::attributes::{hex, segment};
 use reference::console;
 use reference::random::Random;
-use reference::snapshot::{self, CONTENTS};
+use reference::snapshot::{self, number_at, parts, with, CONTENTS};
 use reference::{AsNumber, Model, Table, GREATEST_SOURCE, LONGEST_ATTRIBUTE, MOST_BODY_WORDS};
 use std::io::{self, BufWriter, Write};
 use std::process::ExitCode;
@@ -61,35 +61,6 @@ fn file_of(model: &Model) -> Option<Vec<u8>> {
     let length = model.clone().write(&mut output).ok()?;
     output.truncate(length);
     Some(output)
-}
-
-/// Number `index` of a file that has it.
-fn number_at(file: &[u8], index: usize) -> u32 {
-    file[4 * index..4 * index + 4].iter().fold(0, |high, low| high * 256 + u32::from(*low))
-}
-
-/// The file with some of its numbers, counted from 0, replaced.
-fn with(file: &[u8], numbers: &[(usize, u32)]) -> Vec<u8> {
-    let mut file = file.to_vec();
-    for (index, number) in numbers {
-        file[4 * index..4 * index + 4].copy_from_slice(&number.to_be_bytes());
-    }
-    file
-}
-
-/// The words of a file's register and ledger.
-fn parts(file: &[u8]) -> [Vec<u32>; 2] {
-    let second = number_at(file, 3) as usize / 4;
-    [CONTENTS / 4..second, second..file.len() / 4]
-        .map(|part| part.map(|index| number_at(file, index)).collect())
-}
-
-/// A file with these words and contents to match them.
-fn joined([register, ledger]: &[Vec<u32>; 2]) -> Vec<u8> {
-    let (first, second) = (4 * register.len() as u32, 4 * ledger.len() as u32);
-    let start = CONTENTS as u32;
-    let contents = [snapshot::EDITION, start, first, start + first, second];
-    [&contents[..], register, ledger].iter().flat_map(|part| snapshot::bytes(part)).collect()
 }
 
 // Random streams
@@ -522,7 +493,7 @@ impl<W: FnMut(&str, &str) -> io::Result<()>> Stream<W> {
         let mut bytes: Vec<u8> = (0..self.random.below(70))
             .map(|_| self.random.pick(&[0, 0, 0, 1, 8, 20, 28]))
             .collect();
-        let right = snapshot::bytes(&[snapshot::EDITION, CONTENTS as u32, 8, 28, 8]);
+        let right = snapshot::file(&[0, 0], &[0, 0]);
         let kept = self.random.pick(&[0, 4, 8, 16, 20]).min(bytes.len());
         bytes[..kept].copy_from_slice(&right[..kept]);
         bytes
@@ -554,24 +525,14 @@ impl<W: FnMut(&str, &str) -> io::Result<()>> Stream<W> {
             }
             7..=10 if length >= CONTENTS => {
                 let field = self.random.pick(&[0, 1, 2, 2, 3, 4, 4]);
+                let lengths = [0, 4, 8, 12, 20, 49_160, 49_164, 51_208, 51_212, 1 << 31];
                 let old = number_at(&file, field);
                 let mut number = match self.random.below(6) {
                     0 | 1 => old.wrapping_add(1),
                     2 => old.wrapping_sub(1),
                     3 => old.wrapping_add(4),
                     4 => old.wrapping_sub(4),
-                    _ => self.random.pick(&[
-                        0,
-                        4,
-                        8,
-                        12,
-                        20,
-                        49_160,
-                        49_164,
-                        51_208,
-                        51_212,
-                        1 << 31,
-                    ]),
+                    _ => self.random.pick(&lengths),
                 };
                 if self.random.percent(10) {
                     number = number.rotate_left(8);
@@ -601,7 +562,7 @@ impl<W: FnMut(&str, &str) -> io::Result<()>> Stream<W> {
                 } else {
                     part.pop();
                 }
-                file = joined(&parts);
+                file = snapshot::file(&parts[0], &parts[1]);
             }
             19 => file = file.chunks(4).flat_map(|n| n.iter().rev().copied()).collect(),
             _ => {}
@@ -1190,6 +1151,11 @@ impl Lines {
         self.0.push(format!("read {}", hex(file)));
     }
 
+    /// A read of these words of a register and of a ledger.
+    fn read_parts(&mut self, [register, ledger]: &[Vec<u32>; 2]) {
+        self.read(&snapshot::file(register, ledger));
+    }
+
     /// A read, and what the tables are then.
     fn read_and_write(&mut self, file: &[u8]) {
         self.read(file);
@@ -1585,16 +1551,16 @@ fn room(lines: &mut Lines) {
 
 fn errors(lines: &mut Lines) {
     lines.all(&BAD_LINES);
-    // longer than any line without a snapshot has to be
+    // no limit is at 16,384 bytes any more
     lines.say(&format!("judge 1 20 {}", "0".repeat(16_374)));
     lines.say(&format!("file 0 12{}", " 1".repeat(8_188)));
     // the longest line, and lines past it
     lines.say(&format!("judge 1 200 {}", "0".repeat(262_132)));
     lines.say(&format!("judge 1 20 {}", "0".repeat(262_134)));
     lines.say(&format!("file 0 1{}", " 1".repeat(131_068)));
-    // the longest input that a line has room for, and one more byte: no newline counts
+    // the longest input that a line has room for, and one byte more
     let [longest, longer] = [131_069, 131_070].map(|length| {
-        let mut input = joined(&[vec![0, 0], vec![0, 0]]);
+        let mut input = snapshot::file(&[0, 0], &[0, 0]);
         input.resize(length, 0);
         input
     });
@@ -1688,7 +1654,7 @@ fn snapshot_refusals(lines: &mut Lines) {
         lines.read(&vec![0xff; length]);
     }
     // 22
-    for edition in [0, 2, 3, 256, 1 << 24, TOP] {
+    for edition in [0, 2, 3, 256, 257, 65_537, 1 << 24, (1 << 24) + 1, TOP] {
         let worse = with(&both, &[(0, edition), (1, 0), (4, 3)]);
         lines.read(&with(&file, &[(0, edition)]));
         lines.read(&worse);
@@ -1808,16 +1774,28 @@ fn snapshot_refusals(lines: &mut Lines) {
         for other in others {
             let mut parts = whole.clone();
             parts[part] = other;
-            lines.read(&joined(&parts));
+            lines.read_parts(&parts);
         }
     }
-    lines.read(&joined(&whole.clone().map(|part| [&part[..], &[0]].concat())));
+    lines.read_parts(&whole.clone().map(|part| [&part[..], &[0]].concat()));
+    // used words that are zero, and so would be there without the file
+    let zeros = [vec![1, 1, 5, 0, 0, 1, 0], vec![1, 0, 7, 4, 5, 1, 1, 0, 0, 0, 0]];
+    for (part, least) in [(0, 6), (1, 7)] {
+        for length in least..zeros[part].len() {
+            let mut parts = zeros.clone();
+            parts[part].truncate(length);
+            lines.read_parts(&parts);
+        }
+    }
+    lines.write(131_072);
+    lines.read_parts(&zeros);
     lines.write(131_072);
     // one table empty
     for part in [0, 1] {
         let mut parts = whole.clone();
         parts[part] = vec![0, 0];
-        lines.read_and_write(&joined(&parts));
+        lines.read_parts(&parts);
+        lines.write(131_072);
     }
     // every word of both bodies
     for index in 5..file.len() / 4 {
@@ -1910,7 +1888,7 @@ fn full_snapshot(lines: &mut Lines) {
     // one word more than the table has; as many as it has, of which two are used
     lines.read(&with(&file[..20], &[(2, 49_164), (3, 49_184)]));
     lines.read(&with(&file[..20], &[(4, 51_212)]));
-    lines.read(&joined(&[vec![0; 12_290], vec![0, 0]]));
+    lines.read_parts(&[vec![0; 12_290], vec![0, 0]]);
     lines.read(&file[..20]);
     lines.all(&["withdraw 1 1", "write 100339", "rejudge"]);
 }
