@@ -1,0 +1,5 @@
+pub mod Snapshot
+pub mod Calls
+pub mod Helpers
+pub mod Laws
+pub mod Vectors
