@@ -28,7 +28,7 @@ pub data Command : Type 0 where
 
 -- The most bytes of a line.
 abbrev pub mostLine : ℕ
-mostLine = 16384
+mostLine = 262144
 
 -- The most numbers, or bytes in hex, of a line: each takes two of its bytes.
 abbrev pub mostParts : ℕ

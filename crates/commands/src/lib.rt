@@ -10,7 +10,7 @@ pub mod choice;
 mod tables;
 
 // The most bytes of a line.
-pub const MOST_LINE: usize = 16384;
+pub const MOST_LINE: usize = 262144;
 
 // The most words that a table is lent with.
 pub const MOST_LENT: usize = 16384;
