@@ -1,4 +1,4 @@
-// AS_PATH attributes put together, for streams and tests.
+// Bytes as text, and AS_PATH attributes put together.
 
 /// Lowercase hex, `-` for none.
 pub fn hex(bytes: &[u8]) -> String {

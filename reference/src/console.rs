@@ -1,12 +1,15 @@
 //! The console's commands: one line in, one answer out.
 
+use crate::attributes::hex;
 use crate::judge::{Cause, Judgement, Verdict};
 use crate::words::Form;
 use crate::{AsNumber, Filed, Model, Refusal, RouteNumber, Table};
 
 /// In bytes, the newline not counted.
-pub const LONGEST_LINE: usize = 16_384;
+pub const LONGEST_LINE: usize = 262_144;
 pub const LONGEST_TABLE: u32 = 16_384;
+/// Of `write`, in bytes.
+pub const LONGEST_OUTPUT: u32 = 131_072;
 
 const ERROR: &str = "error";
 const DONE: &str = "done";
@@ -45,6 +48,14 @@ fn run(model: &mut Model, words: &[&str]) -> Option<String> {
             .map(judged),
         ["drop", route] => model.drop(RouteNumber(number(route)?)).map(done),
         ["rejudge"] => model.rejudge().map(|n| format!("changed {n}")),
+        ["write", capacity] => {
+            let capacity = number(capacity).filter(|bytes| *bytes <= LONGEST_OUTPUT)?;
+            let mut output = vec![0; capacity as usize];
+            model
+                .write(&mut output)
+                .map(|length| format!("written {length} {}", hex(&output[..length])))
+        }
+        ["read", hex] => model.read(&bytes(hex)?).map(done),
         ["register"] => Ok(joined(&model.register.used_words())),
         ["ledger"] => Ok(joined(&model.ledger.used_words())),
         ["poke", table, index, value] => {

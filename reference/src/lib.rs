@@ -10,6 +10,7 @@ pub mod attributes;
 pub mod console;
 pub mod judge;
 pub mod random;
+pub mod snapshot;
 pub mod words;
 
 use judge::Judgement;
@@ -105,10 +106,7 @@ impl<T: Form> Table<T> {
         match self {
             Table::Held(held) => held.write(),
             Table::Words(words) => {
-                let count = u64::from(words.first().copied().unwrap_or(0));
-                let body = u64::from(words.get(1).copied().unwrap_or(0));
-                let used = 2 + T::ENTRY as u64 * count + body;
-                words[..used.min(words.len() as u64) as usize].to_vec()
+                words[..T::used(words).min(words.len() as u64) as usize].to_vec()
             }
         }
     }
@@ -295,6 +293,26 @@ impl Model {
             }
         }
         Ok(changed)
+    }
+
+    /// Puts the snapshot into the first bytes of `output`; answers its length.
+    pub fn write(&mut self, output: &mut [u8]) -> Result<usize, Refusal> {
+        self.register.check_length()?;
+        self.ledger.check_length()?;
+        let file = snapshot::write(self.register.open()?, self.ledger.open()?);
+        let part = output.get_mut(..file.len()).ok_or(Refusal::row(21))?;
+        part.copy_from_slice(&file);
+        Ok(file.len())
+    }
+
+    /// Takes both tables from a snapshot. Of what they were, only the lengths count.
+    pub fn read(&mut self, input: &[u8]) -> Result<(), Refusal> {
+        self.register.check_length()?;
+        self.ledger.check_length()?;
+        let (records, routes) = snapshot::read(input)?;
+        self.register = Table::Held(records);
+        self.ledger = Table::Held(routes);
+        Ok(())
     }
 }
 

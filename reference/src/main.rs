@@ -93,11 +93,11 @@ mod tests {
     #[test]
     fn long_lines() {
         let hex = |n: usize| "00".repeat(n);
-        // 12 bytes and 16,372 digits: just not too long
-        let longest = format!("judge 1 200 {}", hex(8_186));
-        assert_eq!(longest.len(), 16_384);
-        let longer = format!("judge 1 20 {}", hex(8_187));
-        assert_eq!(longer.len(), 16_385);
+        // 12 bytes and 262,132 digits: just not too long
+        let longest = format!("judge 1 200 {}", hex(131_066));
+        assert_eq!(longest.len(), 262_144);
+        let longer = format!("judge 1 20 {}", hex(131_067));
+        assert_eq!(longer.len(), 262_145);
         let far = format!("judge 1 20 {}", hex(200_000));
         let input = format!("{longest}\n{longer}\n{far}\nregister\n{longest}");
         let expected = ["refused 11", "error", "error", "0 0", "refused 11"];

@@ -2,6 +2,7 @@ use crate::attributes::{hex, segment};
 use crate::console::answer;
 use crate::judge::{self, slow, Hop};
 use crate::random::Random;
+use crate::snapshot::{number_at, parts, with};
 use crate::words::{padded, Form};
 use crate::*;
 
@@ -575,6 +576,466 @@ fn rejudging_counts_changed_entries() {
     ]);
 }
 
+// Snapshots
+
+/// Two records and two routes: 13 and 22 words, a file of 20 + 52 + 88 bytes.
+const SMALL: [(&str, &str); 4] = [
+    ("file 2 65010 65001 65002", "new"),
+    ("file 0 65010 65003", "new"),
+    ("keep 7 1 20 0202000000140000000a", "Unknown 2 0"),
+    ("keep 9 4 5 -", "Invalid ground 1"),
+];
+
+fn small_tables() -> Model {
+    let mut model = Model::new();
+    check(&mut model, &SMALL);
+    model
+}
+
+fn written(model: &mut Model) -> Vec<u8> {
+    let mut output = vec![0; 131_072];
+    let length = model.write(&mut output).unwrap();
+    output.truncate(length);
+    output
+}
+
+/// The row that refuses, 0 for none.
+fn row<T>(result: Result<T, Refusal>) -> u8 {
+    result.map_or_else(|refusal| refusal.row, |_| 0)
+}
+
+fn same_words(one: &Model, other: &Model) -> bool {
+    one.register.words() == other.register.words() && one.ledger.words() == other.ledger.words()
+}
+
+#[test]
+fn snapshots_by_hand() {
+    let empty = "0000000100000014000000080000001c0000000800000000000000000000000000000000";
+    run(&[
+        ("write 0", "refused 21"),
+        ("write 35", "refused 21"),
+        ("write 36", &format!("written 36 {empty}")),
+        ("write 37", &format!("written 36 {empty}")),
+        ("write 131072", &format!("written 36 {empty}")),
+        ("write 131073", "error"),
+        (&format!("read {empty}"), "done"),
+        ("words register", "12290"),
+        ("words ledger", "12802"),
+    ]);
+    let contents = "00000001 00000014 00000034 00000048 00000058";
+    let register = "00000002 00000003 0000fdf2 00000000 00000000 00000001 0000fdf2 00000002 \
+                    00000001 00000002 0000fdeb 0000fde9 0000fdea";
+    let ledger = "00000002 00000002 00000007 00000001 00000014 00000000 00000002 00000002 \
+                  00000000 00000000 00000002 00000009 00000004 00000005 00000001 00000001 \
+                  00000000 00000000 00000002 00000000 00000014 0000000a";
+    let file = format!("{contents}{register}{ledger}").replace(' ', "");
+    let mut model = small_tables();
+    let after = model.clone();
+    check(
+        &mut model,
+        &[
+            ("write 159", "refused 21"),
+            ("write 160", &format!("written 160 {file}")),
+            ("write 161", &format!("written 160 {file}")),
+            ("empty", "done"),
+            (&format!("read {file}"), "done"),
+        ],
+    );
+    assert!(same_words(&model, &after));
+}
+
+#[test]
+fn writing_in_order() {
+    let mut model = small_tables();
+    check(
+        &mut model,
+        &[
+            // both lengths go before row 2
+            ("poke register 0 4294967295", "done"),
+            ("resize ledger 12801", "done"),
+            ("write 0", "refused 1"),
+            ("write 131072", "refused 1"),
+            ("resize ledger 12803", "done"),
+            ("write 131072", "refused 1"),
+            ("resize ledger 12802", "done"),
+            ("poke ledger 0 4294967295", "done"),
+            ("write 0", "refused 2"),
+            ("poke register 0 2", "done"),
+            ("write 0", "refused 3"),
+            ("write 131072", "refused 3"),
+            ("poke ledger 0 2", "done"),
+            ("write 159", "refused 21"),
+            ("resize register 12291", "done"),
+            ("write 159", "refused 1"),
+            ("resize register 12289", "done"),
+            ("write 160", "refused 1"),
+            ("resize register 12290", "done"),
+        ],
+    );
+    let file = written(&mut small_tables());
+    assert_eq!(written(&mut model), file);
+    // a refused write leaves the output, an accepted one what is past the file
+    for length in 0..170 {
+        let mut output = vec![0xa5; length];
+        if length < 160 {
+            assert_eq!(model.write(&mut output), Err(Refusal::row(21)));
+            assert_eq!(output, vec![0xa5; length]);
+        } else {
+            assert_eq!(model.write(&mut output), Ok(160));
+            assert_eq!(output, [file.clone(), vec![0xa5; length - 160]].concat());
+        }
+    }
+    for poke in ["register 12289 1", "ledger 12801 1"] {
+        let mut model = small_tables();
+        check(&mut model, &[(&format!("poke {poke}"), "done")]);
+        let mut output = vec![0xa5; 200];
+        assert!(model.write(&mut output).is_err());
+        assert_eq!(output, vec![0xa5; 200]);
+    }
+    // other words, still well formed, are the ones written
+    check(&mut model, &[("poke register 10 0", "done"), ("poke ledger 7 64", "done")]);
+    assert_eq!(written(&mut model), with(&file, &[(15, 0), (25, 64)]));
+}
+
+/// Each row of a read given beside all those after it.
+#[test]
+fn reading_in_order() {
+    let file = written(&mut small_tables());
+    let mut model = Model::new();
+    let mut expect = |input: &[u8], expected: u8| {
+        let before = model.clone();
+        assert_eq!(row(model.read(input)), expected, "{}", hex(input));
+        assert!(expected == 0 || same_words(&model, &before));
+    };
+    for length in 0..20 {
+        expect(&file[..length], 24);
+        expect(&vec![0xff; length], 24);
+        expect(&vec![0; length], 24);
+    }
+    for edition in [0, 2, 3, 256, 257, 65_537, 1 << 24, (1 << 24) + 1, u32::MAX] {
+        let worse = with(&file, &[(0, edition), (1, 0), (4, 3), (5, 9), (18, 9)]);
+        for input in [&with(&file, &[(0, edition)]), &worse, &worse[..20], &worse[..159]] {
+            expect(input, 22);
+        }
+    }
+    let both = with(&file, &[(5, 9), (18, 9)]);
+    let wrong = with(&both, &[(4, 90)]);
+    for input in [&wrong, &wrong[..20], &wrong[..159], &[&wrong[..], &[0]].concat()] {
+        expect(input, 23);
+    }
+    for input in [&both[..20], &both[..156], &both[..159], &[&both[..], &[0]].concat()] {
+        expect(input, 24);
+    }
+    for more in [1, 2, 3, 4, 20, 160] {
+        expect(&[file.clone(), vec![0; more]].concat(), 24);
+    }
+    expect(&both, 2);
+    expect(&with(&file, &[(18, 9)]), 3);
+    expect(&file, 0);
+    // row 1 goes before them all, and speaks of the lent tables alone
+    for resize in [
+        "resize register 12289", "resize register 12291", "resize register 0",
+        "resize ledger 12801", "resize ledger 12803", "resize ledger 0",
+    ] {
+        let mut model = small_tables();
+        check(
+            &mut model,
+            &[("poke register 0 9", "done"), (resize, "done"), ("read -", "refused 1")],
+        );
+        let before = model.clone();
+        for input in [&file[..], &[], &both, &wrong, &with(&file, &[(0, 2)])] {
+            assert_eq!(row(model.read(input)), 1, "{resize}");
+            assert!(same_words(&model, &before));
+        }
+    }
+}
+
+#[test]
+fn contents_of_a_snapshot() {
+    let file = written(&mut small_tables());
+    const TOP: u32 = u32::MAX;
+    let one = |field: usize, values: &[u32], expected: u8| {
+        values.iter().map(|v| (vec![(field, *v)], expected)).collect::<Vec<_>>()
+    };
+    // the register's length, with the second start to match or as near as four bytes come
+    let longer = |values: &[u32], expected: u8| {
+        let fields = |v: &u32| (vec![(2, *v), (3, v.wrapping_add(20))], expected);
+        values.iter().map(fields).collect::<Vec<_>>()
+    };
+    let cases = [
+        one(1, &[0, 8, 16, 19, 21, 24, 72, 20 << 24, TOP], 23),
+        one(2, &[0, 4, 7, 8, 9, 48, 51, 53, 56, 49_160, 49_164, TOP], 23),
+        one(3, &[0, 20, 68, 71, 73, 76, 72 << 24, TOP], 23),
+        one(4, &[0, 4, 7, 9, 87, 89, 51_209, 51_212, 88 << 24, 1 << 31, TOP - 3, TOP], 23),
+        one(4, &[8, 84, 92, 51_204, 51_208], 24),
+        longer(&[0, 4, 7, 9, 51, 53, 49_161, 49_164, 1 << 31, TOP - 19, TOP - 7, TOP - 3, TOP], 23),
+        longer(&[8, 48, 56, 49_156, 49_160], 24),
+        // the two lengths make the file's whole, the seam is elsewhere
+        vec![(vec![(2, 56), (3, 76), (4, 84)], 2), (vec![(2, 48), (3, 68), (4, 92)], 2)],
+        vec![(vec![(2, 54), (3, 74), (4, 86)], 23), (vec![(2, 140), (3, 160), (4, 0)], 23)],
+        // and so by sums that wrap round
+        vec![
+            (vec![(2, TOP - 3), (3, 16), (4, 144)], 23),
+            (vec![(2, 144), (3, 164), (4, TOP - 3)], 23),
+        ],
+        // the ledger in front
+        vec![(vec![(1, 108), (2, 52), (3, 20), (4, 88)], 23)],
+    ];
+    for (fields, expected) in cases.concat() {
+        let input = with(&file, &fields);
+        assert_eq!(row(Model::new().read(&input)), expected, "{fields:?}");
+        // by the contents alone, whatever follows them
+        let short = if expected == 23 { 23 } else { 24 };
+        assert_eq!(row(Model::new().read(&input[..20])), short, "{fields:?}");
+    }
+    // a gap that the contents tell of is a wrong start
+    let gap = [&with(&file, &[(3, 76)])[..72], &[0; 4], &file[72..]].concat();
+    assert_eq!(row(Model::new().read(&gap)), 23);
+    // low byte first, all of it or the bodies alone
+    let low: Vec<u8> = file.chunks(4).flat_map(|n| n.iter().rev().copied()).collect();
+    assert_eq!(row(Model::new().read(&low)), 22);
+    assert_eq!(row(Model::new().read(&[&file[..20], &low[20..]].concat())), 2);
+    assert_eq!(row(Model::new().read(&[&file[..72], &low[72..]].concat())), 3);
+}
+
+/// The file with other words of its register (part 0) or ledger (part 1).
+fn with_part(file: &[u8], part: usize, words: &[u32]) -> Vec<u8> {
+    let mut parts = parts(file);
+    parts[part] = words.to_vec();
+    snapshot::file(&parts[0], &parts[1])
+}
+
+#[test]
+fn lengths_unlike_the_counts() {
+    let mut model = small_tables();
+    let file = written(&mut model);
+    let tables = [model.register.used_words(), model.ledger.used_words()];
+    for (part, damaged) in [(0, 2), (1, 3)] {
+        let words = &tables[part];
+        let expect = |words: &[u32], expected: u8| {
+            let input = with_part(&file, part, words);
+            assert_eq!(row(Model::new().read(&input)), expected, "{part} {words:?}");
+        };
+        expect(words, 0);
+        // zeros that the table has too, but not among its used words
+        expect(&[&words[..], &[0]].concat(), damaged);
+        expect(&[&words[..], &[0; 100]].concat(), damaged);
+        expect(&words[..words.len() - 1], damaged);
+        expect(&words[..2], damaged);
+        expect(&[0, 0], 0);
+        expect(&[0, 0, 0], damaged);
+        expect(&padded(vec![0, 0], [12_290, 12_802][part]), damaged);
+        expect(&padded(words.clone(), [12_290, 12_802][part]), damaged);
+        // used words that are zero, and so would be there without the file
+        let zeros = [&[1, 1, 5, 0, 0, 1, 0][..], &[1, 0, 7, 4, 5, 1, 1, 0, 0, 0, 0]][part];
+        expect(zeros, 0);
+        for length in [6, 7][part]..zeros.len() {
+            expect(&zeros[..length], damaged);
+        }
+        // counts whose sum, in words or in bytes, wraps round to what is there
+        for counts in [
+            [1 << 28, 0],
+            [1 << 30, 0],
+            [0, 1 << 30],
+            [1 << 31, 1 << 31],
+            [1 << 30, 3 << 30],
+            [477_218_589, 4_294_967_291],
+            [u32::MAX, 4],
+            [u32::MAX, 9],
+            [u32::MAX, u32::MAX],
+        ] {
+            expect(&counts, damaged);
+        }
+    }
+}
+
+#[test]
+fn snapshots_of_random_tables_are_read_back() {
+    let mut random = Random::new(9);
+    let mut earlier = Model::new();
+    for _ in 0..300 {
+        let mut model = Model {
+            register: Table::Held(random_records_of(&mut random, 200, 60, 9)),
+            ledger: Table::Held(random_routes(&mut random)),
+        };
+        let file = written(&mut model);
+        let used = model.register.used_words().len() + model.ledger.used_words().len();
+        assert_eq!(file.len(), 20 + 4 * used);
+        // into any tables of the right lengths, damaged ones too
+        match random.below(4) {
+            0 => {
+                earlier.register.poke(random.below(12_290), random.draw() as u32);
+                earlier.ledger.poke(random.below(12_802), random.draw() as u32);
+            }
+            1 => {
+                earlier.register = Table::Words(vec![u32::MAX; 12_290]);
+                earlier.ledger = Table::Words(vec![u32::MAX; 12_802]);
+            }
+            2 => earlier = Model::new(),
+            _ => {}
+        }
+        assert_eq!(earlier.read(&file), Ok(()));
+        assert!(same_words(&earlier, &model));
+        assert_eq!(written(&mut earlier), file);
+    }
+}
+
+#[test]
+fn a_full_snapshot() {
+    let list = |first: u32| (first..first + 8).map(AsNumber).collect::<Vec<_>>();
+    let mut model = Model::new();
+    for customer in 1..=1_024 {
+        model.file(customer % 8, AsNumber(customer), &list(customer)).unwrap();
+    }
+    for route in 0..512 {
+        let path: Vec<u32> = (route + 1..=route + 16).collect();
+        model.keep(RouteNumber(route), 1, AsNumber(route + 1), &segment(2, &path)).unwrap();
+    }
+    let file = written(&mut model);
+    assert_eq!(file.len(), 100_388);
+    assert_eq!(&file[8..20], [[0, 0, 192, 8], [0, 0, 192, 28], [0, 0, 200, 8]].concat());
+    assert_eq!(row(model.write(&mut vec![0; 100_387])), 21);
+    let mut other = small_tables();
+    assert_eq!(row(other.read(&file[..100_387])), 24);
+    assert_eq!(row(other.read(&[&file[..], &[0]].concat())), 24);
+    assert_eq!(row(other.read(&with(&file, &[(25_096, 0)]))), 3);
+    assert_eq!(row(other.read(&with(&file, &[(12_294, 1)]))), 2);
+    assert!(same_words(&other, &small_tables()));
+    assert_eq!(other.read(&file), Ok(()));
+    assert!(same_words(&other, &model));
+}
+
+/// A read leaves verdicts as the file has them, and a re-judging mends them.
+#[test]
+fn stale_verdicts_in_a_snapshot() {
+    let mut model = small_tables();
+    check(&mut model, &[("file 0 10 20", "new")]);
+    let read = format!("read {}", hex(&written(&mut model)));
+    let stale = "2 2 7 1 20 0 2 2 0 0 2 9 4 5 1 1 0 0 2 0 20 10";
+    check(
+        &mut model,
+        &[
+            ("empty", "done"),
+            (&read, "done"),
+            ("ledger", stale),
+            ("rejudge", "changed 1"),
+            ("ledger", "2 2 7 1 20 0 0 0 0 0 2 9 4 5 1 1 0 0 2 0 20 10"),
+            ("rejudge", "changed 0"),
+            (&read, "done"),
+            ("ledger", stale),
+            // the tables go on from there
+            ("withdraw 0 10", "done"),
+            ("withdraw 0 10", "refused 7"),
+            ("rejudge", "changed 0"),
+            ("keep 7 1 20 -", "refused 18"),
+            ("drop 9", "done"),
+        ],
+    );
+}
+
+/// The rows of a read by another way: each by itself, and of those given the
+/// first in the order of the calls.
+fn rows_of_a_read(input: &[u8]) -> u8 {
+    let number = |index: usize| -> i128 {
+        let bytes = input.iter().skip(4 * index).take(4);
+        bytes.fold(0, |high, low| high * 256 + i128::from(*low))
+    };
+    let (length, [first, second]) = (input.len() as i128, [number(2), number(4)]);
+    let starts = number(1) == 20 && number(3) - number(2) == 20;
+    let lengths = [first, second].iter().all(|n| *n > 7 && n & 3 == 0);
+    let tables = first < 49_161 && second < 51_209;
+    let part = |start: i128, length: i128, entry: i128, whole: usize| {
+        let (start, words) = (start as usize / 4, length as usize / 4);
+        let exact = number(start) * entry + number(start + 1) + 2 == words as i128;
+        let words = (start..start + words).map(|index| number(index) as u32).collect();
+        (exact, padded(words, whole))
+    };
+    let register = || {
+        let (exact, words) = part(20, first, 4, 12_290);
+        exact && register_by_rewriting(&words)
+    };
+    let ledger = || {
+        let (exact, words) = part(20 + first, second, 9, 12_802);
+        exact && ledger_by_rewriting(&words)
+    };
+    let rows: [(u8, &dyn Fn() -> bool); 6] = [
+        (24, &|| length < 20),
+        (22, &|| number(0) != 1),
+        (23, &|| !(starts && lengths && tables)),
+        (24, &|| length - first - second != 20),
+        (2, &|| !register()),
+        (3, &|| !ledger()),
+    ];
+    rows.iter().find(|(_, given)| given()).map_or(0, |(row, _)| *row)
+}
+
+fn damaged_snapshot(random: &mut Random, file: &[u8]) -> Vec<u8> {
+    let mut file = file.to_vec();
+    for _ in 0..random.pick(&[1, 1, 1, 2, 3]) {
+        let length = file.len();
+        match random.below(8) {
+            0 if length > 0 => file[random.below(length)] = random.draw() as u8,
+            1 if length > 0 => file.swap(random.below(length), random.below(length)),
+            2 => file.truncate(random.below(length + 1)),
+            3 => file.resize(length + random.pick(&[1, 2, 3, 4, 8]), 0),
+            4 if length >= 20 => {
+                let index = random.below(5);
+                let steps = [1, 4, 1u32.wrapping_neg(), 4u32.wrapping_neg(), 1 << 31];
+                let number = number_at(&file, index).wrapping_add(random.pick(&steps));
+                file = with(&file, &[(index, number)]);
+            }
+            5 if length >= 24 => {
+                let index = random.between(5, length / 4 - 1);
+                let steps = [1, 1u32.wrapping_neg(), 2, 64];
+                let number = number_at(&file, index).wrapping_add(random.pick(&steps));
+                file = with(&file, &[(index, number)]);
+            }
+            6 if [0, 2, 3].contains(&rows_of_a_read(&file)) => {
+                // one word more or less, and contents to match
+                let part = random.below(2);
+                let mut words = parts(&file)[part].clone();
+                if random.percent(50) {
+                    words.push(random.pick(&[0, 0, 1]));
+                } else {
+                    words.pop();
+                }
+                file = with_part(&file, part, &words);
+            }
+            _ => {}
+        }
+    }
+    file
+}
+
+#[test]
+fn damaged_snapshots_by_another_way() {
+    let mut random = Random::new(10);
+    let mut seen = std::collections::BTreeMap::new();
+    let mut model = Model::new();
+    for _ in 0..6_000 {
+        let mut tables = Model {
+            register: Table::Held(random_records_of(&mut random, 6, 6, 4)),
+            ledger: Table::Held(random_routes(&mut random)),
+        };
+        let mut file = written(&mut tables);
+        if random.percent(95) {
+            file = damaged_snapshot(&mut random, &file);
+        }
+        let before = model.clone();
+        let row = row(model.read(&file));
+        assert_eq!(row, rows_of_a_read(&file), "{}", hex(&file));
+        if row == 0 {
+            assert_eq!(written(&mut model), file);
+        } else {
+            assert!(same_words(&model, &before));
+        }
+        *seen.entry(row).or_insert(0) += 1;
+    }
+    for row in [0, 2, 3, 22, 23, 24] {
+        assert!(seen[&row] > 100, "{seen:?}");
+    }
+}
+
 // The console's errors
 
 #[test]
@@ -593,7 +1054,9 @@ fn no_commands() {
         "poke register 12290 0", "poke ledger 12802 0", "poke table 0 0", "poke register 0",
         "poke register 0 0 0", "poke register 4294967295 1", "resize register",
         "resize register 16385", "resize x 1", "resize register -1", "words", "words x",
-        "words register x", "empty x", "empty ", "file 0 1 2\r",
+        "words register x", "empty x", "empty ", "file 0 1 2\r", "write", "write x", "write -",
+        "write 131073", "write 4294967296", "write 036", "write 36 36", "read", "read 0",
+        "read 0A", "read 000", "read - -", "read 00 00", "read ",
     ] {
         check(&mut model, &[(line, "error")]);
     }

@@ -19,6 +19,13 @@ pub trait Form: Default {
     fn read(words: &[u32]) -> Self;
     /// Up to the last body word.
     fn write(&self) -> Vec<u32>;
+
+    /// How many words the two counts make used, which in a table that breaks
+    /// the rules may be more than it has.
+    fn used(words: &[u32]) -> u64 {
+        let count = |index: usize| u64::from(words.get(index).copied().unwrap_or(0));
+        2 + Self::ENTRY as u64 * count(0) + count(1)
+    }
 }
 
 pub fn padded(mut words: Vec<u32>, length: usize) -> Vec<u32> {

@@ -2,4 +2,3 @@ pub mod Snapshot
 pub mod Calls
 pub mod Helpers
 pub mod Laws
-pub mod Vectors

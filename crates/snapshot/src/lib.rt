@@ -5,6 +5,7 @@ use types::Written;
 ghost use mathlib.Core.Path.{_≡_};
 ghost use mathlib.Core.Bool.{_&&_};
 ghost use mathlib.Core.List.{[], _∷_};
+ghost use mathlib.Core.Option.{none};
 ghost use Prim.Native.Nat.{_+_, _*_, _%_, _≤_, _<_, _^_};
 ghost use lib.Dec.{eqb};
 ghost use lib.ListN.{length, getD, replicate};
@@ -12,7 +13,7 @@ ghost use lib.Seq.{sets};
 ghost use Rattle.register.specs.Register.{registerWords, recordWidth, registerOk};
 ghost use Rattle.ledger.specs.Routes.{ledgerWords, routeWidth, ledgerOk};
 ghost use Rattle.types.specs.Rows.{firstGiven, effect};
-ghost use Rattle.snapshot.specs.Snapshot.{wordBytes, bytesOf, wordsIn, contentsBytes, usedCount, usedBytes, snapshotOf, field as fieldOf, lengthOk, contentsOk};
+ghost use Rattle.snapshot.specs.Snapshot.{wordBytes, bytesOf, wordsIn, contentsBytes, usedCount, usedBytes, snapshotOf, field as fieldOf, lengthOk, contentsOk, registerIn, ledgerIn, registerInOk, ledgerInOk};
 ghost use Rattle.snapshot.specs.Calls.{over, writeEffect, contentsRows, reading, readEffect};
 ghost use Rattle.snapshot.specs.Helpers.{Writable, answerBy, Loadable};
 
@@ -23,6 +24,9 @@ const WORD: usize = 4;
 
 // The bytes of the contents.
 const CONTENTS: usize = 20;
+
+// The bytes of a table's two counts, the least that it has.
+const COUNTS: usize = WORD * table::COUNTERS;
 
 // ---- bytes and words
 
@@ -84,10 +88,10 @@ fn pack(words: &[u32], into: &mut [u8], at: usize)
     }
 }
 
-// How many words of a table are used, where a slot has so many words.
+// How many words of a table are used, where a slot has so many words. In a well-formed table they do not lead past its end.
 fn used(table: &[u32], slot: usize) -> usize
-    requires { ⌜ (2 ≤ length (now table)) × (slot < 2 ^ 4) ⌝ }
-    ensures { λ r. ⌜ (r ≡ usedCount slot (now (table .entry))) × (r < 2 ^ 37) ⌝ }
+    requires { ⌜ usedCount slot (now table) ≤ length (now table) ⌝ }
+    ensures { λ r. ⌜ r ≡ usedCount slot (now (table .entry)) ⌝ }
 {
     table::COUNTERS + table::word(table, 0) * slot + table::word(table, 1)
 }
@@ -154,7 +158,7 @@ fn is_length(bytes: usize, most: usize) -> bool
     requires { ⌜ most < 2 ^ 16 ⌝ }
     ensures { λ r. ⌜ r ≡ lengthOk bytes most ⌝ }
 {
-    if bytes < WORD * table::COUNTERS {
+    if bytes < COUNTS {
         return false;
     }
     if bytes % WORD != 0 {
@@ -235,21 +239,39 @@ fn no_ledger() -> [u32; ledger::WORDS]
     [0; ledger::WORDS]
 }
 
+// The file's register, in a table of zeros, and whether row 2 is not given.
+fn take_register(file: &[u8], into: &mut [u32]) -> bool
+    requires { ⌜ (firstGiven (contentsRows (now file)) ≡ none) × (now into ≡ replicate registerWords 0) ⌝ }
+    ensures { λ r. ⌜ (r ≡ registerInOk (now (file .entry))) × (now (into .exit) ≡ registerIn (now (file .entry))) ⌝ }
+{
+    let r = field(file, 2);
+    let end = CONTENTS + r;
+    unpack(&file[CONTENTS..end], into, 0);
+    is_register(into, r)
+}
+
+// The file's ledger, likewise, and row 3.
+fn take_ledger(file: &[u8], into: &mut [u32]) -> bool
+    requires { ⌜ (firstGiven (contentsRows (now file)) ≡ none) × (now into ≡ replicate ledgerWords 0) ⌝ }
+    ensures { λ r. ⌜ (r ≡ ledgerInOk (now (file .entry))) × (now (into .exit) ≡ ledgerIn (now (file .entry))) ⌝ }
+{
+    let start = CONTENTS + field(file, 2);
+    let l = field(file, 4);
+    unpack(&file[start..], into, 0);
+    is_ledger(into, l)
+}
+
 // Rows 2 and 3. The file's words are checked in tables of our own before a lent word changes.
 fn load(file: &[u8], reg: &mut [u32], led: &mut [u32]) -> Restored
     requires { ⌜ Loadable (now file) (now reg) (now led) ⌝ }
     ensures { λ r. ⌜ reading r (now (reg .exit)) (now (led .exit)) ≡ readEffect (now (file .entry)) (now (reg .entry)) (now (led .entry)) ⌝ }
 {
-    let r = field(file, 2);
-    let next = CONTENTS + r;
     let mut first = no_register();
-    unpack(&file[CONTENTS..next], &mut first, 0);
-    if !is_register(&first, r) {
+    if !take_register(file, &mut first) {
         return Restored::Refused(Refusal::RegisterMalformed);
     }
     let mut second = no_ledger();
-    unpack(&file[next..], &mut second, 0);
-    if !is_ledger(&second, file.len() - next) {
+    if !take_ledger(file, &mut second) {
         return Restored::Refused(Refusal::RoutesMalformed);
     }
     runs::paste(reg, 0, &first);

@@ -1,9 +1,12 @@
 //! Commands for the console: `streams SEED COUNT` writes COUNT random ones,
-//! the same for the same seed; `streams vectors` writes the fixed vectors.
+//! the same for the same seed; `streams vectors` writes the fixed vectors;
+//! `streams recorded` writes crates/console/stdin, to which the second
+//! program's answers are crates/console/stdout.
 
 use reference::attributes::{hex, segment};
 use reference::console;
 use reference::random::Random;
+use reference::snapshot::{self, number_at, parts, with, CONTENTS};
 use reference::{AsNumber, Model, Table, GREATEST_SOURCE, LONGEST_ATTRIBUTE, MOST_BODY_WORDS};
 use std::io::{self, BufWriter, Write};
 use std::process::ExitCode;
@@ -14,6 +17,7 @@ fn main() -> ExitCode {
     let mut out = BufWriter::new(io::stdout().lock());
     let written = match arguments[..] {
         ["vectors"] => vectors().iter().try_for_each(|line| writeln!(out, "{line}")),
+        ["recorded"] => recorded(&mut out),
         [seed, count] => match (seed.parse(), count.parse()) {
             (Ok(seed), Ok(count)) => random_stream(seed, count, |line, _| writeln!(out, "{line}")),
             _ => return usage(),
@@ -32,7 +36,7 @@ fn main() -> ExitCode {
 }
 
 fn usage() -> ExitCode {
-    eprintln!("usage: streams SEED COUNT | streams vectors");
+    eprintln!("usage: streams SEED COUNT | streams vectors | streams recorded");
     ExitCode::from(2)
 }
 
@@ -49,6 +53,16 @@ fn numbers(list: &[u32]) -> String {
 const REGISTER: &str = "register";
 const LEDGER: &str = "ledger";
 
+// Snapshots
+
+/// The file of well-formed tables.
+fn file_of(model: &Model) -> Option<Vec<u8>> {
+    let mut output = vec![0; console::LONGEST_OUTPUT as usize];
+    let length = model.clone().write(&mut output).ok()?;
+    output.truncate(length);
+    Some(output)
+}
+
 // Random streams
 
 /// Gives COUNT commands to `write`, each with the model's answer.
@@ -58,7 +72,9 @@ fn random_stream(
     write: impl FnMut(&str, &str) -> io::Result<()>,
 ) -> io::Result<()> {
     let model = Model::new();
-    let mut stream = Stream { random: Random::new(seed), model, left: count, write, failed: None };
+    let files = file_of(&model).into_iter().collect();
+    let random = Random::new(seed);
+    let mut stream = Stream { random, model, files, left: count, write, failed: None };
     while stream.left > 0 {
         stream.round();
     }
@@ -70,6 +86,8 @@ fn random_stream(
 struct Stream<W> {
     random: Random,
     model: Model,
+    /// Short snapshots of earlier tables, one at least.
+    files: Vec<Vec<u8>>,
     left: usize,
     write: W,
     failed: Option<io::Error>,
@@ -102,6 +120,7 @@ impl<W: FnMut(&str, &str) -> io::Result<()>> Stream<W> {
             Self::single_words,
             Self::single_words,
         ];
+        phases.extend([Self::snapshots as Phase<Self>; 5]);
         phases.extend([Self::ordinary as Phase<Self>; 12]);
         for damage in [
             |s: &mut Self| s.damage(REGISTER, Self::resize),
@@ -432,6 +451,125 @@ impl<W: FnMut(&str, &str) -> io::Result<()>> Stream<W> {
         self.say(&format!("drop {route}"));
     }
 
+    /// With room for about the file that it gives, or for any.
+    fn write(&mut self) {
+        let file = file_of(&self.model).unwrap_or_default();
+        let length = file.len();
+        if (1..=SHORT_FILE).contains(&length) {
+            if self.files.len() == MOST_FILES {
+                self.files.remove(0);
+            }
+            self.files.push(file);
+        }
+        let capacity = match self.random.below(20) {
+            0..=6 => length,
+            7..=11 => length.saturating_sub(1),
+            12 | 13 => length + 1,
+            14 => self.random.below(2 * length + 40),
+            15..=17 => console::LONGEST_OUTPUT as usize,
+            _ => self.random.pick(&[0, 19, 20, 35, 36, 100_387, 100_388, 131_073]),
+        };
+        self.say(&format!("write {capacity}"));
+    }
+
+    /// A snapshot of the tables as they are or as they were, or hardly one.
+    fn read(&mut self) {
+        let earlier = self.random.pick(&self.files);
+        let mut file = match file_of(&self.model) {
+            // Long lines are rare, or a stream would have little else.
+            Some(now) if self.random.percent(if now.len() > SHORT_FILE { 20 } else { 60 }) => now,
+            _ => earlier,
+        };
+        if self.random.percent(6) {
+            file = self.any_bytes();
+        }
+        for _ in 0..self.random.pick(&[0, 0, 1, 1, 1, 1, 2]) {
+            file = self.damaged(file);
+        }
+        self.say(&format!("read {}", hex(&file)));
+    }
+
+    fn any_bytes(&mut self) -> Vec<u8> {
+        let mut bytes: Vec<u8> = (0..self.random.below(70))
+            .map(|_| self.random.pick(&[0, 0, 0, 1, 8, 20, 28]))
+            .collect();
+        let right = snapshot::file(&[0, 0], &[0, 0]);
+        let kept = self.random.pick(&[0, 4, 8, 16, 20]).min(bytes.len());
+        bytes[..kept].copy_from_slice(&right[..kept]);
+        bytes
+    }
+
+    /// A snapshot with one thing about it changed.
+    fn damaged(&mut self, mut file: Vec<u8>) -> Vec<u8> {
+        let length = file.len();
+        // Damaged before, it may have no whole contents, or none that are right.
+        let whole = length >= 36
+            && u64::from(number_at(&file, 3)) == 20 + u64::from(number_at(&file, 2))
+            && (28..length).contains(&(number_at(&file, 3) as usize))
+            && length.is_multiple_of(4);
+        match self.random.below(20) {
+            0 | 1 if length > 0 => {
+                let at = self.random.below(length);
+                let steps = [1, 255, 2, 64, 128];
+                file[at] = file[at].wrapping_add(self.random.pick(&steps));
+            }
+            2 if length > 0 => file.swap(self.random.below(length), self.random.below(length)),
+            3 | 4 => {
+                let most = self.random.pick(&[1, 2, 4, 8, length, length]);
+                file.truncate(length - self.random.below(most.min(length) + 1));
+            }
+            5 => file.truncate(self.random.pick(&[0, 1, 4, 19, 20, 21, 28])),
+            6 => {
+                let more = self.random.pick(&[1, 2, 3, 4, 8, 40]);
+                file.resize(length + more, self.random.pick(&[0, 1, 255]));
+            }
+            7..=10 if length >= CONTENTS => {
+                let field = self.random.pick(&[0, 1, 2, 2, 3, 4, 4]);
+                let lengths = [0, 4, 8, 12, 20, 49_160, 49_164, 51_208, 51_212, 1 << 31];
+                let old = number_at(&file, field);
+                let mut number = match self.random.below(6) {
+                    0 | 1 => old.wrapping_add(1),
+                    2 => old.wrapping_sub(1),
+                    3 => old.wrapping_add(4),
+                    4 => old.wrapping_sub(4),
+                    _ => self.random.pick(&lengths),
+                };
+                if self.random.percent(10) {
+                    number = number.rotate_left(8);
+                }
+                file = with(&file, &[(field, number)]);
+                if field == 2 && self.random.percent(60) {
+                    file = with(&file, &[(3, number.wrapping_add(20))]);
+                }
+            }
+            11..=15 if length >= 28 => {
+                let index = self.random.between(5, length / 4 - 1);
+                let old = number_at(&file, index);
+                let edges = [0, 1, 2, 3, 4, 7, 8, 64, 65, u32::MAX, 1 << 28, 1 << 30];
+                let number = match self.random.below(6) {
+                    0..=2 => old.wrapping_add(1),
+                    3 => old.wrapping_sub(1),
+                    _ => self.random.pick(&edges),
+                };
+                file = with(&file, &[(index, number)]);
+            }
+            16..=18 if whole => {
+                // a word more or less at the end of a table, and contents to match
+                let mut parts = parts(&file);
+                let part = &mut parts[self.random.below(2)];
+                if self.random.percent(60) {
+                    part.push(self.random.pick(&[0, 0, 0, 1]));
+                } else {
+                    part.pop();
+                }
+                file = snapshot::file(&parts[0], &parts[1]);
+            }
+            19 => file = file.chunks(4).flat_map(|n| n.iter().rev().copied()).collect(),
+            _ => {}
+        }
+        file
+    }
+
     /// The used words, or in a damaged table, where the counts need not say
     /// which those are, all words.
     fn show(&mut self, table: &str) {
@@ -457,9 +595,11 @@ impl<W: FnMut(&str, &str) -> io::Result<()>> Stream<W> {
             315..=634 => self.judge(),
             635..=844 => self.keep(),
             845..=929 => self.drop(),
-            930..=969 => self.say("rejudge"),
-            970..=981 => self.show(REGISTER),
-            982..=993 => self.show(LEDGER),
+            930..=965 => self.say("rejudge"),
+            966..=976 => self.show(REGISTER),
+            977..=987 => self.show(LEDGER),
+            988..=990 => self.write(),
+            991..=993 => self.read(),
             _ => self.bad_line(),
         }
     }
@@ -517,7 +657,21 @@ impl<W: FnMut(&str, &str) -> io::Result<()>> Stream<W> {
             self.say("rejudge");
         }
         self.show(REGISTER);
+        self.long_snapshot();
         self.clear();
+    }
+
+    /// Tables as they are, now and then written and read back.
+    fn long_snapshot(&mut self) {
+        let Some(file) = file_of(&self.model) else { return };
+        if self.random.percent(40) {
+            let capacity = file.len() - self.random.below(2);
+            self.say(&format!("write {capacity}"));
+        }
+        if self.random.percent(40) {
+            let file = if self.random.percent(30) { self.damaged(file) } else { file };
+            self.say(&format!("read {}", hex(&file)));
+        }
     }
 
     /// Up to 8,192 numbers in lists, then at the limit.
@@ -551,6 +705,7 @@ impl<W: FnMut(&str, &str) -> io::Result<()>> Stream<W> {
         if self.random.percent(30) {
             self.show(REGISTER);
         }
+        self.long_snapshot();
         self.clear_all();
     }
 
@@ -582,6 +737,7 @@ impl<W: FnMut(&str, &str) -> io::Result<()>> Stream<W> {
         if self.random.percent(40) {
             self.show(LEDGER);
         }
+        self.long_snapshot();
         self.fewer_routes();
     }
 
@@ -612,6 +768,7 @@ impl<W: FnMut(&str, &str) -> io::Result<()>> Stream<W> {
         if self.random.percent(30) {
             self.show(LEDGER);
         }
+        self.long_snapshot();
         self.fewer_routes();
     }
 
@@ -642,10 +799,17 @@ impl<W: FnMut(&str, &str) -> io::Result<()>> Stream<W> {
         }
         // Every call once at least
         type Call<S> = fn(&mut S);
-        let all: [Call<Self>; 7] =
-            [Self::file, Self::withdraw, Self::clear, Self::judge, Self::keep, Self::drop, |s| {
-                s.say("rejudge")
-            }];
+        let all: [Call<Self>; 9] = [
+            Self::file,
+            Self::withdraw,
+            Self::clear,
+            Self::judge,
+            Self::keep,
+            Self::drop,
+            |s| s.say("rejudge"),
+            Self::write,
+            Self::read,
+        ];
         let mut calls = all.to_vec();
         for _ in 0..self.random.below(6) {
             calls.push(self.random.pick(&all));
@@ -814,16 +978,44 @@ impl<W: FnMut(&str, &str) -> io::Result<()>> Stream<W> {
         self.say("rejudge");
     }
 
+    /// Few records and routes, so that what is read has few words and each
+    /// kind of damage meets each of them.
+    fn snapshots(&mut self) {
+        if self.record_count() + self.route_count() > 20 || self.random.percent(30) {
+            self.say("empty");
+        }
+        for _ in 0..self.random.between(2, 4) {
+            self.file();
+            self.keep();
+        }
+        self.write();
+        for _ in 0..25 {
+            self.read();
+            match self.random.below(8) {
+                0 | 1 => self.write(),
+                2 => self.file(),
+                3 => self.keep(),
+                4 => self.say("rejudge"),
+                5 => self.show(REGISTER),
+                6 => self.show(LEDGER),
+                _ => {}
+            }
+        }
+        self.write();
+    }
+
     fn lines_that_are_no_commands(&mut self) {
         for _ in 0..15 {
             self.bad_line();
         }
-        // at the longest line and one byte past it
-        let digits = self.random.pick(&[16_372, 16_374]);
-        let neighbour = self.random.pick(&["200", "20"]);
-        self.say(&format!("judge 1 {neighbour} {}", "0".repeat(digits)));
-        let list = " 1".repeat(self.random.pick(&[8_187, 8_188, 8_189]));
-        self.say(&format!("file 0 1{list}"));
+        // at the longest line and one byte past it; not always, as it is long
+        if self.random.percent(50) {
+            let starts = ["judge 1 200 ", "judge 1 20 ", "file 0 1", "file 0 12", "read "];
+            let start = self.random.pick(&starts);
+            let repeated = if start.starts_with("file") { " 1" } else { "00" };
+            let times = (console::LONGEST_LINE + 1 - start.len()) / 2 - self.random.below(2);
+            self.say(&format!("{start}{}", repeated.repeat(times)));
+        }
         self.any_call();
     }
 
@@ -859,7 +1051,11 @@ impl<W: FnMut(&str, &str) -> io::Result<()>> Stream<W> {
     }
 }
 
-const BAD_LINES: [&str; 48] = [
+/// Bytes of a snapshot that may come again later.
+const SHORT_FILE: usize = 1_500;
+const MOST_FILES: usize = 8;
+
+const BAD_LINES: [&str; 58] = [
     "", " ", "-", "0", "hello", "File 0 1 2", "file", "file 0", "file 0 ", "file x 1 2",
     "file 0 1 +2", "file 0 1 2,3", "file 0 1 -", " file 0 1 2", "file 0  1 2", "file 0 1 2\t3",
     "file 0 1 00", "file 0 4294967296 2", "file 0 1 18446744073709551617", "files 0 1 2",
@@ -867,7 +1063,8 @@ const BAD_LINES: [&str; 48] = [
     "clear 00", "judge", "judge 1 5", "judge 1 5 0", "judge 1 5 0G", "judge 1 5 0A",
     "judge 1 5 - -", "judge 1 5 é", "keep 1 1 5", "keep 1 1", "keep 01 1 5 -", "keep 1 1 5 020",
     "drop", "drop x", "drop 1 1", "rejudge x", "poke register 0", "poke registers 0 0",
-    "resize ledger 99999", "words", "empty 0",
+    "resize ledger 99999", "words", "empty 0", "write", "write -", "write 131073", "write 036",
+    "write 36 36", "read", "read 0", "read 0A", "read - -", "read 00 00",
 ];
 
 // Fixed vectors
@@ -917,6 +1114,13 @@ fn vectors() -> Vec<String> {
     room(&mut lines);
     lines.say("empty");
     errors(&mut lines);
+    lines.say("empty");
+    snapshots_of_tables(&mut lines);
+    snapshot_refusals(&mut lines);
+    lines.say("empty");
+    snapshots_and_damaged_tables(&mut lines);
+    lines.say("empty");
+    full_snapshot(&mut lines);
     lines.0
 }
 
@@ -937,6 +1141,25 @@ impl Lines {
 
     fn keep(&mut self, route: u32, role: u32, neighbour: u32, attribute: &[u8]) {
         self.0.push(format!("keep {route} {role} {neighbour} {}", hex(attribute)));
+    }
+
+    fn write(&mut self, capacity: usize) {
+        self.0.push(format!("write {capacity}"));
+    }
+
+    fn read(&mut self, file: &[u8]) {
+        self.0.push(format!("read {}", hex(file)));
+    }
+
+    /// A read of these words of a register and of a ledger.
+    fn read_parts(&mut self, [register, ledger]: &[Vec<u32>; 2]) {
+        self.read(&snapshot::file(register, ledger));
+    }
+
+    /// A read, and what the tables are then.
+    fn read_and_write(&mut self, file: &[u8]) {
+        self.read(file);
+        self.write(131_072);
     }
 }
 
@@ -1124,26 +1347,28 @@ fn rejudging(lines: &mut Lines) {
     }
 }
 
+/// Each table too short, too long, damaged; then both.
+const DAMAGES: [(&str, &str); 12] = [
+    ("resize register 12289", "rejudge"),
+    ("resize register 12291", "rejudge"),
+    ("resize register 0", "rejudge"),
+    ("resize ledger 12801", "rejudge"),
+    ("resize ledger 12803", "rejudge"),
+    ("resize ledger 1", "rejudge"),
+    ("poke register 12289 1", "rejudge"),
+    ("poke ledger 12801 1", "rejudge"),
+    ("poke register 0 4294967295", "resize ledger 12801"),
+    ("poke ledger 0 4294967295", "resize register 12291"),
+    ("poke register 1 4294967295", "poke ledger 1 4294967295"),
+    ("resize register 12802", "resize ledger 12290"),
+];
+
 fn damaged_tables(lines: &mut Lines) {
     let calls = [
         "file 9 0", "file 0 1 2", "withdraw 9 0", "withdraw 0 1", "clear 9", "clear 0",
         "judge 9 0 02", "judge 1 5 -", "keep 1 9 0 02", "keep 1 1 5 -", "drop 77", "rejudge",
     ];
-    // every call with each table too short, too long, damaged; then both
-    for (first, second) in [
-        ("resize register 12289", "rejudge"),
-        ("resize register 12291", "rejudge"),
-        ("resize register 0", "rejudge"),
-        ("resize ledger 12801", "rejudge"),
-        ("resize ledger 12803", "rejudge"),
-        ("resize ledger 1", "rejudge"),
-        ("poke register 12289 1", "rejudge"),
-        ("poke ledger 12801 1", "rejudge"),
-        ("poke register 0 4294967295", "resize ledger 12801"),
-        ("poke ledger 0 4294967295", "resize register 12291"),
-        ("poke register 1 4294967295", "poke ledger 1 4294967295"),
-        ("resize register 12802", "resize ledger 12290"),
-    ] {
+    for (first, second) in DAMAGES {
         lines.all(&["empty", first, second]);
         lines.all(&calls);
         lines.all(&["words register", "words ledger"]);
@@ -1326,14 +1551,390 @@ fn room(lines: &mut Lines) {
 
 fn errors(lines: &mut Lines) {
     lines.all(&BAD_LINES);
-    // the longest line, and lines past it
-    lines.say(&format!("judge 1 200 {}", "0".repeat(16_372)));
+    // no limit is at 16,384 bytes any more
     lines.say(&format!("judge 1 20 {}", "0".repeat(16_374)));
-    lines.say(&format!("judge 1 200 {}", "0".repeat(70_000)));
-    lines.say(&format!("file 0 12{}", " 1".repeat(8_187)));
-    lines.say(&format!("file 0 1{}", " 1".repeat(8_188)));
     lines.say(&format!("file 0 12{}", " 1".repeat(8_188)));
+    // the longest line, and lines past it
+    lines.say(&format!("judge 1 200 {}", "0".repeat(262_132)));
+    lines.say(&format!("judge 1 20 {}", "0".repeat(262_134)));
+    lines.say(&format!("file 0 1{}", " 1".repeat(131_068)));
+    // the longest input that a line has room for, and one byte more
+    let [longest, longer] = [131_069, 131_070].map(|length| {
+        let mut input = snapshot::file(&[0, 0], &[0, 0]);
+        input.resize(length, 0);
+        input
+    });
+    lines.read(&longest);
+    lines.read(&longer);
     lines.all(&["register", "ledger"]);
+}
+
+const SHOW: [&str; 2] = ["words register", "words ledger"];
+
+/// Two records and two routes: 13 and 22 words, so 20 + 52 + 88 bytes.
+const SMALL: [&str; 4] = [
+    "file 2 65010 65001 65002", "file 0 65010 65003", "keep 7 1 20 0202000000140000000a",
+    "keep 9 4 5 -",
+];
+
+/// The file that these commands end with, from empty tables.
+fn file_after<S: AsRef<str>>(commands: &[S]) -> Vec<u8> {
+    let mut model = Model::new();
+    for line in commands {
+        console::answer(&mut model, line.as_ref().as_bytes());
+    }
+    file_of(&model).expect("well-formed tables")
+}
+
+/// Tables written, and read back over empty and over other ones.
+fn snapshots_of_tables(lines: &mut Lines) {
+    for capacity in [0, 35, 36, 37, 131_072, 131_073] {
+        lines.write(capacity);
+    }
+    lines.read(&file_after::<&str>(&[]));
+    lines.all(&SHOW);
+    let start = lines.0.len();
+    lines.all(&REGISTER_D);
+    for (route, (role, neighbour, path)) in (1..).zip(A_TO_L) {
+        lines.keep(route, role, neighbour, &sequence(path));
+    }
+    let filled = file_after(&lines.0[start..]);
+    for capacity in [0, 20, filled.len() - 1, filled.len(), filled.len() + 1, 131_072] {
+        lines.write(capacity);
+    }
+    // over the same tables, empty ones, longer and shorter ones
+    lines.all(&["register", "ledger"]);
+    lines.read(&filled);
+    lines.all(&SHOW);
+    lines.say("empty");
+    lines.read(&filled);
+    lines.all(&SHOW);
+    lines.write(filled.len());
+    let small = file_after(&SMALL);
+    lines.read(&small);
+    lines.all(&SHOW);
+    lines.write(small.len() - 1);
+    lines.write(small.len());
+    lines.say("file 7 4294967295 4294967295");
+    lines.keep(4_294_967_295, 4, 4_294_967_295, &sequence(&[4_294_967_295, 1]));
+    lines.write(131_072);
+    lines.read(&filled);
+    lines.all(&SHOW);
+    // the calls go on from what was read
+    lines.keep(12, 4, 30, &[]);
+    lines.all(&["withdraw 0 80", "withdraw 0 80", "drop 12", "drop 12", "rejudge", "clear 0"]);
+    lines.write(131_072);
+    lines.read(&file_after::<&str>(&[]));
+    lines.all(&["register", "ledger", "rejudge"]);
+    // verdicts that newer records made untrue, and untrue places, stay until a re-judging
+    lines.say("empty");
+    let start = lines.0.len();
+    lines.all(&SMALL);
+    lines.say("file 0 10 20");
+    let stale = file_after(&lines.0[start..]);
+    lines.say("empty");
+    for file in [&stale, &with(&stale, &[(30, 64), (31, 64)])] {
+        lines.read_and_write(file);
+        lines.all(&["rejudge", "ledger", "rejudge"]);
+        lines.write(131_072);
+    }
+}
+
+/// Each row of a read with others beside it, and each edge of the contents.
+fn snapshot_refusals(lines: &mut Lines) {
+    const TOP: u32 = u32::MAX;
+    let file = file_after(&SMALL);
+    let both = with(&file, &[(5, 9), (18, 9)]);
+    // tables that are left as they are
+    lines.all(&["empty", "file 0 1 2", "keep 1 1 2 020100000002"]);
+    lines.write(131_072);
+    // 24, before the edition can be known
+    for length in [0, 1, 3, 4, 8, 19] {
+        lines.read(&file[..length]);
+        lines.read(&vec![0xff; length]);
+    }
+    // 22
+    for edition in [0, 2, 3, 256, 257, 65_537, 1 << 24, (1 << 24) + 1, TOP] {
+        let worse = with(&both, &[(0, edition), (1, 0), (4, 3)]);
+        lines.read(&with(&file, &[(0, edition)]));
+        lines.read(&worse);
+        lines.read(&worse[..20]);
+        lines.read(&worse[..159]);
+    }
+    lines.read(&[0xff; 20]);
+    lines.read(&[0; 20]);
+    // 23, and where a length alone is another, 24; by the contents alone
+    let mut contents: Vec<Vec<(usize, u32)>> = Vec::new();
+    for field in 1..5 {
+        let old = number_at(&file, field);
+        for value in
+            [old - 1, old + 1, old - 4, old + 4, 0, old << 24, old + (1 << 31), TOP - 3, TOP]
+        {
+            contents.push(vec![(field, value)]);
+        }
+    }
+    for length in [4, 7, 8, 9, 51_204, 51_207, 51_208, 51_209, 51_212] {
+        contents.push(vec![(4, length)]);
+    }
+    // the register's length with the second start to match, or as near as four bytes come
+    for length in [
+        0,
+        4,
+        7,
+        8,
+        9,
+        48,
+        51,
+        53,
+        56,
+        49_156,
+        49_159,
+        49_160,
+        49_161,
+        49_164,
+        51_208,
+        1 << 31,
+        TOP - 19,
+        TOP - 15,
+        TOP - 7,
+        TOP - 3,
+        TOP,
+    ] {
+        contents.push(vec![(2, length), (3, length.wrapping_add(20))]);
+    }
+    contents.extend([
+        // the file's own length, the seam elsewhere
+        vec![(2, 56), (3, 76), (4, 84)],
+        vec![(2, 48), (3, 68), (4, 92)],
+        vec![(2, 54), (3, 74), (4, 86)],
+        vec![(2, 140), (3, 160), (4, 0)],
+        vec![(2, 0), (3, 20), (4, 140)],
+        vec![(2, TOP - 3), (3, 16), (4, 144)],
+        vec![(2, 144), (3, 164), (4, TOP - 3)],
+        // the ledger in front
+        vec![(1, 108), (3, 20)],
+        vec![(1, 108), (2, 88), (3, 20), (4, 52)],
+    ]);
+    for fields in contents {
+        let input = with(&file, &fields);
+        lines.read(&input);
+        lines.read(&input[..20]);
+    }
+    lines.read(&with(&both, &[(4, 89)]));
+    lines.read(&[&with(&file, &[(3, 76)])[..72], &[0; 4], &file[72..]].concat());
+    lines.write(131_072);
+    // 24
+    for length in [20, 21, 72, 156, 157, 158, 159] {
+        lines.read(&file[..length]);
+        lines.read(&both[..length]);
+    }
+    for more in [1, 2, 3, 4, 20] {
+        lines.read(&[file.clone(), vec![0; more]].concat());
+        lines.read(&[both.clone(), vec![0xff; more]].concat());
+    }
+    lines.read(&[&file[..], &file].concat());
+    lines.write(131_072);
+    // 2 and 3, 2 first
+    lines.read(&both);
+    lines.read(&with(&file, &[(18, 9)]));
+    // low byte first: all of it, the bodies, the ledger
+    let low: Vec<u8> = file.chunks(4).flat_map(|number| number.iter().rev().copied()).collect();
+    for kept in [0, 20, 72] {
+        lines.read(&[&file[..kept], &low[kept..]].concat());
+    }
+    // lengths unlike the counts, of one table and of both
+    let whole = parts(&file);
+    for part in [0, 1] {
+        let words = &whole[part];
+        let mut others = vec![
+            [&words[..], &[0]].concat(),
+            [&words[..], &[0; 50]].concat(),
+            words[..words.len() - 1].to_vec(),
+            words[..2].to_vec(),
+            vec![0, 0, 0],
+            vec![0, 0, 1],
+            vec![0, 1],
+            vec![1, 0],
+        ];
+        // and counts whose sum, in words or in bytes, wraps round to what is there
+        others.extend(
+            [
+                [1 << 28, 0],
+                [1 << 30, 0],
+                [0, 1 << 30],
+                [1 << 31, 1 << 31],
+                [1 << 30, 3 << 30],
+                [477_218_589, 4_294_967_291],
+                [TOP, 4],
+                [TOP, 9],
+                [TOP, TOP],
+            ]
+            .map(|counts| counts.to_vec()),
+        );
+        for other in others {
+            let mut parts = whole.clone();
+            parts[part] = other;
+            lines.read_parts(&parts);
+        }
+    }
+    lines.read_parts(&whole.clone().map(|part| [&part[..], &[0]].concat()));
+    // used words that are zero, and so would be there without the file
+    let zeros = [vec![1, 1, 5, 0, 0, 1, 0], vec![1, 0, 7, 4, 5, 1, 1, 0, 0, 0, 0]];
+    for (part, least) in [(0, 6), (1, 7)] {
+        for length in least..zeros[part].len() {
+            let mut parts = zeros.clone();
+            parts[part].truncate(length);
+            lines.read_parts(&parts);
+        }
+    }
+    lines.write(131_072);
+    lines.read_parts(&zeros);
+    lines.write(131_072);
+    // one table empty
+    for part in [0, 1] {
+        let mut parts = whole.clone();
+        parts[part] = vec![0, 0];
+        lines.read_parts(&parts);
+        lines.write(131_072);
+    }
+    // every word of both bodies
+    for index in 5..file.len() / 4 {
+        let old = number_at(&file, index);
+        let mut values = vec![old.wrapping_sub(1), old + 1, 0, TOP];
+        values.retain(|value| *value != old);
+        values.dedup();
+        for value in values {
+            lines.read_and_write(&with(&file, &[(index, value)]));
+        }
+    }
+}
+
+/// What writing and reading say of tables that are not as they should be: a
+/// read looks at their lengths alone, and a refused one leaves every word.
+fn snapshots_and_damaged_tables(lines: &mut Lines) {
+    let file = file_after(&SMALL);
+    let both = with(&file, &[(5, 9), (18, 9)]);
+    let refused = [
+        Vec::new(),
+        file[..19].to_vec(),
+        with(&both, &[(0, 2)]),
+        with(&both, &[(4, 89)]),
+        both[..159].to_vec(),
+        both.clone(),
+        with(&file, &[(18, 9)]),
+    ];
+    for (first, second) in DAMAGES {
+        lines.say("empty");
+        lines.all(&SMALL);
+        lines.all(&["file 0 1 2", first, second]);
+        lines.all(&["write 0", "write 131072"]);
+        for input in &refused {
+            lines.read(input);
+        }
+        lines.all(&SHOW);
+        lines.read(&file);
+        lines.all(&SHOW);
+        lines.all(&["write 159", "write 160"]);
+    }
+    // both full of words that nothing allows
+    lines.say("empty");
+    for (table, end) in [(REGISTER, 12_289), (LEDGER, 12_801)] {
+        for index in [0, 1, 2, 5, 7, 50, end] {
+            lines.say(&format!("poke {table} {index} 4294967295"));
+        }
+    }
+    for input in &refused {
+        lines.read(input);
+    }
+    lines.read(&file);
+    lines.all(&SHOW);
+    // words that are other ones and still well formed
+    lines.all(&["poke register 10 0", "poke ledger 6 0", "poke ledger 7 64", "write 160"]);
+    lines.read(&file);
+    lines.say("write 160");
+    // a table that was lent longer or shorter keeps no other word
+    lines.all(&["resize register 16384", "poke register 16383 1", "resize ledger 12"]);
+    lines.read(&file);
+    lines.all(&["write 160", "resize register 12290", "write 160"]);
+    lines.read(&file);
+    lines.say("resize ledger 12802");
+    lines.read(&both);
+    lines.say("write 160");
+    lines.read(&file);
+    lines.all(&SHOW);
+    lines.say("write 160");
+}
+
+/// No word of either table is free: 49,160 and 51,208 bytes behind the contents.
+fn full_snapshot(lines: &mut Lines) {
+    let start = lines.0.len();
+    for customer in 1..=1_024u32 {
+        let list: Vec<u32> = (customer + 1..=customer + 8).collect();
+        lines.say(&format!("file {} {customer}{}", customer % 8, numbers(&list)));
+    }
+    for route in 0..512u32 {
+        let path: Vec<u32> = (1..=16).map(|n| 2 * route + n).rev().collect();
+        lines.keep(route, 3, path[0], &sequence(&path));
+    }
+    let file = file_after(&lines.0[start..]);
+    lines.all(&["write 100387", "write 100388", "empty"]);
+    lines.all(&SMALL);
+    // the last word of all
+    lines.read(&with(&file, &[(file.len() / 4 - 1, 0)]));
+    lines.write(131_072);
+    lines.read(&file);
+    lines
+        .all(&["write 100387", "file 0 1025 1", "keep 512 1 5 -", "rejudge", "register", "ledger"]);
+    // one word more than the table has; as many as it has, of which two are used
+    lines.read(&with(&file[..20], &[(2, 49_164), (3, 49_184)]));
+    lines.read(&with(&file[..20], &[(4, 51_212)]));
+    lines.read_parts(&[vec![0; 12_290], vec![0, 0]]);
+    lines.read(&file[..20]);
+    lines.all(&["withdraw 1 1", "write 100339", "rejudge"]);
+}
+
+/// Lines at the edges of what a command is, not all of them text.
+fn odd_lines() -> Vec<Vec<u8>> {
+    let mut lines = Lines(Vec::new());
+    lines.all(&["x".repeat(40_000).as_str(), "x".repeat(300_000).as_str()]);
+    lines.all(&[
+        "register", "", " ", "register ", " register", "file  1 2", "file 1 2 ", "file 1 2",
+        "file 1", "clear 4294967296", "clear 4294967295", "clear 01", "clear 0", "clear +1",
+        "judge 1 1 -", "judge 1 1 --", "judge 1 1 0", "judge 1 1 0A", "judge 1 1 ",
+        "poke register 12290 1", "poke register 12289 1", "words register",
+        "resize register 16385", "resize register 16384", "poke register 16383 4294967295",
+        "words register", "register", "poke register 0 4294967295", "poke register 1 4294967295",
+        "register", "resize register 0", "register", "words register", "resize register 1",
+        "register", "resize register 12290", "words register", "empty", "empty 1", "empty ",
+    ]);
+    let upto = |n: u32| numbers(&(1..=n).collect::<Vec<u32>>());
+    lines.say(&format!("file 0 1{}", upto(3_199)));
+    lines.say(&format!("file 0 1{}", " 1".repeat(8_187)));
+    lines.say(&format!("file 0 1{}", " 1".repeat(8_188)));
+    lines.say(&format!("file 0 1{}", upto(256)));
+    lines.all(&[
+        "register", "poke ledger 0 1", "poke ledger 1 4294967295", "ledger", "poke tables 0 1",
+        "resize tables 5", "words tables", "words", "words register ledger", "register 1", "empty",
+    ]);
+    let mut lines: Vec<Vec<u8>> = lines.0.into_iter().map(String::into_bytes).collect();
+    lines.extend([&b"\xff"[..], b"\x00", b"register\r", b"drop\t1"].map(<[u8]>::to_vec));
+    lines
+}
+
+/// Random commands in the recorded input.
+const RECORDED: usize = 16_000;
+
+/// The recorded input: the vectors, odd lines, a random stream, and a last
+/// line without a newline.
+fn recorded(out: &mut impl Write) -> io::Result<()> {
+    vectors().iter().try_for_each(|line| writeln!(out, "{line}"))?;
+    out.write_all(b"empty\n")?;
+    for line in odd_lines() {
+        out.write_all(&line)?;
+        out.write_all(b"\n")?;
+    }
+    random_stream(1, RECORDED, |line, _| writeln!(out, "{line}"))?;
+    out.write_all(b"words ledger\nrejudge")
 }
 
 #[cfg(test)]
@@ -1341,7 +1942,7 @@ mod tests {
     use super::*;
     use std::collections::BTreeMap;
 
-    const ROWS: [(&str, &[u32]); 7] = [
+    const ROWS: [(&str, &[u32]); 9] = [
         ("file", &[1, 2, 4, 5, 6, 8]),
         ("withdraw", &[1, 2, 4, 5, 7]),
         ("clear", &[1, 2, 4]),
@@ -1349,6 +1950,8 @@ mod tests {
         ("keep", &[1, 2, 3, 9, 10, 11, 12, 13, 14, 15, 16, 17, 18, 20]),
         ("drop", &[1, 3, 19]),
         ("rejudge", &[1, 2, 3]),
+        ("write", &[1, 2, 3, 21]),
+        ("read", &[1, 2, 3, 22, 23, 24]),
     ];
 
     /// How often each call gave each kind of answer.
@@ -1374,7 +1977,7 @@ mod tests {
 
         fn check(&self) {
             for (call, rows) in ROWS {
-                for row in 1..=20 {
+                for row in 1..=24 {
                     let count = self.count(call, &format!("refused {row}"));
                     assert_eq!(count > 0, rows.contains(&row), "{call}: row {row} {count} times");
                 }
@@ -1387,8 +1990,14 @@ mod tests {
                     assert!(self.count(call, &format!("Invalid ground {ground}")) > 0);
                 }
             }
-            for (call, kind) in [("file", "new"), ("file", "replaced"), ("withdraw", "done")] {
-                assert!(self.count(call, kind) > 0);
+            for (call, kind) in [
+                ("file", "new"),
+                ("file", "replaced"),
+                ("withdraw", "done"),
+                ("write", "written"),
+                ("read", "done"),
+            ] {
+                assert!(self.count(call, kind) > 0, "{call}: {kind}");
             }
         }
     }
