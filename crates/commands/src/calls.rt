@@ -1,4 +1,4 @@
-// The calls of the filter, each with its arguments read from a line of n words. What is no command changes nothing.
+// The calls of the filter and of the snapshot, each with its arguments read from a line of n words. What is no command changes nothing.
 use crate::Reply;
 use lines::List;
 use text::Bytes;
@@ -10,7 +10,7 @@ ghost use Prim.Native.Nat.{_*_, _≤_};
 ghost use lib.ListN.{length};
 ghost use Rattle.lines.specs.Words.{wordsOf};
 ghost use Rattle.commands.specs.Commands.{mostLine, mostParts, fileCommand, withdrawCommand, clearCommand, judgeCommand, keepCommand, dropCommand};
-ghost use Rattle.commands.specs.Commands.{rejudgeCommand};
+ghost use Rattle.commands.specs.Commands.{rejudgeCommand, readCommand, writeCommand};
 ghost use Rattle.commands.specs.Performing.{result, performedOn};
 
 // The most numbers, or bytes in hex, of a line: each takes two of its bytes.
@@ -228,4 +228,39 @@ pub fn rejudge(line: &[u8], n: usize, reg: &mut [u32], led: &mut [u32]) -> Reply
     }
     let rejudged = filter::rejudge(reg, led);
     Reply::Rejudged(rejudged)
+}
+
+// A snapshot goes into both tables.
+pub fn read(line: &[u8], n: usize, reg: &mut [u32], led: &mut [u32]) -> Reply
+    requires { ⌜ (length (now line) ≤ mostLine) × (n ≡ length (wordsOf (now line))) ⌝ }
+    ensures { λ r. ⌜ result r (now (reg .exit)) (now (led .exit))
+        ≡ performedOn (now (reg .entry)) (now (led .entry)) (readCommand (wordsOf (now (line .entry)))) ⌝ }
+{
+    if n != 2 {
+        return Reply::Error;
+    }
+    let mut file = no_bytes();
+    let Bytes::Read(k) = lines::bytes(line, 1, &mut file) else {
+        return Reply::Error;
+    };
+    let restored = snapshot::read(&file[..k], reg, led);
+    Reply::Restored(restored)
+}
+
+pub fn write(line: &[u8], n: usize, reg: &mut [u32], led: &mut [u32]) -> Reply
+    requires { ⌜ n ≡ length (wordsOf (now line)) ⌝ }
+    ensures { λ r. ⌜ result r (now (reg .exit)) (now (led .exit))
+        ≡ performedOn (now (reg .entry)) (now (led .entry)) (writeCommand (wordsOf (now (line .entry)))) ⌝ }
+{
+    if n != 2 {
+        return Reply::Error;
+    }
+    let Number::Is(capacity) = lines::number(line, 1) else {
+        return Reply::Error;
+    };
+    let bytes = capacity as usize;
+    if crate::MOST_OUTPUT < bytes {
+        return Reply::Error;
+    }
+    Reply::Written(bytes)
 }

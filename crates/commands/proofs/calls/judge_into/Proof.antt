@@ -4,7 +4,7 @@ use native.Mathlib.Omega.{arith}
 use lib.Seq.{length-take-le}
 use Rattle.text.specs.Bytes.{readCount}
 use Rattle.lines.specs.Words.{wordsOf, wordAt}
-use Rattle.commands.proofs.Parsing.{other-count, right-count, number-is, no-number, no-bytes, does-nothing, attribute-read, judges}
+use Rattle.commands.proofs.Parsing.{other-count, right-count, number-is, no-number, no-bytes, does-nothing, buffered, judges}
 use borrow.Author.Needs.{needs}
 use Rattle.commands.proofs.calls.judge_into.Statement.{statement}
 use Rattle.commands.proofs.calls.judge_into.Tie as tie
@@ -112,7 +112,7 @@ returns-5 c =
     let k = c .before .before .before .before .k in
     judges (a .reg .now) (a .led .now) (wordsOf (a .line .now)) (sym (pre .1) ∙ if1 .left) (sym (number .ensures) ∙ role .given .1)
     (sym (number2 .ensures) ∙ neighbour .given .1)
-    (attribute-read (wordAt (a .line .now) 3) (a .attribute .now) (bytes .ensures .0) (bytes .ensures .1) (bytes .ensures .2) (k .given .1))
+    (buffered (wordAt (a .line .now) 3) (a .attribute .now) (bytes .ensures .0) (bytes .ensures .1) (bytes .ensures .2) (k .given .1))
     (c .judge .ensures)
 
 pub judge-into-spec : {M : Type 1} → statement M

@@ -4,7 +4,7 @@ use native.Mathlib.Omega.{arith}
 use lib.Seq.{length-take-le}
 use Rattle.text.specs.Bytes.{readCount}
 use Rattle.lines.specs.Words.{wordsOf, wordAt}
-use Rattle.commands.proofs.Parsing.{other-count, right-count, number-is, no-number, no-bytes, does-nothing, attribute-read, keeps}
+use Rattle.commands.proofs.Parsing.{other-count, right-count, number-is, no-number, no-bytes, does-nothing, buffered, keeps}
 use borrow.Author.Needs.{needs}
 use Rattle.commands.proofs.calls.keep_into.Statement.{statement}
 use Rattle.commands.proofs.calls.keep_into.Tie as tie
@@ -146,7 +146,7 @@ returns-6 c =
     let keep = c .before .before .keep in
     keeps (a .reg .now) (a .led .now) (wordsOf (a .line .now)) (sym (pre .1) ∙ if1 .left) (sym (number .ensures) ∙ number2 .given .1)
     (sym (number3 .ensures) ∙ role .given .1) (sym (number4 .ensures) ∙ neighbour .given .1)
-    (attribute-read (wordAt (a .line .now) 4) (a .attribute .now) (bytes .ensures .0) (bytes .ensures .1) (bytes .ensures .2) (k .given .1))
+    (buffered (wordAt (a .line .now) 4) (a .attribute .now) (bytes .ensures .0) (bytes .ensures .1) (bytes .ensures .2) (k .given .1))
     (keep .ensures)
 
 pub keep-into-spec : {M : Type 1} → statement M
