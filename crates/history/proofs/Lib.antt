@@ -11,3 +11,4 @@ pub mod Reordered
 pub mod Scans
 pub mod Examples
 pub mod Refused
+pub mod NewStarts

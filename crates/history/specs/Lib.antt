@@ -6,3 +6,4 @@ pub mod Reorderings
 pub mod Demands
 pub mod Sanity
 pub mod Refusals
+pub mod Starts

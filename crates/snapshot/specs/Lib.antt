@@ -2,3 +2,4 @@ pub mod Snapshot
 pub mod Calls
 pub mod Helpers
 pub mod Laws
+pub mod Vectors
