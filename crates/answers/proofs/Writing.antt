@@ -1,10 +1,11 @@
 -- Text written into a buffer piece by piece. Assumes nothing.
-use Prim.Native.Nat.{ℕ, suc, _+_, _≤_}
+use Prim.Native.Nat.{ℕ, suc, _+_, _*_, _≤_}
 use mathlib.Core.Path.{_≡_, refl, sym, _∙_}
 use mathlib.Core.List.{List, [], _∷_, _++_}
 use native.Mathlib.Omega.{arith}
-use lib.ListN.{length, set, length-append}
+use lib.ListN.{length, take, set, length-append}
 use lib.Seq.{sets}
+use Rattle.text.specs.Bytes.{hexText}
 
 pub sets-append : (l : List ℕ) (i : ℕ) (a b : List ℕ) → sets l i (a ++ b) ≡ sets (sets l i a) (i + length a) b
 sets-append l i [] b =
@@ -27,3 +28,10 @@ pub matched :
     → x ≡ v → r ≡ at + length (text v) → o' ≡ sets o at (text v) → r ≤ at + room
     → (r ≡ at + length (text x)) × (o' ≡ sets o at (text x)) × (r ≤ at + room)
 matched text o at room e p q l = rw e (p, q, l)
+
+-- What is written in hex are the first n bytes.
+pub first-bytes :
+    (o : List ℕ) (at n : ℕ) (bytes part : List ℕ) {o' : List ℕ} {r : ℕ} → part ≡ take n bytes → length part ≤ length bytes
+    → (r ≡ at + length (hexText part)) × (o' ≡ sets o at (hexText part)) × (r ≡ at + 2 * length part)
+    → (r ≡ at + length (hexText (take n bytes))) × (o' ≡ sets o at (hexText (take n bytes))) × (r ≤ at + 2 * length bytes)
+first-bytes o at n bytes part e l p = (rw (← e) (p .0), rw (← e) (p .1), omega (arith, p .2))

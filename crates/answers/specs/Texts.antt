@@ -1,6 +1,7 @@
 -- The answers as the console writes them ("The console").
 use Prim.Native.Nat.{ℕ}
 use mathlib.Core.List.{List, [], _∷_, _++_}
+use lib.ListN.{take}
 use Rattle.types.specs.declared.Answer.{Answer}
 use Rattle.types.specs.declared.Answer.the-variants.{Plain, WithGap}
 use Rattle.types.specs.declared.Cause.{Cause}
@@ -20,9 +21,14 @@ use Rattle.types.specs.declared.Judged.{Judged}
 use Rattle.types.specs.declared.Judged.the-variants as judged
 use Rattle.types.specs.declared.Rejudged.{Rejudged}
 use Rattle.types.specs.declared.Rejudged.the-variants as rejudged
+use Rattle.types.specs.declared.Written.{Written}
+use Rattle.types.specs.declared.Written.the-variants as written
+use Rattle.types.specs.declared.Restored.{Restored}
+use Rattle.types.specs.declared.Restored.the-variants as restored
 use Rattle.types.specs.Numbers.{groundNumber, refusalNumber, refusalPlace}
 use Rattle.text.specs.Ascii.{ascii}
 use Rattle.text.specs.Numbers.{decimalOf, signedOf}
+use Rattle.text.specs.Bytes.{hexText}
 
 -- Bytes that are room enough for the text of a verdict, and of an answer.
 abbrev pub verdictRoom : ℕ
@@ -80,6 +86,20 @@ clearedText (cleared.Refused r) = refusalText r
 abbrev pub rejudgedText : Rejudged → List ℕ
 rejudgedText (rejudged.Changed n) = ascii "changed " ++ decimalOf n
 rejudgedText (rejudged.Refused r) = refusalText r
+
+-- ---- snapshots
+
+abbrev pub restoredText : Restored → List ℕ
+restoredText restored.Done = ascii "done"
+restoredText (restored.Refused r) = refusalText r
+
+-- A file of n bytes, which stand at the start of an output.
+abbrev pub fileText : ℕ → List ℕ → List ℕ
+fileText n output = (ascii "written " ++ decimalOf n) ++ (ascii " " ++ hexText (take n output))
+
+abbrev pub writtenText : List ℕ → Written → List ℕ
+writtenText output (written.Bytes n) = fileText n output
+writtenText output (written.Refused r) = refusalText r
 
 -- ---- words of a table
 

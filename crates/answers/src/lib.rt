@@ -8,16 +8,19 @@ use types::Place;
 use types::Refusal;
 use types::Rejudged;
 use types::Removal;
+use types::Restored;
 use types::Verdict;
+use types::Written;
 ghost use mathlib.Core.Path.{_≡_};
 ghost use mathlib.Core.List.{_++_};
 ghost use Prim.Native.Nat.{_+_, _*_, _≤_, _<_, _^_};
-ghost use lib.ListN.{length};
+ghost use lib.ListN.{length, take};
 ghost use lib.Seq.{sets};
 ghost use Rattle.text.specs.Numbers.{decimalOf};
+ghost use Rattle.text.specs.Bytes.{hexText};
 ghost use Rattle.answers.specs.Texts.{verdictRoom, answerRoom};
 ghost use Rattle.answers.specs.Texts.{placesText, causeText, verdictText, answerText, refusalText, judgedText, filedText, removalText, clearedText};
-ghost use Rattle.answers.specs.Texts.{rejudgedText, eachText};
+ghost use Rattle.answers.specs.Texts.{rejudgedText, restoredText, fileText, writtenText, eachText};
 
 // A word and the number after it.
 fn put_with(out: &mut [u8], at: usize, word: &[u8], n: u64) -> usize
@@ -142,6 +145,53 @@ pub fn put_rejudged(out: &mut [u8], at: usize, rejudged: Rejudged) -> usize
     match rejudged {
         Rejudged::Changed(n) => put_with(out, at, b"changed ", n as u64),
         Rejudged::Refused(r) => put_refusal(out, at, r),
+    }
+}
+
+pub fn put_restored(out: &mut [u8], at: usize, restored: Restored) -> usize
+    requires { ⌜ at + answerRoom ≤ length (now out) ⌝ }
+    ensures { λ r. ⌜ (r ≡ at + length (restoredText restored)) × (now (out .exit) ≡ sets (now (out .entry)) at (restoredText restored))
+        × (r ≤ at + answerRoom) ⌝ }
+{
+    match restored {
+        Restored::Done => text::put(b"done", out, at),
+        Restored::Refused(r) => put_refusal(out, at, r),
+    }
+}
+
+// The first n bytes in hex; all where there are fewer.
+fn put_first(out: &mut [u8], at: usize, n: usize, bytes: &[u8]) -> usize
+    requires { ⌜ at + 2 * length (now bytes) ≤ length (now out) ⌝ }
+    ensures { λ r. ⌜ (r ≡ at + length (hexText (take n (now (bytes .entry)))))
+        × (now (out .exit) ≡ sets (now (out .entry)) at (hexText (take n (now (bytes .entry))))) × (r ≤ at + 2 * length (now (bytes .entry))) ⌝ }
+{
+    if bytes.len() < n {
+        return text::put_hex(bytes, out, at);
+    }
+    text::put_hex(&bytes[..n], out, at)
+}
+
+// A file of n bytes, which stand at the start of an output.
+fn put_file(out: &mut [u8], at: usize, n: usize, output: &[u8]) -> usize
+    requires { ⌜ at + (answerRoom + 2 * length (now output)) ≤ length (now out) ⌝ }
+    ensures { λ r. ⌜ (r ≡ at + length (fileText n (now (output .entry))))
+        × (now (out .exit) ≡ sets (now (out .entry)) at (fileText n (now (output .entry))))
+        × (r ≤ at + (answerRoom + 2 * length (now (output .entry)))) ⌝ }
+{
+    let next = put_with(out, at, b"written ", n as u64);
+    let last = text::put(b" ", out, next);
+    put_first(out, last, n, output)
+}
+
+pub fn put_written(out: &mut [u8], at: usize, written: Written, output: &[u8]) -> usize
+    requires { ⌜ at + (answerRoom + 2 * length (now output)) ≤ length (now out) ⌝ }
+    ensures { λ r. ⌜ (r ≡ at + length (writtenText (now (output .entry)) written))
+        × (now (out .exit) ≡ sets (now (out .entry)) at (writtenText (now (output .entry)) written))
+        × (r ≤ at + (answerRoom + 2 * length (now (output .entry)))) ⌝ }
+{
+    match written {
+        Written::Bytes(n) => put_file(out, at, n, output),
+        Written::Refused(r) => put_refusal(out, at, r),
     }
 }
 

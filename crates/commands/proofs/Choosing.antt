@@ -6,7 +6,7 @@ use mathlib.Core.List.{List}
 use Rattle.text.specs.Ascii.{ascii}
 use Rattle.text.specs.Bytes.{sameBytes}
 use Rattle.commands.specs.declared.Named.the-variants.{Register, Ledger, Neither}
-use Rattle.commands.specs.Commands.{is, namedBy, fileCommand, withdrawCommand, clearCommand, judgeCommand, keepCommand, dropCommand, rejudgeCommand, showCommand, pokeCommand, resizeCommand, wordsCommand, emptyCommand, lookCommand, routeCommand, lentCommand, commandOf}
+use Rattle.commands.specs.Commands.{is, namedBy, fileCommand, withdrawCommand, clearCommand, judgeCommand, keepCommand, dropCommand, rejudgeCommand, readCommand, writeCommand, showCommand, pokeCommand, resizeCommand, wordsCommand, emptyCommand, lookCommand, snapshotCommand, routeCommand, lentCommand, commandOf}
 
 module _ (word : List ℕ) where
   pub names-register : sameBytes word (ascii "register") ≡ true → Register ≡ namedBy word
@@ -69,9 +69,21 @@ module _ (ws : List (List ℕ)) where
     unfolding routeCommand
     is-rejudge f g = rw (e, f, g) refl
 
-    pub is-look : is ws "drop" ≡ false → is ws "rejudge" ≡ false → routeCommand ws ≡ lookCommand ws
+    pub is-snapshot : is ws "drop" ≡ false → is ws "rejudge" ≡ false → routeCommand ws ≡ snapshotCommand ws
     unfolding routeCommand
-    is-look f g = rw (e, f, g) refl
+    is-snapshot f g = rw (e, f, g) refl
+
+  pub is-read : is ws "read" ≡ true → snapshotCommand ws ≡ readCommand ws
+  unfolding snapshotCommand
+  is-read e = rw e refl
+
+  pub is-write : is ws "read" ≡ false → is ws "write" ≡ true → snapshotCommand ws ≡ writeCommand ws
+  unfolding snapshotCommand
+  is-write e f = rw (e, f) refl
+
+  pub is-look : is ws "read" ≡ false → is ws "write" ≡ false → snapshotCommand ws ≡ lookCommand ws
+  unfolding snapshotCommand
+  is-look e f = rw (e, f) refl
 
   pub is-poke : is ws "poke" ≡ true → lookCommand ws ≡ pokeCommand ws
   unfolding lookCommand

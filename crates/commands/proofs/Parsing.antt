@@ -18,11 +18,13 @@ use Rattle.lines.specs.Words.{allNumbers, numbersIn, listRead, listCount}
 use Rattle.lines.proofs.Readings.{read-list, read-all, read-bytes-in}
 use Rattle.types.specs.declared.Filed.{Filed}
 use Rattle.types.specs.declared.Judged as judged
+use Rattle.types.specs.declared.Restored.{Restored}
 use Rattle.types.specs.Rows.{effect}
 use Rattle.register.specs.Calls.{fileEffect}
 use Rattle.filter.specs.Calls.{judgeAnswer, keeping, keepEffect}
+use Rattle.snapshot.specs.Calls.{reading, readEffect}
 use Rattle.commands.specs.declared.Reply.the-variants as reply
-use Rattle.commands.specs.Commands.{Command, bad, ofWords, withNumber, withBytes, withNumbers, upTo, fileCommand, judgeCommand, keepCommand}
+use Rattle.commands.specs.Commands.{Command, bad, ofWords, withNumber, withBytes, withNumbers, upTo, fileCommand, judgeCommand, keepCommand, readCommand}
 use Rattle.commands.specs.Performing.{Result, both, result, performed}
 
 -- ---- the parts
@@ -105,19 +107,19 @@ module _ (reg led : List ℕ) (c : Command) where
 
 -- ---- a call whose last argument was read into a buffer
 
--- The attribute of word w, read into a buffer.
-pub record Attribute (w after : List ℕ) (k : ℕ) : Type 0 where
+-- The bytes of word w, read into a buffer.
+pub record Buffered (w after : List ℕ) (k : ℕ) : Type 0 where
   pub length-read : bytesOf w ≡ bytes.Read k
   pub bytes-read : take k after ≡ bytesIn w
 
-pub attribute-read :
+pub buffered :
     (w into : List ℕ) {after : List ℕ} {k : ℕ} {r : bytes-type.Bytes} → r ≡ bytesOf w → after ≡ bytesStored into w → readCount r ≤ length into
-    → r ≡ bytes.Read k → Attribute w after k
-attribute-read w into p q l e = record { length-read = sym p ∙ e; bytes-read = bytes-given w into p q l e }
+    → r ≡ bytes.Read k → Buffered w after k
+buffered w into p q l e = record { length-read = sym p ∙ e; bytes-read = bytes-given w into p q l e }
 
 module _ (reg led : List ℕ) (ws : List (List ℕ)) {after : List ℕ} {k : ℕ} {role neighbour : ℕ} {j : judged.Judged} where
   pub judges :
-      length ws ≡ 4 → numberOf (getD ws 1 []) ≡ number.Is role → numberOf (getD ws 2 []) ≡ number.Is neighbour → Attribute (getD ws 3 []) after k
+      length ws ≡ 4 → numberOf (getD ws 1 []) ≡ number.Is role → numberOf (getD ws 2 []) ≡ number.Is neighbour → Buffered (getD ws 3 []) after k
       → j ≡ judgeAnswer reg role neighbour (take k after) → result (reply.Judged j) reg led ≡ performed (both reg led) (judgeCommand ws)
   judges l r n a e =
       does reg led (judgeCommand ws) (right-count ws 4 _ l ∙ number-is ws 1 _ r ∙ number-is ws 2 _ n ∙ bytes-are ws 3 _ (a .length-read))
@@ -125,7 +127,7 @@ module _ (reg led : List ℕ) (ws : List (List ℕ)) {after : List ℕ} {k : ℕ
 
   pub keeps :
       {route : ℕ} {led' : List ℕ} → length ws ≡ 5 → numberOf (getD ws 1 []) ≡ number.Is route → numberOf (getD ws 2 []) ≡ number.Is role
-      → numberOf (getD ws 3 []) ≡ number.Is neighbour → Attribute (getD ws 4 []) after k
+      → numberOf (getD ws 3 []) ≡ number.Is neighbour → Buffered (getD ws 4 []) after k
       → effect j led' ≡ keepEffect reg led (keeping route role neighbour (take k after))
       → result (reply.Judged j) reg led' ≡ performed (both reg led) (keepCommand ws)
   keeps {route = route} l m r n a e =
@@ -133,6 +135,15 @@ module _ (reg led : List ℕ) (ws : List (List ℕ)) {after : List ℕ} {k : ℕ
       does reg led (keepCommand ws)
       (right-count ws 5 _ l ∙ number-is ws 1 _ m ∙ number-is ws 2 _ r ∙ number-is ws 3 _ n ∙ bytes-are ws 4 _ (a .length-read))
       (λ i. result (reply.Judged (left i .answer)) reg (left i .words))
+
+pub reads :
+    (reg led : List ℕ) (ws : List (List ℕ)) {after : List ℕ} {k : ℕ} {restored : Restored} {reg' led' : List ℕ} → length ws ≡ 2
+    → Buffered (getD ws 1 []) after k → reading restored reg' led' ≡ readEffect (take k after) reg led
+    → result (reply.Restored restored) reg' led' ≡ performed (both reg led) (readCommand ws)
+reads reg led ws l a e =
+    let left = e ∙ ap (λ file. readEffect file reg led) (a .bytes-read) in
+    does reg led (readCommand ws) (right-count ws 2 _ l ∙ bytes-are ws 1 _ (a .length-read))
+    (λ i. result (reply.Restored (left i .answer)) (left i .register) (left i .ledger))
 
 pub files :
     (reg led : List ℕ) (ws : List (List ℕ)) (into : List ℕ) {after : List ℕ} {k source customer : ℕ} {r : list-type.List} {filed : Filed} {reg' : List ℕ} → 3 ≤ length ws

@@ -17,6 +17,8 @@ use Rattle.commands.specs.declared.Named.the-variants.{Register, Ledger,
 pub data Command : Type 0 where
   call : Call → Command
   judge : (role neighbour : ℕ) → (attribute : List ℕ) → Command
+  read : (file : List ℕ) → Command
+  write : (capacity : ℕ) → Command
   show : Named → Command
   words : Named → Command
   poke : Named → (index value : ℕ) → Command
@@ -28,7 +30,7 @@ pub data Command : Type 0 where
 
 -- The most bytes of a line.
 abbrev pub mostLine : ℕ
-mostLine = 16384
+mostLine = 262144
 
 -- The most numbers, or bytes in hex, of a line: each takes two of its bytes.
 abbrev pub mostParts : ℕ
@@ -56,6 +58,10 @@ withNumbers ws k f = cond (allNumbers (drop k ws)) (f (numbersIn (drop k ws))) b
 -- The most words that a table is lent with.
 abbrev pub mostLent : ℕ
 mostLent = 16384
+
+-- The most bytes of an output that a snapshot is written to.
+abbrev pub mostOutput : ℕ
+mostOutput = 131072
 
 unfoldable pub upTo : ℕ → ℕ → Command → Command
 upTo most n command = cond (ltb most n) bad command
@@ -88,6 +94,12 @@ dropCommand ws = ofWords ws 2 (withNumber ws 1 (λ number. call (dropRoute numbe
 abbrev pub rejudgeCommand : List (List ℕ) → Command
 rejudgeCommand ws = ofWords ws 1 (call rejudge)
 
+abbrev pub readCommand : List (List ℕ) → Command
+readCommand ws = ofWords ws 2 (withBytes ws 1 (λ file. read file))
+
+abbrev pub writeCommand : List (List ℕ) → Command
+writeCommand ws = ofWords ws 2 (withNumber ws 1 (λ capacity. upTo mostOutput capacity (write capacity)))
+
 abbrev pub showCommand : List (List ℕ) → Command
 showCommand ws = ofWords ws 1 (show (namedBy (getD ws 0 [])))
 
@@ -109,13 +121,17 @@ emptyCommand ws = ofWords ws 1 empty
 unfoldable pub lookCommand : List (List ℕ) → Command
 lookCommand ws = cond (is ws "poke") (pokeCommand ws) (cond (is ws "words") (wordsCommand ws) (showCommand ws))
 
+-- Those of the snapshot.
+unfoldable pub snapshotCommand : List (List ℕ) → Command
+snapshotCommand ws = cond (is ws "read") (readCommand ws) (cond (is ws "write") (writeCommand ws) (lookCommand ws))
+
 -- Those that are lent the ledger.
 unfoldable pub routeCommand : List (List ℕ) → Command
 routeCommand ws =
     cond (is ws "keep") (keepCommand ws)
     (cond (is ws "drop") (dropCommand ws)
     (cond (is ws "rejudge") (rejudgeCommand ws)
-    (lookCommand ws)))
+    (snapshotCommand ws)))
 
 -- Those that leave both lengths as they are.
 unfoldable pub lentCommand : List (List ℕ) → Command

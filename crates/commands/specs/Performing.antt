@@ -8,11 +8,12 @@ use Rattle.table.specs.Table.{pad}
 use Rattle.filter.specs.Calls.{judgeAnswer}
 use Rattle.history.specs.Calls as calls
 use Rattle.history.specs.Calls.{Tables, says, leaves, blank}
+use Rattle.snapshot.specs.Calls.{readEffect}
 use Rattle.commands.specs.declared.Named.{Named}
 use Rattle.commands.specs.declared.Named.the-variants.{Register, Ledger, Neither}
 use Rattle.commands.specs.declared.Reply.{Reply}
-use Rattle.commands.specs.declared.Reply.the-variants.{Done, Error, Filed, Removed, Cleared, Judged, Rejudged, Shown, Sized}
-use Rattle.commands.specs.Commands.{Command, call, judge, show, words, poke, resize, empty, bad, mostLent}
+use Rattle.commands.specs.declared.Reply.the-variants.{Done, Error, Filed, Removed, Cleared, Judged, Rejudged, Restored, Written, Shown, Sized}
+use Rattle.commands.specs.Commands.{Command, call, judge, read, write, show, words, poke, resize, empty, bad, mostLent}
 
 -- ---- the reply
 
@@ -35,6 +36,8 @@ namedReply Neither r l = Error
 abbrev pub replyTo : Tables → Command → Reply
 replyTo t (call c) = ofCall (says t c)
 replyTo t (judge role neighbour attribute) = Judged (judgeAnswer (t .register) role neighbour attribute)
+replyTo t (read file) = Restored (readEffect file (t .register) (t .ledger) .answer)
+replyTo t (write capacity) = Written capacity
 replyTo t (show n) = Shown n
 replyTo t (words n) = Sized n
 replyTo t (poke n index value) = namedReply n (pokeReply (t .register) index) (pokeReply (t .ledger) index)
@@ -54,9 +57,15 @@ changed Neither f t = t
 abbrev pub resized : ℕ → List ℕ → List ℕ
 resized to table = take to (pad mostLent table)
 
+abbrev pub both : List ℕ → List ℕ → Tables
+both reg led = record { register = reg; ledger = led }
+
+-- Writing a snapshot changes no table.
 abbrev pub after : Tables → Command → Tables
 after t (call c) = leaves t c
 after t (judge role neighbour attribute) = t
+after t (read file) = both (readEffect file (t .register) (t .ledger) .register) (readEffect file (t .register) (t .ledger) .ledger)
+after t (write capacity) = t
 after t (show n) = t
 after t (words n) = t
 after t (poke n index value) = changed n (λ table. set table index value) t
@@ -69,9 +78,6 @@ after t bad = t
 pub record Result : Type 0 where
   pub reply : Reply
   pub tables : Tables
-
-abbrev pub both : List ℕ → List ℕ → Tables
-both reg led = record { register = reg; ledger = led }
 
 abbrev pub result : Reply → List ℕ → List ℕ → Result
 result r reg led = record { reply = r; tables = both reg led }

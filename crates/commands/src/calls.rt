@@ -1,4 +1,4 @@
-// The calls of the filter, each with its arguments read from a line of n words. What is no command changes nothing.
+// The calls of the filter and of the snapshot, each with its arguments read from a line of n words. What is no command changes nothing.
 use crate::Reply;
 use lines::List;
 use text::Bytes;
@@ -6,15 +6,21 @@ use text::Number;
 use types::AsNumber;
 use types::RouteNumber;
 ghost use mathlib.Core.Path.{_≡_};
-ghost use Prim.Native.Nat.{_≤_};
+ghost use Prim.Native.Nat.{_*_, _≤_};
 ghost use lib.ListN.{length};
 ghost use Rattle.lines.specs.Words.{wordsOf};
 ghost use Rattle.commands.specs.Commands.{mostLine, mostParts, fileCommand, withdrawCommand, clearCommand, judgeCommand, keepCommand, dropCommand};
-ghost use Rattle.commands.specs.Commands.{rejudgeCommand};
+ghost use Rattle.commands.specs.Commands.{rejudgeCommand, readCommand, writeCommand};
 ghost use Rattle.commands.specs.Performing.{result, performedOn};
 
 // The most numbers, or bytes in hex, of a line: each takes two of its bytes.
 const MOST_PARTS: usize = crate::MOST_LINE / 2;
+
+// A call that no limit refuses fits in a line of this length. The parts of such a line have a buffer of their own, because clearing the large
+// one would take longer than the call.
+const SHORT_LINE: usize = 4096;
+
+const SHORT_PARTS: usize = SHORT_LINE / 2;
 
 fn no_numbers() -> [u32; MOST_PARTS]
     ensures { λ r. ⌜ mostParts ≡ length r ⌝ }
@@ -28,8 +34,26 @@ fn no_bytes() -> [u8; MOST_PARTS]
     [0; MOST_PARTS]
 }
 
-pub fn file(line: &[u8], n: usize, reg: &mut [u32], led: &mut [u32]) -> Reply
-    requires { ⌜ (length (now line) ≤ mostLine) × (n ≡ length (wordsOf (now line))) ⌝ }
+fn few_numbers() -> [u32; SHORT_PARTS]
+    ensures { λ r. ⌜ 2048 ≡ length r ⌝ }
+{
+    [0; SHORT_PARTS]
+}
+
+fn few_bytes() -> [u8; SHORT_PARTS]
+    ensures { λ r. ⌜ 2048 ≡ length r ⌝ }
+{
+    [0; SHORT_PARTS]
+}
+
+fn file_into(
+    line: &[u8],
+    n: usize,
+    providers: &mut [u32],
+    reg: &mut [u32],
+    led: &mut [u32],
+) -> Reply
+    requires { ⌜ (length (now line) ≤ 2 * length (now providers)) × (n ≡ length (wordsOf (now line))) ⌝ }
     ensures { λ r. ⌜ result r (now (reg .exit)) (now (led .exit))
         ≡ performedOn (now (reg .entry)) (now (led .entry)) (fileCommand (wordsOf (now (line .entry)))) ⌝ }
 {
@@ -42,12 +66,24 @@ pub fn file(line: &[u8], n: usize, reg: &mut [u32], led: &mut [u32]) -> Reply
     let Number::Is(customer) = lines::number(line, 2) else {
         return Reply::Error;
     };
-    let mut providers = no_numbers();
-    let List::Read(k) = lines::numbers(line, 3, &mut providers) else {
+    let List::Read(k) = lines::numbers(line, 3, providers) else {
         return Reply::Error;
     };
     let filed = filter::file(reg, source, AsNumber(customer), &providers[..k]);
     Reply::Filed(filed)
+}
+
+pub fn file(line: &[u8], n: usize, reg: &mut [u32], led: &mut [u32]) -> Reply
+    requires { ⌜ (length (now line) ≤ mostLine) × (n ≡ length (wordsOf (now line))) ⌝ }
+    ensures { λ r. ⌜ result r (now (reg .exit)) (now (led .exit))
+        ≡ performedOn (now (reg .entry)) (now (led .entry)) (fileCommand (wordsOf (now (line .entry)))) ⌝ }
+{
+    if line.len() <= SHORT_LINE {
+        let mut providers = few_numbers();
+        return file_into(line, n, &mut providers, reg, led);
+    }
+    let mut providers = no_numbers();
+    file_into(line, n, &mut providers, reg, led)
 }
 
 pub fn withdraw(line: &[u8], n: usize, reg: &mut [u32], led: &mut [u32]) -> Reply
@@ -83,8 +119,14 @@ pub fn clear(line: &[u8], n: usize, reg: &mut [u32], led: &mut [u32]) -> Reply
     Reply::Cleared(cleared)
 }
 
-pub fn judge(line: &[u8], n: usize, reg: &mut [u32], led: &mut [u32]) -> Reply
-    requires { ⌜ (length (now line) ≤ mostLine) × (n ≡ length (wordsOf (now line))) ⌝ }
+fn judge_into(
+    line: &[u8],
+    n: usize,
+    attribute: &mut [u8],
+    reg: &mut [u32],
+    led: &mut [u32],
+) -> Reply
+    requires { ⌜ (length (now line) ≤ 2 * length (now attribute)) × (n ≡ length (wordsOf (now line))) ⌝ }
     ensures { λ r. ⌜ result r (now (reg .exit)) (now (led .exit))
         ≡ performedOn (now (reg .entry)) (now (led .entry)) (judgeCommand (wordsOf (now (line .entry)))) ⌝ }
 {
@@ -97,16 +139,28 @@ pub fn judge(line: &[u8], n: usize, reg: &mut [u32], led: &mut [u32]) -> Reply
     let Number::Is(neighbour) = lines::number(line, 2) else {
         return Reply::Error;
     };
-    let mut attribute = no_bytes();
-    let Bytes::Read(k) = lines::bytes(line, 3, &mut attribute) else {
+    let Bytes::Read(k) = lines::bytes(line, 3, attribute) else {
         return Reply::Error;
     };
     let judged = filter::judge(reg, role, AsNumber(neighbour), &attribute[..k]);
     Reply::Judged(judged)
 }
 
-pub fn keep(line: &[u8], n: usize, reg: &mut [u32], led: &mut [u32]) -> Reply
+pub fn judge(line: &[u8], n: usize, reg: &mut [u32], led: &mut [u32]) -> Reply
     requires { ⌜ (length (now line) ≤ mostLine) × (n ≡ length (wordsOf (now line))) ⌝ }
+    ensures { λ r. ⌜ result r (now (reg .exit)) (now (led .exit))
+        ≡ performedOn (now (reg .entry)) (now (led .entry)) (judgeCommand (wordsOf (now (line .entry)))) ⌝ }
+{
+    if line.len() <= SHORT_LINE {
+        let mut attribute = few_bytes();
+        return judge_into(line, n, &mut attribute, reg, led);
+    }
+    let mut attribute = no_bytes();
+    judge_into(line, n, &mut attribute, reg, led)
+}
+
+fn keep_into(line: &[u8], n: usize, attribute: &mut [u8], reg: &mut [u32], led: &mut [u32]) -> Reply
+    requires { ⌜ (length (now line) ≤ 2 * length (now attribute)) × (n ≡ length (wordsOf (now line))) ⌝ }
     ensures { λ r. ⌜ result r (now (reg .exit)) (now (led .exit))
         ≡ performedOn (now (reg .entry)) (now (led .entry)) (keepCommand (wordsOf (now (line .entry)))) ⌝ }
 {
@@ -122,8 +176,7 @@ pub fn keep(line: &[u8], n: usize, reg: &mut [u32], led: &mut [u32]) -> Reply
     let Number::Is(neighbour) = lines::number(line, 3) else {
         return Reply::Error;
     };
-    let mut attribute = no_bytes();
-    let Bytes::Read(k) = lines::bytes(line, 4, &mut attribute) else {
+    let Bytes::Read(k) = lines::bytes(line, 4, attribute) else {
         return Reply::Error;
     };
     let judged = filter::keep(
@@ -135,6 +188,19 @@ pub fn keep(line: &[u8], n: usize, reg: &mut [u32], led: &mut [u32]) -> Reply
         &attribute[..k],
     );
     Reply::Judged(judged)
+}
+
+pub fn keep(line: &[u8], n: usize, reg: &mut [u32], led: &mut [u32]) -> Reply
+    requires { ⌜ (length (now line) ≤ mostLine) × (n ≡ length (wordsOf (now line))) ⌝ }
+    ensures { λ r. ⌜ result r (now (reg .exit)) (now (led .exit))
+        ≡ performedOn (now (reg .entry)) (now (led .entry)) (keepCommand (wordsOf (now (line .entry)))) ⌝ }
+{
+    if line.len() <= SHORT_LINE {
+        let mut attribute = few_bytes();
+        return keep_into(line, n, &mut attribute, reg, led);
+    }
+    let mut attribute = no_bytes();
+    keep_into(line, n, &mut attribute, reg, led)
 }
 
 pub fn drop(line: &[u8], n: usize, reg: &mut [u32], led: &mut [u32]) -> Reply
@@ -162,4 +228,39 @@ pub fn rejudge(line: &[u8], n: usize, reg: &mut [u32], led: &mut [u32]) -> Reply
     }
     let rejudged = filter::rejudge(reg, led);
     Reply::Rejudged(rejudged)
+}
+
+// A snapshot goes into both tables.
+pub fn read(line: &[u8], n: usize, reg: &mut [u32], led: &mut [u32]) -> Reply
+    requires { ⌜ (length (now line) ≤ mostLine) × (n ≡ length (wordsOf (now line))) ⌝ }
+    ensures { λ r. ⌜ result r (now (reg .exit)) (now (led .exit))
+        ≡ performedOn (now (reg .entry)) (now (led .entry)) (readCommand (wordsOf (now (line .entry)))) ⌝ }
+{
+    if n != 2 {
+        return Reply::Error;
+    }
+    let mut file = no_bytes();
+    let Bytes::Read(k) = lines::bytes(line, 1, &mut file) else {
+        return Reply::Error;
+    };
+    let restored = snapshot::read(&file[..k], reg, led);
+    Reply::Restored(restored)
+}
+
+pub fn write(line: &[u8], n: usize, reg: &mut [u32], led: &mut [u32]) -> Reply
+    requires { ⌜ n ≡ length (wordsOf (now line)) ⌝ }
+    ensures { λ r. ⌜ result r (now (reg .exit)) (now (led .exit))
+        ≡ performedOn (now (reg .entry)) (now (led .entry)) (writeCommand (wordsOf (now (line .entry)))) ⌝ }
+{
+    if n != 2 {
+        return Reply::Error;
+    }
+    let Number::Is(capacity) = lines::number(line, 1) else {
+        return Reply::Error;
+    };
+    let bytes = capacity as usize;
+    if crate::MOST_OUTPUT < bytes {
+        return Reply::Error;
+    }
+    Reply::Written(bytes)
 }

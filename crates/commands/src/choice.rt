@@ -8,7 +8,7 @@ ghost use mathlib.Core.Path.{_≡_};
 ghost use Prim.Native.Nat.{_≤_};
 ghost use lib.ListN.{length};
 ghost use Rattle.lines.specs.Words.{wordsOf, wordAt};
-ghost use Rattle.commands.specs.Commands.{mostLine, namedBy, showCommand, pokeCommand, wordsCommand, lookCommand, routeCommand, lentCommand};
+ghost use Rattle.commands.specs.Commands.{mostLine, namedBy, showCommand, pokeCommand, wordsCommand, lookCommand, snapshotCommand, routeCommand, lentCommand};
 ghost use Rattle.commands.specs.Performing.{result, performedOn};
 
 pub fn named(line: &[u8], k: usize) -> Named
@@ -81,6 +81,21 @@ fn look(line: &[u8], n: usize, reg: &mut [u32], led: &mut [u32]) -> Reply
     show(line, n, reg, led)
 }
 
+// The calls of the snapshot.
+fn snapshot(line: &[u8], n: usize, reg: &mut [u32], led: &mut [u32]) -> Reply
+    requires { ⌜ (length (now line) ≤ mostLine) × (n ≡ length (wordsOf (now line))) ⌝ }
+    ensures { λ r. ⌜ result r (now (reg .exit)) (now (led .exit))
+        ≡ performedOn (now (reg .entry)) (now (led .entry)) (snapshotCommand (wordsOf (now (line .entry)))) ⌝ }
+{
+    if lines::is_word(line, 0, b"read") {
+        return calls::read(line, n, reg, led);
+    }
+    if lines::is_word(line, 0, b"write") {
+        return calls::write(line, n, reg, led);
+    }
+    look(line, n, reg, led)
+}
+
 // The calls that are lent the ledger.
 fn route(line: &[u8], n: usize, reg: &mut [u32], led: &mut [u32]) -> Reply
     requires { ⌜ (length (now line) ≤ mostLine) × (n ≡ length (wordsOf (now line))) ⌝ }
@@ -96,7 +111,7 @@ fn route(line: &[u8], n: usize, reg: &mut [u32], led: &mut [u32]) -> Reply
     if lines::is_word(line, 0, b"rejudge") {
         return calls::rejudge(line, n, reg, led);
     }
-    look(line, n, reg, led)
+    snapshot(line, n, reg, led)
 }
 
 // Every command that leaves both lengths as they are.

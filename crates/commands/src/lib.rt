@@ -4,16 +4,20 @@ use types::Filed;
 use types::Judged;
 use types::Rejudged;
 use types::Removal;
+use types::Restored;
 
 mod calls;
 pub mod choice;
 mod tables;
 
 // The most bytes of a line.
-pub const MOST_LINE: usize = 16384;
+pub const MOST_LINE: usize = 262144;
 
 // The most words that a table is lent with.
 pub const MOST_LENT: usize = 16384;
+
+// The most bytes of an output that a snapshot is written to.
+pub const MOST_OUTPUT: usize = 131072;
 
 // The table that a word names.
 pub enum Named {
@@ -22,6 +26,7 @@ pub enum Named {
     Neither,
 }
 
+// Shown and Sized look at a table when they are put as text, and Written at both: it has the bytes of the output that a snapshot is written to.
 pub enum Reply {
     Done,
     Error,
@@ -30,6 +35,8 @@ pub enum Reply {
     Cleared(Cleared),
     Judged(Judged),
     Rejudged(Rejudged),
+    Restored(Restored),
+    Written(usize),
     Shown(Named),
     Sized(Named),
 }

@@ -182,11 +182,11 @@ fn empty_table() -> [u32; commands::MOST_LENT]
     [0; commands::MOST_LENT]
 }
 
-// Room for the longest answer, and for many short ones between two writes.
-const OUTPUT: usize = 262144;
+// Room for the longest answer, that of a snapshot of 131,072 bytes, and for many short ones between two writes.
+const OUTPUT: usize = 524288;
 
 fn no_output() -> [u8; OUTPUT]
-    ensures { λ r. ⌜ 262144 ≡ length r ⌝ }
+    ensures { λ r. ⌜ 524288 ≡ length r ⌝ }
 {
     [0; OUTPUT]
 }

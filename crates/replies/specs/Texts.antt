@@ -2,18 +2,21 @@
 use Prim.Native.Nat.{ℕ, _+_, _*_, min}
 use mathlib.Core.Bool.{cond}
 use mathlib.Core.List.{List, [], _∷_}
-use lib.ListN.{length, getD, take}
+use lib.ListN.{length, getD, take, replicate}
+use Rattle.types.specs.declared.Written as written
+use Rattle.types.specs.Rows.{Effect}
 use Rattle.table.specs.Table.{allZero}
 use Rattle.text.specs.Ascii.{ascii}
-use Rattle.answers.specs.Texts.{judgedText, filedText, removalText, clearedText, rejudgedText, spacedText}
+use Rattle.answers.specs.Texts.{judgedText, filedText, removalText, clearedText, rejudgedText, restoredText, writtenText, spacedText, answerRoom}
 use Rattle.register.specs.Register as register
 use Rattle.ledger.specs.Routes as ledger
+use Rattle.snapshot.specs.Calls.{writeEffect}
 use Rattle.history.specs.Calls.{Tables}
 use Rattle.commands.specs.declared.Named.{Named}
 use Rattle.commands.specs.declared.Named.the-variants.{Register, Ledger, Neither}
 use Rattle.commands.specs.declared.Reply.{Reply}
-use Rattle.commands.specs.declared.Reply.the-variants.{Done, Error, Filed, Removed, Cleared, Judged, Rejudged, Shown, Sized}
-use Rattle.commands.specs.Commands.{mostLent}
+use Rattle.commands.specs.declared.Reply.the-variants.{Done, Error, Filed, Removed, Cleared, Judged, Rejudged, Restored, Written, Shown, Sized}
+use Rattle.commands.specs.Commands.{mostOutput}
 
 -- The words up to the last body, of a table whose slots have so many words; all where the counts lead past the end.
 abbrev pub usedWords : ℕ → List ℕ → List ℕ
@@ -37,6 +40,14 @@ sizedIn t Register = sizedText (t .register)
 sizedIn t Ledger = sizedText (t .ledger)
 sizedIn t Neither = ascii "error"
 
+-- The answer of a writing, with the bytes of its output.
+abbrev pub effectText : Effect written.Written → List ℕ
+effectText e = writtenText (e .words) (e .answer)
+
+-- A snapshot written to an output of so many zero bytes. No command asks for more than the most.
+abbrev pub snapshotText : Tables → ℕ → List ℕ
+snapshotText t capacity = effectText (writeEffect (t .register) (t .ledger) (replicate (min capacity mostOutput) 0))
+
 abbrev pub replyText : Tables → Reply → List ℕ
 replyText t Done = ascii "done"
 replyText t Error = ascii "error"
@@ -45,9 +56,12 @@ replyText t (Removed a) = removalText a
 replyText t (Cleared a) = clearedText a
 replyText t (Judged a) = judgedText a
 replyText t (Rejudged a) = rejudgedText a
+replyText t (Restored a) = restoredText a
+replyText t (Written capacity) = snapshotText t capacity
 replyText t (Shown n) = shownText t n
 replyText t (Sized n) = sizedIn t n
 
--- The room that a reply takes at most: a table's length, its words of eleven bytes each, and ten bytes that are left over.
+-- The room that a reply takes at most: a snapshot's length, and two digits for each of its bytes. The words of a table, of eleven bytes each at
+-- most, take less.
 abbrev pub mostReply : ℕ
-mostReply = 20 + 11 * mostLent + 10
+mostReply = answerRoom + 2 * mostOutput

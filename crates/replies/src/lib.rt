@@ -3,15 +3,17 @@ use commands::Named;
 use commands::Reply;
 ghost use mathlib.Core.Path.{_≡_};
 ghost use Prim.Native.Nat.{_+_, _*_, _≤_, _<_, _^_, min};
-ghost use lib.ListN.{length, take, getD};
+ghost use lib.ListN.{length, take, getD, replicate};
 ghost use lib.Seq.{sets};
 ghost use Rattle.commands.specs.Performing.{both};
-ghost use Rattle.replies.specs.Texts.{usedWords, withoutZeros, sizedText, shownText, sizedIn, replyText, mostReply};
-ghost use Rattle.commands.specs.Commands.{mostLent};
-ghost use Rattle.answers.specs.Texts.{spacedText};
+ghost use Rattle.replies.specs.Texts.{usedWords, withoutZeros, sizedText, shownText, sizedIn, effectText, snapshotText, replyText, mostReply};
+ghost use Rattle.commands.specs.Commands.{mostLent, mostOutput};
+ghost use Rattle.snapshot.specs.Calls.{writeEffect};
+ghost use Rattle.answers.specs.Texts.{spacedText, answerRoom};
 
-// The room that a reply takes at most: a table's length, its words of eleven bytes each, and ten bytes that are left over.
-pub const MOST_REPLY: usize = 20 + 11 * commands::MOST_LENT + 10;
+// The room that a reply takes at most: a snapshot's length, and two digits for each of its bytes. The words of a table, of eleven bytes each at
+// most, take less.
+pub const MOST_REPLY: usize = 128 + 2 * commands::MOST_OUTPUT;
 
 fn wide(x: u32) -> u64
     ensures { λ r. ⌜ r ≡ x ⌝ }
@@ -122,6 +124,35 @@ fn put_all(out: &mut [u8], at: usize, named: Named, reg: &[u32], led: &[u32]) ->
     }
 }
 
+// A snapshot of both tables, written to an output and put as text.
+fn put_effect(out: &mut [u8], at: usize, output: &mut [u8], reg: &[u32], led: &[u32]) -> usize
+    requires { ⌜ at + (answerRoom + 2 * length (now output)) ≤ length (now out) ⌝ }
+    ensures { λ r. ⌜ (r ≡ at + length (effectText (writeEffect (now (reg .entry)) (now (led .entry)) (now (output .entry)))))
+        × (now (out .exit) ≡ sets (now (out .entry)) at (effectText (writeEffect (now (reg .entry)) (now (led .entry)) (now (output .entry)))))
+        × (r ≤ at + (answerRoom + 2 * length (now (output .entry)))) ⌝ }
+{
+    let written = snapshot::write(reg, led, output);
+    answers::put_written(out, at, written, output)
+}
+
+// The array is made in a function of its own, so that no proof has to look at its elements.
+fn no_output() -> [u8; commands::MOST_OUTPUT]
+    ensures { λ r. ⌜ r ≡ replicate mostOutput 0 ⌝ }
+{
+    [0; commands::MOST_OUTPUT]
+}
+
+fn put_snapshot(out: &mut [u8], at: usize, capacity: usize, reg: &[u32], led: &[u32]) -> usize
+    requires { ⌜ at + mostReply ≤ length (now out) ⌝ }
+    ensures { λ r. ⌜ (r ≡ at + length (snapshotText (both (now (reg .entry)) (now (led .entry))) capacity))
+        × (now (out .exit) ≡ sets (now (out .entry)) at (snapshotText (both (now (reg .entry)) (now (led .entry))) capacity))
+        × (r ≤ at + mostReply) ⌝ }
+{
+    let mut output = no_output();
+    let n = least(capacity, commands::MOST_OUTPUT);
+    put_effect(out, at, &mut output[..n], reg, led)
+}
+
 pub fn put(out: &mut [u8], at: usize, reply: Reply, reg: &[u32], led: &[u32]) -> usize
     requires { ⌜ (length (now reg) ≤ mostLent) × (length (now led) ≤ mostLent) × (at + mostReply ≤ length (now out)) ⌝ }
     ensures { λ r. ⌜ (r ≡ at + length (replyText (both (now (reg .entry)) (now (led .entry))) reply))
@@ -136,6 +167,8 @@ pub fn put(out: &mut [u8], at: usize, reply: Reply, reg: &[u32], led: &[u32]) ->
         Reply::Cleared(a) => answers::put_cleared(out, at, a),
         Reply::Judged(a) => answers::put_judged(out, at, a),
         Reply::Rejudged(a) => answers::put_rejudged(out, at, a),
+        Reply::Restored(a) => answers::put_restored(out, at, a),
+        Reply::Written(n) => put_snapshot(out, at, n, reg, led),
         Reply::Shown(t) => put_shown(out, at, t, reg, led),
         Reply::Sized(t) => put_all(out, at, t, reg, led),
     }

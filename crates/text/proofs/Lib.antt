@@ -4,3 +4,4 @@ pub mod Words
 pub mod Spelling
 pub mod Signs
 pub mod RoundTrips
+pub mod HexTexts

@@ -1,5 +1,5 @@
--- A word read as bytes in lowercase hex, and equal words. Bytes are ASCII: `0` is 48, `9` is 57, `a` is 97, `f` is 102, `-` is 45.
-use Prim.Native.Nat.{ℕ, _+_, _-_, _*_}
+-- A word read as bytes in lowercase hex, bytes as such text, and equal words. Bytes are ASCII: `0` is 48, `9` is 57, `a` is 97, `f` is 102, `-` is 45.
+use Prim.Native.Nat.{ℕ, _+_, _-_, _*_, _/_, _%_}
 use mathlib.Core.Bool.{Bool, true, false, cond}
 use mathlib.Core.List.{List, [], _∷_}
 use lib.Dec.{ltb, eqb}
@@ -60,6 +60,15 @@ bytesIn word = cond (eqb (length word) 1) [] (pairs word)
 abbrev pub ifBytes : {A : Type 0} → bytes.Bytes → A → A → A
 ifBytes (Read n) a other = a
 ifBytes Bad a other = other
+
+-- The digit of a value below 16.
+abbrev pub hexDigit : ℕ → ℕ
+hexDigit v = cond (ltb v 10) (48 + v) (87 + v)
+
+-- Bytes as text, two digits each.
+unfoldable pub hexText : List ℕ → List ℕ
+hexText [] = []
+hexText (b ∷ bs) = hexDigit (b / 16) ∷ (hexDigit (b % 16) ∷ hexText bs)
 
 unfoldable pub sameBytes : List ℕ → List ℕ → Bool
 sameBytes [] [] = true

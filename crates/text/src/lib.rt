@@ -1,10 +1,10 @@
-// Words of a line read as numbers and bytes, and numbers written as text.
+// Words of a line read as numbers and bytes, and numbers and bytes written as text.
 ghost use mathlib.Core.Path.{_≡_};
 ghost use Prim.Native.Nat.{_+_, _*_, _≤_, _<_};
 ghost use lib.ListN.{length, drop};
 ghost use lib.Seq.{sets};
 ghost use Rattle.text.specs.Numbers.{numberFrom, numberOf, decimalOf, signedOf, magnitude};
-ghost use Rattle.text.specs.Bytes.{hexValue, pairValue, pairs, hexOf, bytesOf, hexStored, bytesStored, readCount, sameBytes};
+ghost use Rattle.text.specs.Bytes.{hexValue, pairValue, pairs, hexOf, bytesOf, hexStored, bytesStored, readCount, sameBytes, hexDigit, hexText};
 
 // A word read as a number.
 pub enum Number {
@@ -222,4 +222,33 @@ pub fn put_signed(n: i32, out: &mut [u8], at: usize) -> usize
         return put_decimal(without_sign(n), out, at + 1);
     }
     put_decimal(without_sign(n), out, at)
+}
+
+// The lowercase hex digit of a value.
+fn hex_digit(v: u64) -> u8
+    requires { ⌜ v < 16 ⌝ }
+    ensures { λ r. ⌜ r ≡ hexDigit v ⌝ }
+{
+    if v < 10 {
+        return 48 + v as u8;
+    }
+    87 + v as u8
+}
+
+// The bytes go into a buffer from index at on, two hex digits each; answers the index after them.
+pub fn put_hex(bytes: &[u8], out: &mut [u8], at: usize) -> usize
+    requires { ⌜ at + 2 * length (now bytes) ≤ length (now out) ⌝ }
+    ensures { λ r. ⌜ (r ≡ at + length (hexText (now (bytes .entry)))) × (now (out .exit) ≡ sets (now (out .entry)) at (hexText (now (bytes .entry))))
+        × (r ≡ at + 2 * length (now (bytes .entry))) ⌝ }
+{
+    let mut next = at;
+    let mut i = 0;
+    while i < bytes.len() {
+        let b = wide(bytes[i]);
+        out[next] = hex_digit(b / 16);
+        out[next + 1] = hex_digit(b % 16);
+        next += 2;
+        i += 1;
+    }
+    next
 }

@@ -11,8 +11,10 @@ use Rattle.answers.proofs.put_filed.Reads as put-filed-reads
 use Rattle.answers.proofs.put_judged.Reads as put-judged-reads
 use Rattle.answers.proofs.put_rejudged.Reads as put-rejudged-reads
 use Rattle.answers.proofs.put_removal.Reads as put-removal-reads
+use Rattle.answers.proofs.put_restored.Reads as put-restored-reads
 use Rattle.replies.proofs.put_all.Reads as put-all-reads
 use Rattle.replies.proofs.put_shown.Reads as put-shown-reads
+use Rattle.replies.proofs.put_snapshot.Reads as put-snapshot-reads
 use Rattle.text.proofs.put.Reads as put-reads
 
 enum-told : tie.Need-enum-told
@@ -66,11 +68,23 @@ put-rejudged-requires c κs = search needs
 enum-known-reply-6 : tie.Need-enum-known-reply-6
 enum-known-reply-6 c = search needs
 
-put-shown-requires : tie.Need-put-shown-requires
-put-shown-requires c κs = search needs
+put-restored-requires : tie.Need-put-restored-requires
+put-restored-requires c κs = search needs
 
 enum-known-reply-7 : tie.Need-enum-known-reply-7
 enum-known-reply-7 c = search needs
+
+put-snapshot-requires : tie.Need-put-snapshot-requires
+put-snapshot-requires c κs = search needs
+
+enum-known-reply-8 : tie.Need-enum-known-reply-8
+enum-known-reply-8 c = search needs
+
+put-shown-requires : tie.Need-put-shown-requires
+put-shown-requires c κs = search needs
+
+enum-known-reply-9 : tie.Need-enum-known-reply-9
+enum-known-reply-9 c = search needs
 
 put-all-requires : tie.Need-put-all-requires
 put-all-requires c κs = search needs
@@ -159,9 +173,9 @@ returns-8 : tie.Need-returns-8
 returns-8 c =
     let a = c .before .before .before .before .before .before .before .before .before .before .args in
     let reply6 = c .before .before .before .before .before .reply6 in
-    let put-shown = c .before .before .put-shown in
-    matched (replyText (both (a .reg .now) (a .led .now))) (a .out .now) (a .at) mostReply (reply6 .given .1) (put-shown .ensures .0)
-    (put-shown .ensures .1) (omega (arith, put-shown .ensures .2))
+    let put-restored = c .before .before .put-restored in
+    matched (replyText (both (a .reg .now) (a .led .now))) (a .out .now) (a .at) mostReply (reply6 .given .1) (put-restored .ensures .0)
+    (put-restored .ensures .1) (omega (arith, put-restored .ensures .2))
 
 same-length-9 : tie.Need-same-length-9
 same-length-9 c = search needs
@@ -170,8 +184,30 @@ returns-9 : tie.Need-returns-9
 returns-9 c =
     let a = c .before .before .before .before .before .before .before .before .before .before .args in
     let reply7 = c .before .before .before .before .before .reply7 in
+    let put-snapshot = c .before .before .put-snapshot in
+    matched (replyText (both (a .reg .now) (a .led .now))) (a .out .now) (a .at) mostReply (reply7 .given .1) (put-snapshot .ensures .0)
+    (put-snapshot .ensures .1) (omega (arith, put-snapshot .ensures .2))
+
+same-length-10 : tie.Need-same-length-10
+same-length-10 c = search needs
+
+returns-10 : tie.Need-returns-10
+returns-10 c =
+    let a = c .before .before .before .before .before .before .before .before .before .before .args in
+    let reply8 = c .before .before .before .before .before .reply8 in
+    let put-shown = c .before .before .put-shown in
+    matched (replyText (both (a .reg .now) (a .led .now))) (a .out .now) (a .at) mostReply (reply8 .given .1) (put-shown .ensures .0)
+    (put-shown .ensures .1) (omega (arith, put-shown .ensures .2))
+
+same-length-11 : tie.Need-same-length-11
+same-length-11 c = search needs
+
+returns-11 : tie.Need-returns-11
+returns-11 c =
+    let a = c .before .before .before .before .before .before .before .before .before .before .args in
+    let reply9 = c .before .before .before .before .before .reply9 in
     let put-all = c .before .before .put-all in
-    matched (replyText (both (a .reg .now) (a .led .now))) (a .out .now) (a .at) mostReply (reply7 .given .1) (put-all .ensures .0) (put-all .ensures .1)
+    matched (replyText (both (a .reg .now) (a .led .now))) (a .out .now) (a .at) mostReply (reply9 .given .1) (put-all .ensures .0) (put-all .ensures .1)
     (omega (arith, put-all .ensures .2))
 
 pub put-spec : {M : Type 1} → statement M
@@ -195,8 +231,12 @@ put-spec =
     enum-known-reply-5
     put-rejudged-requires
     enum-known-reply-6
-    put-shown-requires
+    put-restored-requires
     enum-known-reply-7
+    put-snapshot-requires
+    enum-known-reply-8
+    put-shown-requires
+    enum-known-reply-9
     put-all-requires
     same-length
     returns
@@ -215,4 +255,8 @@ put-spec =
     same-length-8
     returns-8
     same-length-9
-    returns-9)
+    returns-9
+    same-length-10
+    returns-10
+    same-length-11
+    returns-11)

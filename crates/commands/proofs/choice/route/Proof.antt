@@ -2,7 +2,7 @@
 use mathlib.Core.Path.{sym, _∙_}
 use Rattle.lines.specs.Words.{wordsOf}
 use Rattle.commands.proofs.Parsing.{does}
-use Rattle.commands.proofs.Choosing.{is-keep, is-drop, is-rejudge, is-look}
+use Rattle.commands.proofs.Choosing.{is-keep, is-drop, is-rejudge, is-snapshot}
 use borrow.Author.Needs.{needs}
 use Rattle.commands.proofs.choice.route.Statement.{statement}
 use Rattle.commands.proofs.choice.route.Tie as tie
@@ -10,7 +10,7 @@ use Rattle.lines.proofs.is_word.Reads as is-word-reads
 use Rattle.commands.proofs.calls.drop.Reads as drop-reads
 use Rattle.commands.proofs.calls.keep.Reads as keep-reads
 use Rattle.commands.proofs.calls.rejudge.Reads as rejudge-reads
-use Rattle.commands.proofs.choice.look.Reads as look-reads
+use Rattle.commands.proofs.choice.snapshot.Reads as snapshot-reads
 
 slice-aggregate-is-word : tie.Need-slice-aggregate-is-word
 slice-aggregate-is-word c = search needs
@@ -91,8 +91,8 @@ returns-3 c =
     (sym (is-word3 .ensures) ∙ if3 .taken))
     (rejudge .ensures)
 
-look-requires : tie.Need-look-requires
-look-requires c κs = search needs
+snapshot-requires : tie.Need-snapshot-requires
+snapshot-requires c κs = search needs
 
 same-length-7 : tie.Need-same-length-7
 same-length-7 c = search needs
@@ -109,10 +109,10 @@ returns-4 c =
     let if2 = c .before .before .before .before .before .before .before .before .before .before .if2 in
     let is-word3 = c .before .before .before .before .before .before .before .before .is-word3 in
     let if3 = c .before .before .before .before .before .before .before .if3 in
-    let look = c .before .before .before .before .look in
+    let snapshot = c .before .before .before .before .snapshot in
     does (a .reg .now) (a .led .now) _
-    (is-look (wordsOf (a .line .now)) (sym (is-word .ensures) ∙ if1 .left) (sym (is-word2 .ensures) ∙ if2 .left) (sym (is-word3 .ensures) ∙ if3 .left))
-    (look .ensures)
+    (is-snapshot (wordsOf (a .line .now)) (sym (is-word .ensures) ∙ if1 .left) (sym (is-word2 .ensures) ∙ if2 .left) (sym (is-word3 .ensures) ∙ if3 .left))
+    (snapshot .ensures)
 
 pub route-spec : {M : Type 1} → statement M
 route-spec =
@@ -136,7 +136,7 @@ route-spec =
     same-length-5
     same-length-6
     returns-3
-    look-requires
+    snapshot-requires
     same-length-7
     same-length-8
     returns-4)

@@ -1,18 +1,18 @@
--- `commands::calls::file` meets its contract. Assumes nothing.
-use borrow.Author.Needs.{needs}
+-- `commands::calls::file_into` meets its contract. Assumes nothing.
 use mathlib.Core.Path.{sym, ap, _∙_}
 use native.Mathlib.Omega.{arith}
 use lib.Seq.{length-take-le}
 use Rattle.lines.specs.Words.{wordsOf, listCount}
 use Rattle.lines.proofs.Readings.{read-none}
 use Rattle.commands.proofs.Parsing.{too-few, enough-words, number-is, no-number, no-numbers, does-nothing, files}
-use Rattle.commands.proofs.calls.file.Statement.{statement}
-use Rattle.commands.proofs.calls.file.Tie as tie
+use borrow.Author.Needs.{needs}
+use Rattle.commands.proofs.calls.file_into.Statement.{statement}
+use Rattle.commands.proofs.calls.file_into.Tie as tie
 
 returns : tie.Need-returns
 returns c =
-    let a = c .before .before .before .before .args in
-    let pre = c .before .before .before .before .pre in
+    let a = c .before .before .before .before .before .args in
+    let pre = c .before .before .before .before .before .pre in
     does-nothing (a .reg .now) (a .led .now) _ (too-few (wordsOf (a .line .now)) _ (omega (arith, pre .1, c .if1 .taken)))
 
 number-requires : tie.Need-number-requires
@@ -26,8 +26,8 @@ enum-told c = search needs
 
 returns-2 : tie.Need-returns-2
 returns-2 c =
-    let a = c .before .before .before .before .before .before .before .args in
-    let pre = c .before .before .before .before .before .before .before .pre in
+    let a = c .before .before .before .before .before .before .before .before .args in
+    let pre = c .before .before .before .before .before .before .before .before .pre in
     does-nothing (a .reg .now) (a .led .now) _
     (enough-words (wordsOf (a .line .now)) _ (omega (arith, pre .1, c .before .before .before .if1 .left))
     ∙ no-number _ 1 _ (sym (c .before .before .number .ensures) ∙ c .enum-told .given .1))
@@ -43,8 +43,8 @@ enum-told-2 c = search needs
 
 returns-3 : tie.Need-returns-3
 returns-3 c =
-    let a = c .before .before .before .before .before .before .before .before .before .before .before .args in
-    let pre = c .before .before .before .before .before .before .before .before .before .before .before .pre in
+    let a = c .before .before .before .before .before .before .before .before .before .before .before .before .args in
+    let pre = c .before .before .before .before .before .before .before .before .before .before .before .before .pre in
     let if1 = c .before .before .before .before .before .before .before .if1 in
     let number = c .before .before .before .before .before .before .number in
     let source = c .before .before .before .before .source in
@@ -52,12 +52,6 @@ returns-3 c =
     (enough-words (wordsOf (a .line .now)) _ (omega (arith, pre .1, if1 .left))
     ∙ number-is _ 1 _ (sym (number .ensures) ∙ source .given .1)
     ∙ no-number _ 2 _ (sym (c .before .before .number2 .ensures) ∙ c .enum-told2 .given .1))
-
-no-numbers-requires : tie.Need-no-numbers-requires
-no-numbers-requires c κs = search needs
-
-slice-aggregate-numbers : tie.Need-slice-aggregate-numbers
-slice-aggregate-numbers c = search needs
 
 numbers-requires : tie.Need-numbers-requires
 numbers-requires c κs = search needs
@@ -68,10 +62,13 @@ enum-known-k c = search needs
 enum-told-3 : tie.Need-enum-told-3
 enum-told-3 c = search needs
 
+same-length : tie.Need-same-length
+same-length c = search needs
+
 returns-4 : tie.Need-returns-4
 returns-4 c =
-    let a = c .before .before .before .before .before .before .before .before .before .before .before .before .before .before .before .before .before .before .args in
-    let pre = c .before .before .before .before .before .before .before .before .before .before .before .before .before .before .before .before .before .before .pre in
+    let a = c .before .before .before .before .before .before .before .before .before .before .before .before .before .before .before .before .before .before .before .args in
+    let pre = c .before .before .before .before .before .before .before .before .before .before .before .before .before .before .before .before .before .before .before .pre in
     let if1 = c .before .before .before .before .before .before .before .before .before .before .before .before .before .before .if1 in
     let number = c .before .before .before .before .before .before .before .before .before .before .before .before .before .number in
     let source = c .before .before .before .before .before .before .before .before .before .before .before .source in
@@ -81,43 +78,45 @@ returns-4 c =
     (enough-words (wordsOf (a .line .now)) _ (omega (arith, pre .1, if1 .left))
     ∙ number-is _ 1 _ (sym (number .ensures) ∙ source .given .1)
     ∙ number-is _ 2 _ (sym (number2 .ensures) ∙ customer .given .1)
-    ∙ no-numbers (wordsOf (a .line .now)) 3 _ (read-none _ (sym (c .before .before .before .numbers .ensures .0) ∙ c .enum-told3 .given .1)))
+    ∙ no-numbers (wordsOf (a .line .now)) 3 _ (read-none _ (sym (c .before .before .before .before .numbers .ensures .0) ∙ c .enum-told3 .given .1)))
 
-array-share-prefix-providers : tie.Need-array-share-prefix-providers
-array-share-prefix-providers c =
-    let numbers = c .before .before .before .before .before .numbers in
+slice-reshare-prefix-file : tie.Need-slice-reshare-prefix-file
+slice-reshare-prefix-file c =
+    let numbers = c .before .before .before .before .before .before .numbers in
     omega (arith, ap listCount (c .before .before .k .given .1), numbers .ensures .2, numbers .kept .1 .1 .0)
 
 slice-aggregate-file : tie.Need-slice-aggregate-file
 slice-aggregate-file c =
-    let numbers = c .before .before .before .before .before .before .numbers in
+    let numbers = c .before .before .before .before .before .before .before .numbers in
     sym (length-take-le _ _ (omega (arith, ap listCount (c .before .before .before .k .given .1), numbers .ensures .2, numbers .kept .1 .1 .0)))
 
 file-requires : tie.Need-file-requires
 file-requires c κs = search needs
 
-same-length : tie.Need-same-length
-same-length c = search needs
+same-length-2 : tie.Need-same-length-2
+same-length-2 c = search needs
+
+same-length-3 : tie.Need-same-length-3
+same-length-3 c = search needs
 
 returns-5 : tie.Need-returns-5
 returns-5 c =
-    let a = c .before .before .before .before .before .before .before .before .before .before .before .before .before .before .before .before .before .before .before .before .before .before .before .before .args in
-    let pre = c .before .before .before .before .before .before .before .before .before .before .before .before .before .before .before .before .before .before .before .before .before .before .before .before .pre in
+    let a = c .before .before .before .before .before .before .before .before .before .before .before .before .before .before .before .before .before .before .before .before .before .before .before .before .before .args in
+    let pre = c .before .before .before .before .before .before .before .before .before .before .before .before .before .before .before .before .before .before .before .before .before .before .before .before .before .pre in
     let if1 = c .before .before .before .before .before .before .before .before .before .before .before .before .before .before .before .before .before .before .before .before .if1 in
     let number = c .before .before .before .before .before .before .before .before .before .before .before .before .before .before .before .before .before .before .before .number in
     let source = c .before .before .before .before .before .before .before .before .before .before .before .before .before .before .before .before .before .source in
     let number2 = c .before .before .before .before .before .before .before .before .before .before .before .before .before .before .before .number2 in
     let customer = c .before .before .before .before .before .before .before .before .before .before .before .before .before .customer in
-    let no-numbers′ = c .before .before .before .before .before .before .before .before .before .before .before .no-numbers in
-    let numbers = c .before .before .before .before .before .before .before .before .before .numbers in
+    let numbers = c .before .before .before .before .before .before .before .before .before .before .numbers in
     let k = c .before .before .before .before .before .before .k in
     let file = c .before .before .file in
-    files (a .reg .now) (a .led .now) (wordsOf (a .line .now)) (no-numbers′ .result) (omega (arith, pre .1, if1 .left))
+    files (a .reg .now) (a .led .now) (wordsOf (a .line .now)) (a .providers .now) (omega (arith, pre .1, if1 .left))
     (sym (number .ensures) ∙ source .given .1) (sym (number2 .ensures) ∙ customer .given .1) (numbers .ensures .0) (numbers .ensures .1)
     (numbers .ensures .2) (k .given .1) (file .ensures)
 
-pub file-spec : {M : Type 1} → statement M
-file-spec =
+pub file-into-spec : {M : Type 1} → statement M
+file-into-spec =
     tie.close
     (tie.spec
     returns
@@ -129,14 +128,14 @@ file-spec =
     enum-known-customer
     enum-told-2
     returns-3
-    no-numbers-requires
-    slice-aggregate-numbers
     numbers-requires
     enum-known-k
     enum-told-3
+    same-length
     returns-4
-    array-share-prefix-providers
+    slice-reshare-prefix-file
     slice-aggregate-file
     file-requires
-    same-length
+    same-length-2
+    same-length-3
     returns-5)
