@@ -8,11 +8,11 @@ use Rattle.snapshot.proofs.load.Tie as tie
 no-register-requires : tie.Need-no-register-requires
 no-register-requires c κs = search needs
 
-slice-aggregate-take-register : tie.Need-slice-aggregate-take-register
-slice-aggregate-take-register c = search needs
-
 take-register-requires : tie.Need-take-register-requires
 take-register-requires c κs = (c .before .before .before .before .before .pre .passed, c .before .no-register .ensures)
+
+slice-aggregate-take-register : tie.Need-slice-aggregate-take-register
+slice-aggregate-take-register c = search needs
 
 returns : tie.Need-returns
 returns c = register-wrong _ _ _ (c .before .before .before .before .before .before .before .before .pre) (denied (c .before .before .take-register .ensures .0) (c .if1 .taken))
