@@ -60,7 +60,6 @@ resized to table = take to (pad mostLent table)
 abbrev pub both : List ℕ → List ℕ → Tables
 both reg led = record { register = reg; ledger = led }
 
--- Writing a snapshot changes no table.
 abbrev pub after : Tables → Command → Tables
 after t (call c) = leaves t c
 after t (judge role neighbour attribute) = t

@@ -16,8 +16,8 @@ ghost use Rattle.commands.specs.Performing.{result, performedOn};
 // The most numbers, or bytes in hex, of a line: each takes two of its bytes.
 const MOST_PARTS: usize = crate::MOST_LINE / 2;
 
-// A call that no limit refuses fits in a line of this length. The parts of such a line have a buffer of their own, because clearing the large
-// one would take longer than the call.
+// A File, a Judge or a Keep that no limit refuses fits in a line of this length. The parts of such a line have a small buffer, because clearing
+// the large one would take longer than the call.
 const SHORT_LINE: usize = 4096;
 
 const SHORT_PARTS: usize = SHORT_LINE / 2;
@@ -247,6 +247,7 @@ pub fn read(line: &[u8], n: usize, reg: &mut [u32], led: &mut [u32]) -> Reply
     Reply::Restored(restored)
 }
 
+// The snapshot is written when the reply is put as text: it changes no table.
 pub fn write(line: &[u8], n: usize, reg: &mut [u32], led: &mut [u32]) -> Reply
     requires { ⌜ n ≡ length (wordsOf (now line)) ⌝ }
     ensures { λ r. ⌜ result r (now (reg .exit)) (now (led .exit))
