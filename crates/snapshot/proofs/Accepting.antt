@@ -2,13 +2,13 @@
 use Prim.Native.Nat.{ℕ, _+_, _*_, _%_, _≤_}
 use mathlib.Core.Path.{_≡_, refl, sym, ap, _∙_}
 use mathlib.Core.Bool.{Bool, true, false, not, _&&_, and-eq-true-iff}
-use mathlib.Core.List.{List, _++_}
+use mathlib.Core.List.{List}
 use mathlib.Core.Option.{Option, none, some}
 use lib.Dec.{leb, ltb, eqb}
 use lib.ListN.{length}
 use borrow.Author.Tests.{eqb-true, leb-true, ltb-false, eq-eqb, le-leb, le-ltb, not-true, not-false}
 use Rattle.types.specs.declared.Refusal.{Refusal}
-use Rattle.types.specs.declared.Refusal.the-variants.{TableLength, RegisterMalformed, RoutesMalformed, Edition, Contents, SnapshotLength}
+use Rattle.types.specs.declared.Refusal.the-variants.{RegisterMalformed, RoutesMalformed, Edition, Contents, SnapshotLength}
 use Rattle.types.specs.Rows.{rowIf, lengthRow, orElse, firstGiven}
 use Rattle.types.proofs.Clashes.{some-not-none}
 use Rattle.types.proofs.Refusing.{accepted-none, row-passed}

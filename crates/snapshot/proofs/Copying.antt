@@ -6,6 +6,7 @@ use native.Mathlib.Omega.{arith}
 use lib.ListN.{length, take, drop, getD, set, length-set, length-drop}
 use lib.Seq.{drop-cons, drop-length, getD-take, getD-drop, length-take-le, sets, length-sets}
 use Rattle.snapshot.specs.Snapshot.{wordBytes, bytesOf, wordsIn, contentsBytes, field}
+use Rattle.snapshot.specs.Helpers.{wordAt}
 
 -- ---- words as bytes
 
@@ -72,7 +73,7 @@ four a b c d bs = refl
 
 pub first-word : (bytes : List ℕ) (i : ℕ) → i + 4 ≤ length bytes
     → wordsIn (drop i bytes)
-    ≡ (getD bytes i 0 * 16777216 + getD bytes (i + 1) 0 * 65536 + getD bytes (i + 2) 0 * 256 + getD bytes (i + 3) 0) ∷ wordsIn (drop (i + 4) bytes)
+    ≡ wordAt bytes i ∷ wordsIn (drop (i + 4) bytes)
 first-word bytes i h =
     let e₁ : i + 1 ≡ suc i = omega arith in
     let e₂ : i + 2 ≡ suc (suc i) = omega arith in
@@ -87,7 +88,7 @@ first-word bytes i h =
 
 module _ {bytes into₀ into : List ℕ} {at i n : ℕ} (g : Unpacking bytes into₀ into at i n) where
   pub unpacks-on : i + 4 ≤ length bytes → (v : ℕ)
-      → v ≡ getD bytes i 0 * 16777216 + getD bytes (i + 1) 0 * 65536 + getD bytes (i + 2) 0 * 256 + getD bytes (i + 3) 0
+      → v ≡ wordAt bytes i
       → Unpacking bytes into₀ (set into n v) at (i + 4) (n + 1)
   unpacks-on h v e =
       let s : n + 1 ≡ suc n = omega arith in
@@ -110,32 +111,33 @@ module _ {bytes into₀ into : List ℕ} {at i n : ℕ} (g : Unpacking bytes int
 
 -- ---- one word
 
+-- The word at an index behind the first four bytes.
+four-on : (bs : List ℕ) (i : ℕ) → wordAt bs (wordBytes + i) ≡ wordAt (drop wordBytes bs) i
+four-on bs i =
+    let at : (j : ℕ) → getD bs (wordBytes + i + j) 0 ≡ getD (drop wordBytes bs) (i + j) 0 =
+    λ j. (let e : wordBytes + i + j ≡ wordBytes + (i + j) = omega arith in ap (λ n. getD bs n 0) e ∙ sym (getD-drop wordBytes bs (i + j) 0)) in
+    λ t. sym (getD-drop wordBytes bs i 0) t * 16777216 + at 1 t * 65536 + at 2 t * 256 + at 3 t
+
 -- Word k of bytes is that of the four bytes from 4 k on.
-nth-word : (bs : List ℕ) (k : ℕ) → 4 * k + 4 ≤ length bs
-    → getD bs (4 * k) 0 * 16777216 + getD bs (4 * k + 1) 0 * 65536 + getD bs (4 * k + 2) 0 * 256 + getD bs (4 * k + 3) 0 ≡ getD (wordsIn bs) k 0
+nth-word : (bs : List ℕ) (k : ℕ) → wordBytes * k + wordBytes ≤ length bs → wordAt bs (wordBytes * k) ≡ getD (wordsIn bs) k 0
 nth-word bs zero h = sym (ap (λ l. getD l 0 0) (first-word bs 0 (omega arith)))
 nth-word bs (suc k) h =
-    let e₀ : 4 * suc k ≡ 4 + 4 * k = omega arith in
-    let e₁ : 4 * suc k + 1 ≡ 4 + (4 * k + 1) = omega arith in
-    let e₂ : 4 * suc k + 2 ≡ 4 + (4 * k + 2) = omega arith in
-    let e₃ : 4 * suc k + 3 ≡ 4 + (4 * k + 3) = omega arith in
-    let b₀ = ap (λ n. getD bs n 0) e₀ ∙ sym (getD-drop 4 bs (4 * k) 0) in
-    let b₁ = ap (λ n. getD bs n 0) e₁ ∙ sym (getD-drop 4 bs (4 * k + 1) 0) in
-    let b₂ = ap (λ n. getD bs n 0) e₂ ∙ sym (getD-drop 4 bs (4 * k + 2) 0) in
-    let b₃ = ap (λ n. getD bs n 0) e₃ ∙ sym (getD-drop 4 bs (4 * k + 3) 0) in
-    let l : 4 * k + 4 ≤ length (drop 4 bs) = simp length-drop (omega arith) in
-    (λ i. b₀ i * 16777216 + b₁ i * 65536 + b₂ i * 256 + b₃ i)
-    ∙ nth-word (drop 4 bs) k l
-    ∙ sym (ap (λ l. getD l (suc k) 0) (first-word bs 0 (omega arith)))
+    ap (λ j. wordAt bs j) e ∙ four-on bs (wordBytes * k) ∙ nth-word (drop wordBytes bs) k (simp length-drop (omega arith)) ∙ sym (ap (λ l. getD l (suc k) 0) rest)
+  where
+    e : wordBytes * suc k ≡ wordBytes + wordBytes * k
+    e = omega arith
 
-pub field-at : (file : List ℕ) (k : ℕ) → contentsBytes ≤ length file → k < 5
-    → getD file (4 * k) 0 * 16777216 + getD file (4 * k + 1) 0 * 65536 + getD file (4 * k + 2) 0 * 256 + getD file (4 * k + 3) 0 ≡ field file k
+    rest : wordsIn bs ≡ wordAt bs 0 ∷ wordsIn (drop wordBytes bs)
+    rest = first-word bs 0 (omega arith)
+
+pub field-at : (file : List ℕ) (k : ℕ) → contentsBytes ≤ length file → k < 5 → wordAt file (wordBytes * k) ≡ field file k
 unfolding field
 field-at file k h l =
     let t : List ℕ = take contentsBytes file in
     let n : length t ≡ contentsBytes = length-take-le contentsBytes file h in
-    let b₀ = getD-take contentsBytes file (4 * k) 0 (omega arith) in
-    let b₁ = getD-take contentsBytes file (4 * k + 1) 0 (omega arith) in
-    let b₂ = getD-take contentsBytes file (4 * k + 2) 0 (omega arith) in
-    let b₃ = getD-take contentsBytes file (4 * k + 3) 0 (omega arith) in
-    (λ i. sym b₀ i * 16777216 + sym b₁ i * 65536 + sym b₂ i * 256 + sym b₃ i) ∙ nth-word t k (omega arith)
+    let at : (j : ℕ) → j < contentsBytes → getD file j 0 ≡ getD t j 0 = λ j m. sym (getD-take contentsBytes file j 0 m) in
+    (λ i. at (wordBytes * k) (omega arith) i * 16777216
+    + at (wordBytes * k + 1) (omega arith) i * 65536
+    + at (wordBytes * k + 2) (omega arith) i * 256
+    + at (wordBytes * k + 3) (omega arith) i)
+    ∙ nth-word t k (omega arith)

@@ -1,8 +1,8 @@
 -- What writing and reading promise together. Assumes nothing.
-use Prim.Native.Nat.{ℕ, _+_, _≤_, _<_}
+use Prim.Native.Nat.{ℕ, _≤_, _<_}
 use mathlib.Core.Path.{_≡_, refl, sym, ap, _∙_}
 use mathlib.Core.Bool.{Bool, true, false, not}
-use mathlib.Core.List.{List, []}
+use mathlib.Core.List.{List}
 use mathlib.Core.Option.{Option, none, some}
 use mathlib.Core.Logic.{_↔_}
 use native.Mathlib.Omega.{arith}
@@ -14,11 +14,11 @@ use Rattle.types.specs.declared.Refusal.{Refusal}
 use Rattle.types.specs.declared.Refusal.the-variants.{TableLength, RegisterMalformed, RoutesMalformed, OutputLength, Edition, Contents, SnapshotLength}
 use Rattle.types.specs.declared.Written.the-variants as written
 use Rattle.types.specs.declared.Restored.the-variants as restored
-use Rattle.types.specs.Rows.{firstGiven, FirstAt, Numbered, Effect, effect, unlessRefused}
+use Rattle.types.specs.Rows.{firstGiven, FirstAt, effect, unlessRefused}
 use Rattle.types.proofs.Clashes.{clash}
-use Rattle.types.proofs.Refusing.{refused-first, first-refuses, accepted-none, none-accepted, row-passed, answers-first, refusal-leaves, numbered}
-use Rattle.register.specs.Register.{registerWords, recordWidth, registerOk}
-use Rattle.ledger.specs.Routes.{ledgerWords, routeWidth, ledgerOk}
+use Rattle.types.proofs.Refusing.{refused-first, first-refuses, accepted-none, none-accepted, answers-first, refusal-leaves, numbered}
+use Rattle.register.specs.Register.{registerWords, registerOk}
+use Rattle.ledger.specs.Routes.{ledgerWords, ledgerOk}
 use Rattle.snapshot.specs.Snapshot.{bytesOf, Bytes, contentsBytes, edition, snapshotOf, field, contentsOk, lengthIn, registerIn, ledgerIn, registerInOk, ledgerInOk}
 use Rattle.snapshot.specs.Calls.{writeRows, over, writeEffect, readRows, reading, readUnless, readEffect}
 use Rattle.snapshot.specs.Laws.{FormedTables, RoundTrips, WriteLaws, ReadLaws, SnapshotLaws}

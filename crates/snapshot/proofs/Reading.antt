@@ -1,14 +1,13 @@
 -- Reading, step by step: each row refuses in its turn, and what passes is loaded. Assumes nothing.
 use Prim.Native.Nat.{ℕ, _+_, _-_, _*_, _%_, _≤_}
 use mathlib.Core.Path.{_≡_, refl, sym, ap, _∙_}
-use mathlib.Core.Bool.{true, false, _&&_}
+use mathlib.Core.Bool.{true, false}
 use mathlib.Core.List.{List, _++_, append-nil}
 use mathlib.Core.Option.{Option, none, some}
 use native.Mathlib.Omega.{arith}
 use native.Mathlib.Nat.{zero-add}
-use lib.Dec.{eqb}
 use lib.ListN.{length, take, drop, replicate, length-drop, length-replicate, replicate-append-replicate, drop-of-length-le}
-use lib.Seq.{drop-at, take-all, length-take-le, sets, sets-eq}
+use lib.Seq.{drop-at, take-all, sets, sets-eq}
 use borrow.Author.Tests.{eq-eqb, ne-eqb}
 use Rattle.types.specs.declared.Refusal.{Refusal}
 use Rattle.types.specs.declared.Refusal.the-variants.{TableLength, RegisterMalformed, RoutesMalformed}
@@ -17,9 +16,9 @@ use Rattle.types.specs.Rows.{orElse, firstGiven}
 use Rattle.types.proofs.Clashes.{clash}
 use Rattle.runs.specs.Words.{pasted}
 use Rattle.table.specs.Table.{pad}
-use Rattle.register.specs.Register.{registerWords, recordWidth, registerOk}
-use Rattle.ledger.specs.Routes.{ledgerWords, routeWidth, ledgerOk}
-use Rattle.snapshot.specs.Snapshot.{wordBytes, wordsIn, contentsBytes, usedBytes, registerBytes, ledgerBytes, registerIn, ledgerIn, registerInOk, ledgerInOk}
+use Rattle.register.specs.Register.{registerWords}
+use Rattle.ledger.specs.Routes.{ledgerWords}
+use Rattle.snapshot.specs.Snapshot.{wordBytes, wordsIn, contentsBytes, registerBytes, registerIn, ledgerIn, registerInOk, ledgerInOk}
 use Rattle.snapshot.specs.Calls.{contentsRows, bodyRows, readRows, reading, readUnless, readEffect}
 use Rattle.snapshot.specs.Helpers.{answerBy, Loadable}
 use Rattle.snapshot.proofs.Accepting.{cut, rows-left}

@@ -1,31 +1,21 @@
 -- Writing and reading undo each other. Assumes nothing.
-use Prim.Native.Nat.{ℕ, _+_, _*_, _≤_}
+use Prim.Native.Nat.{ℕ, _+_, _*_}
 use mathlib.Core.Path.{_≡_, refl, sym, ap, _∙_}
 use mathlib.Core.List.{List, [], _∷_, _++_}
-use mathlib.Core.Option.{Option, none, some}
 use native.Mathlib.Omega.{arith}
-use lib.ListN.{length, take, drop, getD, length-append, length-drop, take-append-drop}
-use lib.Seq.{take-at, drop-at, drop-drop, length-take-le}
-use borrow.Author.Tests.{eq-eqb, eqb-true, le-ltb, ltb-false}
-use Rattle.types.specs.declared.Refusal.{Refusal}
-use Rattle.types.specs.declared.Refusal.the-variants.{TableLength, RegisterMalformed, RoutesMalformed, OutputLength}
-use Rattle.types.specs.declared.Written.{Written}
-use Rattle.types.specs.declared.Written.the-variants as written
+use lib.ListN.{length, take, drop, getD, length-append, take-append-drop}
+use lib.Seq.{take-at, drop-at, drop-drop}
 use Rattle.types.specs.declared.Restored.the-variants as restored
-use Rattle.types.specs.Rows.{firstGiven, Effect, effect, unlessRefused}
-use Rattle.types.proofs.Clashes.{clash}
-use Rattle.types.proofs.Refusing.{accepted-none, row-passed}
 use Rattle.table.specs.Table.{pad}
-use Rattle.register.specs.Register.{registerWords, recordWidth, registerOk}
-use Rattle.ledger.specs.Routes.{ledgerWords, routeWidth, ledgerOk}
-use lib.Dec.{ltb, eqb}
+use Rattle.register.specs.Register.{registerWords, recordWidth}
+use Rattle.ledger.specs.Routes.{ledgerWords, routeWidth}
 use Rattle.snapshot.specs.Snapshot.{wordBytes, bytesOf, wordsIn, Bytes, contentsBytes, usedCount, usedBytes, used, contentsOf, snapshotOf, field, registerBytes, ledgerBytes, registerIn, ledgerIn}
-use Rattle.snapshot.specs.Calls.{writeRows, over, writeEffect, readRows, reading, readUnless, readEffect}
-use Rattle.snapshot.specs.Laws.{FormedTables, RoundTrips}
+use Rattle.snapshot.specs.Calls.{reading, readUnless, readEffect}
+use Rattle.snapshot.specs.Laws.{FormedTables}
 use Rattle.snapshot.proofs.Bytewise.{words-bytes, bytes-words, length-bytes, length-words, bytes-take, bytes-drop}
 use Rattle.snapshot.proofs.Padding.{Filled, take-pad, register-filled, ledger-filled}
 use Rattle.snapshot.proofs.Parts.{headPart, firstPart, secondPart, long-head-part, long-first-part, long-second-part, words-first, words-second, register-long, ledger-long}
-use Rattle.snapshot.proofs.Accepting.{passed, Accepted, read-passes, read-passed}
+use Rattle.snapshot.proofs.Accepting.{Accepted, read-passes}
 
 -- ---- a file that was written
 

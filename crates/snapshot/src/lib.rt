@@ -8,14 +8,14 @@ ghost use mathlib.Core.List.{[], _∷_};
 ghost use mathlib.Core.Option.{none};
 ghost use Prim.Native.Nat.{_+_, _*_, _%_, _≤_, _<_, _^_};
 ghost use lib.Dec.{eqb};
-ghost use lib.ListN.{length, getD, replicate};
+ghost use lib.ListN.{length, replicate};
 ghost use lib.Seq.{sets};
 ghost use Rattle.register.specs.Register.{registerWords, recordWidth, registerOk};
 ghost use Rattle.ledger.specs.Routes.{ledgerWords, routeWidth, ledgerOk};
 ghost use Rattle.types.specs.Rows.{firstGiven, effect};
 ghost use Rattle.snapshot.specs.Snapshot.{wordBytes, bytesOf, wordsIn, contentsBytes, usedCount, usedBytes, snapshotOf, field as fieldOf, lengthOk, contentsOk, registerIn, ledgerIn, registerInOk, ledgerInOk};
 ghost use Rattle.snapshot.specs.Calls.{over, writeEffect, contentsRows, reading, readEffect};
-ghost use Rattle.snapshot.specs.Helpers.{Writable, answerBy, Loadable};
+ghost use Rattle.snapshot.specs.Helpers.{wordAt, Writable, answerBy, Loadable};
 
 const EDITION: u32 = 1;
 
@@ -39,8 +39,7 @@ fn wide(x: u8) -> u32
 // The word of the four bytes from index i on.
 fn word_at(bytes: &[u8], i: usize) -> u32
     requires { ⌜ i + wordBytes ≤ length (now bytes) ⌝ }
-    ensures { λ r. ⌜ r ≡ getD (now (bytes .entry)) i 0 * 16777216 + getD (now (bytes .entry)) (i + 1) 0 * 65536
-        + getD (now (bytes .entry)) (i + 2) 0 * 256 + getD (now (bytes .entry)) (i + 3) 0 ⌝ }
+    ensures { λ r. ⌜ r ≡ wordAt (now (bytes .entry)) i ⌝ }
 {
     let a = wide(bytes[i]);
     let b = wide(bytes[i + 1]);
