@@ -3,24 +3,25 @@
  *
  * The caller lends two tables of 32-bit words, in memory of its own:
  *   - the register, of ASPA_REGISTER_WORDS words: provider records from up to eight sources;
- *   - the ledger, of ASPA_LEDGER_WORDS words: kept routes with their verdicts. Only aspa_keep, aspa_drop and
- *     aspa_rejudge need one.
+ *   - the ledger, of ASPA_LEDGER_WORDS words: kept routes with their verdicts. Only aspa_keep, aspa_drop, aspa_rejudge,
+ *     aspa_write and aspa_read need one.
  * A table of zeros is empty and well formed. The library allocates nothing, keeps nothing between calls, and calls
- * nothing but memset. A table may be copied, stored and loaded word by word.
+ * nothing but memset and memcpy. A table may be copied, stored and loaded word by word; aspa_write and aspa_read store
+ * and load both as one file that is the same on every machine.
  *
  * Every call returns ASPA_OK, which is 0, or the number of a refusal. A row is one line of the table of refusals,
  * ASPA_REFUSALS below: a number, a name and what it means. Each call tests the rows that concern its own arguments and
- * tables, lowest number first, but 12 to 16 go by place, and is refused by the first that is given. A refusal changes
- * no table. It does write the answer words `out` and `gap`, with words that no answer has: ASPA_NO_VERDICT,
- * ASPA_NOT_FILED, ASPA_NO_COUNT.
+ * tables, in the order in which they are listed with it, and is refused by the first that is given; 12 to 16 go by
+ * place. A refusal changes no table and no byte of an output. It does write the answer words `out` and `gap`, with
+ * words that no answer has: ASPA_NO_VERDICT, ASPA_NOT_FILED, ASPA_NO_COUNT.
  *
  * What every call asks of its pointers. The library cannot test these, and to break one is undefined behaviour:
  *   - a pointer that comes with a length (`.._len`, counted in elements) has that many elements that can be read, and
  *     written too if it is not const. With length 0 it may be null: nothing is read there;
  *   - `out` has the number of words that its declaration says, `gap` one, and neither is null;
  *   - each is aligned for its type, and what it reads from has been written before;
- *   - what a call may write (the table that is not const, `out`, `gap`) overlaps nothing else that is passed to the
- *     same call: not the other table, not a provider list or an attribute, not another answer;
+ *   - what a call may write (the tables and the output that are not const, `out`, `gap`) overlaps nothing else that is
+ *     passed to the same call: not the other table, not a provider list, an attribute or a file, not another answer;
  *   - no other thread writes what a call reads, or touches what it writes, until it returns. Calls on different tables
  *     may run at the same time.
  * A wrong table length, a malformed table and every other value of an argument are no such break: they are refused.
@@ -37,9 +38,9 @@ extern "C" {
 
 /* The version of this header and of the library that is installed with it. */
 #define ASPA_FILTER_VERSION_MAJOR 0
-#define ASPA_FILTER_VERSION_MINOR 2
+#define ASPA_FILTER_VERSION_MINOR 3
 #define ASPA_FILTER_VERSION_PATCH 0
-#define ASPA_FILTER_VERSION "0.2.0"
+#define ASPA_FILTER_VERSION "0.3.0"
 
 /* gcc and clang warn about a call whose result is not used. */
 #if defined(__GNUC__) || defined(__clang__)
@@ -85,6 +86,10 @@ extern "C" {
 #define ASPA_ROUTE_START 7
 #define ASPA_ROUTE_COUNT 8
 
+/* The bytes of a snapshot before its tables, and of the longest: enough for the file of any two tables. */
+#define ASPA_CONTENTS_BYTES 20
+#define ASPA_SNAPSHOT_BYTES (ASPA_CONTENTS_BYTES + 4 * (ASPA_REGISTER_WORDS + ASPA_LEDGER_WORDS))
+
 /* Sources are numbered from 0 to this. */
 #define ASPA_GREATEST_SOURCE 7
 /* The most providers in one list, bytes of an attribute, and numbers of a merged path. */
@@ -111,7 +116,7 @@ extern "C" {
 #define ASPA_REPLACED 1
 #define ASPA_NOT_FILED 2
 
-/* In place of a count where a clearing or a re-judging was refused. */
+/* In place of a count or a length where a clearing, a re-judging or a writing was refused. */
 #define ASPA_NO_COUNT UINT32_MAX
 
 /* Grounds on which a route is Invalid before any hop is looked at. */
@@ -144,7 +149,11 @@ extern "C" {
     ROW(17, PATH_LENGTH, "the merged path has too many numbers")                                              \
     ROW(18, ROUTE_TAKEN, "the route number is taken")                                                         \
     ROW(19, NO_ROUTE, "the ledger has no such route")                                                         \
-    ROW(20, LEDGER_FULL, "the ledger has no room for the route")
+    ROW(20, LEDGER_FULL, "the ledger has no room for the route")                                              \
+    ROW(21, OUTPUT_LENGTH, "the output is too short for the file")                                            \
+    ROW(22, EDITION, "the file's edition is unknown")                                                         \
+    ROW(23, CONTENTS, "the file's contents are wrong")                                                        \
+    ROW(24, SNAPSHOT_LENGTH, "the file is cut short, or longer than its contents say")
 
 /* What a call returns. */
 enum {
@@ -225,10 +234,36 @@ uint32_t aspa_drop(uint32_t *ledger, size_t ledger_len, uint32_t route);
  * Judges every kept route that has no ground again by the register, and rewrites its verdict and both places in the
  * ledger. Rows 1, 2, 3.
  *   out[0]: how many routes changed in any of those three words. On a refusal ASPA_NO_COUNT.
- * It takes some 17 KiB of stack; every other call takes less than 2 KiB.
+ * It takes some 17 KiB of stack, and aspa_read more; every other call takes less than 2 KiB.
  */
 ASPA_USE_RESULT
 uint32_t aspa_rejudge(const uint32_t *reg, size_t reg_len, uint32_t *ledger, size_t ledger_len, uint32_t out[1]);
+
+/*
+ * Writes a snapshot of both tables, one file that aspa_read takes, to the start of the output. The output's bytes behind
+ * the file stay, and so do both tables. Rows 1, 2, 3, 21; the last exactly when the output is shorter than the file.
+ *   out[0]: the file's length in bytes, at most ASPA_SNAPSHOT_BYTES. On a refusal ASPA_NO_COUNT.
+ * A file is numbers of four bytes, the high byte first: the contents, which are the edition (1), then for the register
+ * and then for the ledger where its words begin and how many bytes they are; and those words, each table's from word 0
+ * to the last that its counts lead to. The register's begin at byte ASPA_CONTENTS_BYTES, and there is no gap.
+ */
+ASPA_USE_RESULT
+uint32_t aspa_write(const uint32_t *reg, size_t reg_len, const uint32_t *ledger, size_t ledger_len,
+                    uint8_t *output, size_t output_len, uint32_t out[1]);
+
+/*
+ * Reads a snapshot into both tables. Their earlier words are not looked at, so they may be anything; a refused call
+ * leaves every one of them. Rows 1; 24 for a file of less than ASPA_CONTENTS_BYTES; 22; 23, by the contents alone; 24;
+ * then 2 and 3, which speak of the tables in the file: of their words, and of a length that is not the one which the
+ * table's own counts make.
+ * What was written comes back word for word, and a file that is accepted is, byte for byte, the one that aspa_write
+ * gives of the tables that it yields. Only a file's form is checked, and not where it comes from. Its verdicts may no
+ * longer be true, or never have been: call aspa_rejudge before you go by them.
+ * It takes some 100 KiB of stack, where the file's words are checked before any word of the tables changes.
+ */
+ASPA_USE_RESULT
+uint32_t aspa_read(const uint8_t *file, size_t file_len, uint32_t *reg, size_t reg_len,
+                   uint32_t *ledger, size_t ledger_len);
 
 /* ---- conveniences over the calls above, in this header only ---- */
 

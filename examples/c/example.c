@@ -1,7 +1,11 @@
-/* Files records from two sources, judges and keeps routes, and judges them again as records come and go. */
+/*
+ * Files records from two sources, judges and keeps routes, and judges them again as records come and go. Then writes a
+ * snapshot of both tables and reads it back.
+ */
 #include <inttypes.h>
 #include <stdint.h>
 #include <stdio.h>
+#include <string.h>
 
 #include "aspa_filter.h"
 
@@ -116,6 +120,23 @@ static void clear(uint32_t source) {
         printf("clear: %" PRIu32 " went\n", out[0]);
 }
 
+/* Both tables as one file, and back into tables that start empty. A program would store the first `length` bytes. */
+static void save_and_restore(void) {
+    static uint8_t file[ASPA_SNAPSHOT_BYTES];
+    uint32_t length[1];
+    uint32_t refusal = aspa_write(reg, ASPA_REGISTER_WORDS, ledger, ASPA_LEDGER_WORDS, file, sizeof file, length);
+    if (refusal != ASPA_OK) {
+        print_result("write", refusal);
+        return;
+    }
+    printf("write: %" PRIu32 " bytes\n", length[0]);
+    memset(reg, 0, sizeof reg);
+    memset(ledger, 0, sizeof ledger);
+    print_result("read, one byte cut",
+                 aspa_read(file, length[0] - 1, reg, ASPA_REGISTER_WORDS, ledger, ASPA_LEDGER_WORDS));
+    print_result("read", aspa_read(file, length[0], reg, ASPA_REGISTER_WORDS, ledger, ASPA_LEDGER_WORDS));
+}
+
 int main(void) {
     static const uint32_t of_10[] = {20, 30}, of_20[] = {40}, of_20_too[] = {50}, of_40[] = {0}, of_50[] = {40};
     static const uint32_t up[] = {50, 20, 10}, peak[] = {20, 10, 30}, over[] = {50, 40, 20, 10}, many[256] = {20};
@@ -154,6 +175,10 @@ int main(void) {
 
     print_result("drop", aspa_drop(ledger, ASPA_LEDGER_WORDS, 2));
     print_result("drop", aspa_drop(ledger, ASPA_LEDGER_WORDS, 2));
+    rejudge();
+
+    save_and_restore();
+    /* The stored verdicts are as old as the file. */
     rejudge();
     return 0;
 }

@@ -1,6 +1,7 @@
 /*
  * Every refusal of every call, through C: the number that is returned, the words that are written in place of an answer,
- * and that no word of a table changes. Then null with length 0, and the conveniences of the header.
+ * and that no word of a table and no byte of an output changes. Then snapshots written and read, null with length 0, and
+ * the conveniences of the header.
  */
 #include <inttypes.h>
 #include <stdint.h>
@@ -13,7 +14,8 @@
 /* On the heap and not a word longer than they are lent, so that valgrind sees a step past the end. */
 static uint32_t *reg, *ledger;
 static uint32_t reg_before[ASPA_REGISTER_WORDS], ledger_before[ASPA_LEDGER_WORDS];
-static uint32_t rows_seen[ASPA_REFUSED_LEDGER_FULL + 1];
+#define LAST_ROW ASPA_REFUSED_SNAPSHOT_LENGTH
+static uint32_t rows_seen[LAST_ROW + 1];
 static int checks, failures;
 
 #define CHECK(holds) check((holds), #holds, __LINE__)
@@ -125,6 +127,51 @@ static void not_kept(size_t reg_len, size_t ledger_len, uint32_t number, route r
 #define R ASPA_REGISTER_WORDS
 #define L ASPA_LEDGER_WORDS
 
+/* So many bytes on the heap and none behind them, no two neighbours equal. */
+static uint8_t *output_of(size_t n) {
+    size_t i;
+    uint8_t *bytes = (uint8_t *)malloc(n);
+    if (bytes == NULL)
+        abort();
+    for (i = 0; i < n; i++)
+        bytes[i] = (uint8_t)(7 * i + 3);
+    return bytes;
+}
+
+/* Whether the bytes from `at` on are still those of `output_of`. */
+static int untouched(const uint8_t *bytes, size_t at, size_t n) {
+    size_t i;
+    for (i = at; i < n; i++)
+        if (bytes[i] != (uint8_t)(7 * i + 3))
+            return 0;
+    return 1;
+}
+
+static void not_written(size_t reg_len, size_t ledger_len, size_t output_len, uint32_t row, int line) {
+    uint8_t *output = output_of(output_len);
+    refused(aspa_write(reg, reg_len, ledger, ledger_len, output, output_len, fresh()), row, "a writing", line);
+    check(out[0] == ASPA_NO_COUNT, "no length", line);
+    check(untouched(output, 0, output_len), "every byte of the output", line);
+    free(output);
+}
+
+/* The file is on the heap too. */
+static uint32_t read_exactly(const uint8_t *file, size_t file_len, size_t reg_len, size_t ledger_len, int line) {
+    uint32_t result;
+    uint8_t *bytes = (uint8_t *)calloc(file_len, 1);
+    if (bytes == NULL)
+        abort();
+    memcpy(bytes, file, file_len);
+    result = aspa_read(bytes, file_len, reg, reg_len, ledger, ledger_len);
+    check(memcmp(bytes, file, file_len) == 0, "every byte of the file", line);
+    free(bytes);
+    return result;
+}
+
+static void not_read(const uint8_t *file, size_t file_len, size_t reg_len, size_t ledger_len, uint32_t row, int line) {
+    refused(read_exactly(file, file_len, reg_len, ledger_len, line), row, "a reading", line);
+}
+
 /* Rows 9 to 17 are of the route alone: Judge and Keep are refused alike. */
 #define REFUSED_ROUTE(r, row, place) (not_judged(R, r, row, place, __LINE__), not_kept(R, L, 1, r, row, place, __LINE__))
 
@@ -153,7 +200,7 @@ static uint32_t *with_one_more(const uint32_t *table, size_t n) {
     return longer;
 }
 
-/* Every call that is lent a register, with so many words of it. */
+/* Every call that looks at a register, with so many words of it. */
 static void register_refused(size_t n, uint32_t row) {
     REFUSED_FILING(aspa_file(reg, n, 0, 10, provider, 1, fresh()), row);
     REFUSED(aspa_withdraw(reg, n, 0, 10), row);
@@ -161,13 +208,47 @@ static void register_refused(size_t n, uint32_t row) {
     REFUSED_COUNT(aspa_rejudge(reg, n, ledger, L, fresh()), row);
     not_judged(n, good, row, 0, __LINE__);
     not_kept(n, L, 1, good, row, 0, __LINE__);
+    not_written(n, L, ASPA_SNAPSHOT_BYTES, row, __LINE__);
+    not_written(n, L, 0, row, __LINE__);
 }
 
-/* Every call that is lent a ledger. */
+/* Every call that looks at a ledger. */
 static void ledger_refused(size_t n, uint32_t row) {
     REFUSED(aspa_drop(ledger, n, 7), row);
     REFUSED_COUNT(aspa_rejudge(reg, R, ledger, n, fresh()), row);
     not_kept(R, n, 1, good, row, 0, __LINE__);
+    not_written(R, n, ASPA_SNAPSHOT_BYTES, row, __LINE__);
+    not_written(R, n, 0, row, __LINE__);
+}
+
+/* The snapshot of the tables that `begin` makes: a record, and a route over two numbers. */
+#define WORDS_OF_BEGIN 25
+#define BYTES_OF_BEGIN (4 * WORDS_OF_BEGIN)
+static const uint32_t words_of_begin[WORDS_OF_BEGIN] = {
+    1, 20, 28, 48, 52,                                /* the edition, both starts and lengths */
+    1, 1,  10, 0,  0,  1, 20,                         /* the register */
+    1, 2,  7,  1,  20, 0, 0, 0, 0, 0, 2, 20, 10};     /* the ledger */
+
+static void put(uint8_t *file, size_t word, uint32_t value) {
+    size_t i;
+    for (i = 0; i < 4; i++)
+        file[4 * word + i] = (uint8_t)(value >> (24 - 8 * i));
+}
+
+/* That file, and room for one word more, which is zero. */
+static const uint8_t *file_of_begin(uint8_t file[BYTES_OF_BEGIN + 4]) {
+    size_t i;
+    memset(file, 0, BYTES_OF_BEGIN + 4);
+    for (i = 0; i < WORDS_OF_BEGIN; i++)
+        put(file, i, words_of_begin[i]);
+    return file;
+}
+
+/* Reading goes by the lengths of the tables before it looks at the file. */
+static void read_refused(size_t reg_len, size_t ledger_len) {
+    uint8_t file[BYTES_OF_BEGIN + 4];
+    not_read(file_of_begin(file), BYTES_OF_BEGIN, reg_len, ledger_len, ASPA_REFUSED_TABLE_LENGTH, __LINE__);
+    not_read(file, 0, reg_len, ledger_len, ASPA_REFUSED_TABLE_LENGTH, __LINE__);
 }
 
 static void wrong_lengths(void) {
@@ -176,18 +257,26 @@ static void wrong_lengths(void) {
     register_refused(R - 1, ASPA_REFUSED_TABLE_LENGTH);
     register_refused(ASPA_COUNT_WORDS, ASPA_REFUSED_TABLE_LENGTH);
     register_refused(0, ASPA_REFUSED_TABLE_LENGTH);
+    read_refused(R - 1, L);
+    read_refused(ASPA_COUNT_WORDS, L);
+    read_refused(0, L);
     ledger_refused(L - 1, ASPA_REFUSED_TABLE_LENGTH);
     ledger_refused(ASPA_COUNT_WORDS, ASPA_REFUSED_TABLE_LENGTH);
     ledger_refused(0, ASPA_REFUSED_TABLE_LENGTH);
+    read_refused(R, L - 1);
+    read_refused(R, ASPA_COUNT_WORDS);
+    read_refused(R, 0);
     /* One word too many, of tables that are otherwise the same. */
     lent = reg;
     reg = with_one_more(reg, R);
     register_refused(R + 1, ASPA_REFUSED_TABLE_LENGTH);
+    read_refused(R + 1, L);
     free(reg);
     reg = lent;
     lent = ledger;
     ledger = with_one_more(ledger, L);
     ledger_refused(L + 1, ASPA_REFUSED_TABLE_LENGTH);
+    read_refused(R, L + 1);
     free(ledger);
     ledger = lent;
 }
@@ -286,6 +375,180 @@ static void routes(void) {
     CHECK(aspa_drop(ledger, L, 7) == ASPA_OK);
 }
 
+/* Writes both tables, into an output with so many bytes more than the file has, and reads the file over other words. */
+static void round_trip(uint32_t length, size_t more, int line) {
+    uint8_t *output = output_of(length + more), *again = output_of(length);
+    uint32_t *lent_reg = reg, *lent_ledger = ledger;
+    remember();
+    check(aspa_write(reg, R, ledger, L, output, length + more, fresh()) == ASPA_OK, "written", line);
+    check(out[0] == length, "the file's length", line);
+    check(untouched(output, length, length + more), "the output's bytes behind the file", line);
+    check(unchanged(), "tables that are written", line);
+    not_written(R, L, length - 1, ASPA_REFUSED_OUTPUT_LENGTH, line);
+    reg = (uint32_t *)malloc(sizeof reg_before);
+    ledger = (uint32_t *)malloc(sizeof ledger_before);
+    if (reg == NULL || ledger == NULL)
+        abort();
+    memset(reg, 0xAA, sizeof reg_before);
+    memset(ledger, 0xAA, sizeof ledger_before);
+    check(read_exactly(output, length, R, L, line) == ASPA_OK, "read", line);
+    check(unchanged(), "every word that was written", line);
+    /* The same file again. */
+    check(aspa_write(reg, R, ledger, L, again, length, fresh()) == ASPA_OK && out[0] == length, "written again", line);
+    check(memcmp(output, again, length) == 0, "the same file", line);
+    free(reg);
+    free(ledger);
+    reg = lent_reg;
+    ledger = lent_ledger;
+    free(output);
+    free(again);
+}
+
+/* A word of the file of `begin` changed, and the row by which it is refused. */
+static void damaged(size_t word, uint32_t value, uint32_t row, int line) {
+    uint8_t file[BYTES_OF_BEGIN + 4];
+    file_of_begin(file);
+    put(file, word, value);
+    not_read(file, BYTES_OF_BEGIN, R, L, row, line);
+    /* The edition and the contents are judged before the file's length. */
+    if (row == ASPA_REFUSED_EDITION || row == ASPA_REFUSED_CONTENTS) {
+        not_read(file, BYTES_OF_BEGIN + 4, R, L, row, line);
+        not_read(file, ASPA_CONTENTS_BYTES, R, L, row, line);
+    }
+    not_read(file, ASPA_CONTENTS_BYTES - 1, R, L, ASPA_REFUSED_SNAPSHOT_LENGTH, line);
+}
+
+#define DAMAGED(word, value, row) damaged(word, value, row, __LINE__)
+
+/* Every single bit of a file: it is refused, or what it says is what writing gives again. */
+static void every_bit(void) {
+    uint8_t file[BYTES_OF_BEGIN + 4], again[BYTES_OF_BEGIN];
+    size_t bit, accepted = 0;
+    for (bit = 0; bit < 8 * BYTES_OF_BEGIN; bit++) {
+        uint32_t row;
+        begin();
+        file_of_begin(file);
+        file[bit / 8] = (uint8_t)(file[bit / 8] ^ 1 << bit % 8);
+        row = read_exactly(file, BYTES_OF_BEGIN, R, L, __LINE__);
+        if (row != ASPA_OK) {
+            CHECK(row == ASPA_REFUSED_EDITION || row == ASPA_REFUSED_CONTENTS || row == ASPA_REFUSED_SNAPSHOT_LENGTH ||
+                  row == ASPA_REFUSED_REGISTER_MALFORMED || row == ASPA_REFUSED_LEDGER_MALFORMED);
+            CHECK(unchanged());
+            continue;
+        }
+        accepted++;
+        CHECK(!unchanged());
+        CHECK(aspa_write(reg, R, ledger, L, again, BYTES_OF_BEGIN, fresh()) == ASPA_OK && out[0] == BYTES_OF_BEGIN);
+        CHECK(memcmp(file, again, BYTES_OF_BEGIN) == 0);
+    }
+    /*
+     * Accepted: every bit of the customer, the provider, the route's number and the origin; the sources 1, 2 and 4, the
+     * roles 3 and 5, the verdicts 1 and 2, and for each place 1, 2, 4 and so on to 64. The first number of a path is the
+     * neighbour, so neither can change alone.
+     */
+    CHECK(accepted == 4 * 32 + 3 + 2 + 2 + 2 * 7);
+}
+
+static void snapshots(void) {
+    uint8_t file[BYTES_OF_BEGIN + 4], written[BYTES_OF_BEGIN];
+    uint32_t n, i, providers[ASPA_MOST_PROVIDER_WORDS / ASPA_MOST_RECORDS];
+    uint8_t bytes[2 + 4 * (ASPA_MOST_PATH_WORDS / ASPA_MOST_ROUTES)];
+    begin();
+    file_of_begin(file);
+    CHECK(aspa_write(reg, R, ledger, L, written, sizeof written, fresh()) == ASPA_OK && out[0] == BYTES_OF_BEGIN);
+    CHECK(memcmp(written, file, BYTES_OF_BEGIN) == 0);
+    for (n = 0; n < BYTES_OF_BEGIN; n++)
+        not_written(R, L, n, ASPA_REFUSED_OUTPUT_LENGTH, __LINE__);
+    /* Any other length than the contents say. */
+    for (n = 0; n < BYTES_OF_BEGIN; n++)
+        not_read(file, n, R, L, ASPA_REFUSED_SNAPSHOT_LENGTH, __LINE__);
+    for (n = 1; n <= 4; n++)
+        not_read(file, BYTES_OF_BEGIN + n, R, L, ASPA_REFUSED_SNAPSHOT_LENGTH, __LINE__);
+    DAMAGED(0, 0, ASPA_REFUSED_EDITION);
+    DAMAGED(0, 2, ASPA_REFUSED_EDITION);
+    DAMAGED(0, UINT32_C(1) << 24, ASPA_REFUSED_EDITION);
+    DAMAGED(0, UINT32_MAX, ASPA_REFUSED_EDITION);
+    DAMAGED(1, 0, ASPA_REFUSED_CONTENTS);
+    DAMAGED(1, 19, ASPA_REFUSED_CONTENTS);
+    DAMAGED(1, 24, ASPA_REFUSED_CONTENTS);
+    /* A start that follows, so that the length alone is wrong: too short, no whole words, longer than the table, and one
+       whose sum with the start passes 2^32. */
+    for (i = 0; i < 7; i++) {
+        static const uint32_t lengths[] = {0, 4, 29, 30, 31, 4 * R + 4, UINT32_MAX - 19};
+        file_of_begin(file);
+        put(file, 2, lengths[i]);
+        put(file, 3, 20 + lengths[i]);
+        not_read(file, BYTES_OF_BEGIN, R, L, ASPA_REFUSED_CONTENTS, __LINE__);
+    }
+    DAMAGED(2, 24, ASPA_REFUSED_CONTENTS);
+    DAMAGED(3, 47, ASPA_REFUSED_CONTENTS);
+    DAMAGED(3, 52, ASPA_REFUSED_CONTENTS);
+    DAMAGED(4, 0, ASPA_REFUSED_CONTENTS);
+    DAMAGED(4, 4, ASPA_REFUSED_CONTENTS);
+    DAMAGED(4, 51, ASPA_REFUSED_CONTENTS);
+    DAMAGED(4, 4 * L + 4, ASPA_REFUSED_CONTENTS);
+    DAMAGED(4, UINT32_MAX - 3, ASPA_REFUSED_CONTENTS);
+    /* The longest that the contents may say, of another file. */
+    DAMAGED(4, 4 * L, ASPA_REFUSED_SNAPSHOT_LENGTH);
+    DAMAGED(4, 8, ASPA_REFUSED_SNAPSHOT_LENGTH);
+    /* The counts and some words of the slots, and a list or a path that is cut or has a zero too many. */
+    for (i = 0; i < 2; i++) {
+        DAMAGED(5 + i, 0, ASPA_REFUSED_REGISTER_MALFORMED);
+        DAMAGED(5 + i, 2, ASPA_REFUSED_REGISTER_MALFORMED);
+        DAMAGED(5 + i, UINT32_MAX, ASPA_REFUSED_REGISTER_MALFORMED);
+        DAMAGED(12 + i, 0, ASPA_REFUSED_LEDGER_MALFORMED);
+        DAMAGED(12 + i, 3, ASPA_REFUSED_LEDGER_MALFORMED);
+        DAMAGED(12 + i, UINT32_MAX, ASPA_REFUSED_LEDGER_MALFORMED);
+    }
+    DAMAGED(7, 0, ASPA_REFUSED_REGISTER_MALFORMED);
+    DAMAGED(8, ASPA_GREATEST_SOURCE + 1, ASPA_REFUSED_REGISTER_MALFORMED);
+    DAMAGED(9, 1, ASPA_REFUSED_REGISTER_MALFORMED);
+    DAMAGED(15, 7, ASPA_REFUSED_LEDGER_MALFORMED);
+    DAMAGED(18, ASPA_NO_VERDICT, ASPA_REFUSED_LEDGER_MALFORMED);
+    DAMAGED(24, 0, ASPA_REFUSED_LEDGER_MALFORMED);
+    /* A zero behind a table is none of its words, though the table that it makes is well formed. */
+    file_of_begin(file);
+    put(file, 2, 32);
+    put(file, 3, 52);
+    memmove(file + 52, file + 48, 52);
+    put(file, 12, 0);
+    not_read(file, BYTES_OF_BEGIN + 4, R, L, ASPA_REFUSED_REGISTER_MALFORMED, __LINE__);
+    file_of_begin(file);
+    put(file, 4, 56);
+    not_read(file, BYTES_OF_BEGIN + 4, R, L, ASPA_REFUSED_LEDGER_MALFORMED, __LINE__);
+    /* Both tables are damaged: the register's row goes first. */
+    put(file, 7, 0);
+    not_read(file, BYTES_OF_BEGIN + 4, R, L, ASPA_REFUSED_REGISTER_MALFORMED, __LINE__);
+    every_bit();
+    /* The tables of `begin`, empty ones, and full ones. */
+    begin();
+    round_trip(BYTES_OF_BEGIN, 0, __LINE__);
+    round_trip(BYTES_OF_BEGIN, 33, __LINE__);
+    memset(reg, 0, sizeof reg_before);
+    memset(ledger, 0, sizeof ledger_before);
+    round_trip(36, 0, __LINE__);
+    for (n = 0; n < ASPA_MOST_RECORDS; n++) {
+        for (i = 0; i < sizeof providers / sizeof *providers; i++)
+            providers[i] = UINT32_MAX - 100 * n - 20 + i;
+        CHECK(aspa_file(reg, R, n % 8, 1 + UINT32_C(4194301) * (n / 8), providers, i, fresh()) == ASPA_OK);
+    }
+    bytes[0] = 2;
+    bytes[1] = ASPA_MOST_PATH_WORDS / ASPA_MOST_ROUTES;
+    for (n = 0; n < ASPA_MOST_ROUTES; n++) {
+        uint32_t first = 0;
+        for (i = 2; i < sizeof bytes; i++)
+            bytes[i] = (uint8_t)(31 * n + 5 * i);
+        for (i = 2; i < 6; i++)
+            first = first << 8 | bytes[i];
+        CHECK(aspa_keep_route(reg, R, ledger, L, UINT32_MAX - 3 * n, 1 + n % 6, first, bytes, sizeof bytes).refusal == ASPA_OK);
+    }
+    CHECK(reg[ASPA_COUNT_ENTRIES] == ASPA_MOST_RECORDS && reg[ASPA_COUNT_NUMBERS] == ASPA_MOST_PROVIDER_WORDS);
+    CHECK(ledger[ASPA_COUNT_ENTRIES] == ASPA_MOST_ROUTES && ledger[ASPA_COUNT_NUMBERS] == ASPA_MOST_PATH_WORDS);
+    CHECK(ASPA_SNAPSHOT_BYTES == 100388);
+    round_trip(ASPA_SNAPSHOT_BYTES, 0, __LINE__);
+    round_trip(ASPA_SNAPSHOT_BYTES, 1, __LINE__);
+}
+
 /* Where a length is 0 nothing is read, so the pointer may be null. */
 static void null_pointers(void) {
     uint32_t words[ASPA_ANSWER_WORDS];
@@ -302,6 +565,10 @@ static void null_pointers(void) {
     CHECK(words[ASPA_ANSWER_VERDICT] == ASPA_NO_VERDICT);
     REFUSED(aspa_drop(NULL, 0, 7), ASPA_REFUSED_TABLE_LENGTH);
     REFUSED_COUNT(aspa_rejudge(NULL, 0, NULL, 0, fresh()), ASPA_REFUSED_TABLE_LENGTH);
+    REFUSED_COUNT(aspa_write(NULL, 0, NULL, 0, NULL, 0, fresh()), ASPA_REFUSED_TABLE_LENGTH);
+    REFUSED_COUNT(aspa_write(reg, R, ledger, L, NULL, 0, fresh()), ASPA_REFUSED_OUTPUT_LENGTH);
+    REFUSED(aspa_read(NULL, 0, NULL, 0, NULL, 0), ASPA_REFUSED_TABLE_LENGTH);
+    REFUSED(aspa_read(NULL, 0, reg, R, ledger, L), ASPA_REFUSED_SNAPSHOT_LENGTH);
     a = aspa_judge_route(reg, R, 1, 20, NULL, 0);
     CHECK(a.refusal == ASPA_OK && a.verdict == ASPA_INVALID && a.ground == ASPA_GROUND_EMPTY);
     a = aspa_keep_route(reg, R, ledger, L, 8, 1, 20, NULL, 0);
@@ -336,9 +603,9 @@ static void conveniences(void) {
     CHECK(strcmp(aspa_refusal_name(ASPA_OK), "OK") == 0);
     CHECK(strcmp(aspa_refusal_name(ASPA_REFUSED_CUT_SHORT), "CUT_SHORT") == 0);
     CHECK(strcmp(aspa_refusal_sentence(ASPA_REFUSED_CUSTOMER), "the customer is 0") == 0);
-    CHECK(strcmp(aspa_refusal_name(ASPA_REFUSED_LEDGER_FULL + 1), "UNKNOWN") == 0);
+    CHECK(strcmp(aspa_refusal_name(LAST_ROW + 1), "UNKNOWN") == 0);
     CHECK(strcmp(aspa_refusal_sentence(UINT32_MAX), "no refusal has this number") == 0);
-    for (n = 1; n <= ASPA_REFUSED_LEDGER_FULL; n++) {
+    for (n = 1; n <= LAST_ROW; n++) {
         CHECK(strcmp(aspa_refusal_name(n), "UNKNOWN") != 0);
         CHECK(strcmp(aspa_refusal_name(n), aspa_refusal_name(n - 1)) != 0);
         CHECK(strcmp(aspa_refusal_sentence(n), aspa_refusal_sentence(n - 1)) != 0);
@@ -355,9 +622,10 @@ int main(void) {
     malformed();
     register_calls();
     routes();
+    snapshots();
     null_pointers();
     conveniences();
-    for (row = 1; row <= ASPA_REFUSED_LEDGER_FULL; row++)
+    for (row = 1; row <= LAST_ROW; row++)
         CHECK(rows_seen[row] > 0);
     free(reg);
     free(ledger);

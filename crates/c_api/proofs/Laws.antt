@@ -19,6 +19,8 @@ use Rattle.types.specs.declared.Judged.{Judged}
 use Rattle.types.specs.declared.Judged.the-variants as judged
 use Rattle.types.specs.declared.Rejudged.{Rejudged}
 use Rattle.types.specs.declared.Rejudged.the-variants as rejudged
+use Rattle.types.specs.declared.Written.{Written}
+use Rattle.types.specs.declared.Written.the-variants as written
 use Rattle.types.specs.Numbers.{verdictNumber, verdictOf, faultNumber, refusalNumber}
 use Rattle.types.specs.Rows.{firstGiven, Effect, effect, unlessRefused}
 use Rattle.types.proofs.Refusing.{accepted-none, row-passed}
@@ -31,8 +33,10 @@ use Rattle.filter.specs.Calls.{rejudgeEffect}
 use Rattle.filter.proofs.Tables.{rejudge-accepts}
 use Rattle.filter.proofs.Answers.{rejudge-accepted}
 use Rattle.filter.proofs.Rejudgings.{few-changed}
-use Rattle.c_api.specs.Answers.{noVerdict, notFiled, noCount, filedTold, clearedTold, rejudgedTold, judgedTold}
+use Rattle.snapshot.specs.Calls.{writeEffect}
+use Rattle.c_api.specs.Answers.{noVerdict, notFiled, noCount, filedTold, clearedTold, rejudgedTold, judgedTold, writtenTold}
 use Rattle.c_api.specs.Laws.{Marks, RefusalLaws}
+use Rattle.c_api.proofs.Tellings.{few-bytes}
 
 -- ---- the word of a refusal, and any other
 
@@ -125,5 +129,13 @@ rejudge-marks reg led = go (rejudgeEffect reg led .answer) refl
     go (rejudged.Changed n) e = answered (λ z. omega (arith, z, few-routes e))
     go (rejudged.Refused r) e = refused r
 
+write-marks : (reg led output : List ℕ)
+    → Marks noCount (writtenTold (writeEffect reg led output .answer) .result) (writtenTold (writeEffect reg led output .answer) .words)
+write-marks reg led output = go (writeEffect reg led output .answer) refl
+  where
+    go : (a : Written) → writeEffect reg led output .answer ≡ a → Marks noCount (writtenTold a .result) (writtenTold a .words)
+    go (written.Bytes n) e = answered (λ z. omega (arith, z, few-bytes reg led output n e))
+    go (written.Refused r) e = refused r
+
 pub refusal-laws : RefusalLaws
-refusal-laws = record { file = file-marks; clear = clear-marks; rejudge = rejudge-marks; judge = judge-marks }
+refusal-laws = record { file = file-marks; clear = clear-marks; rejudge = rejudge-marks; judge = judge-marks; write = write-marks }

@@ -16,8 +16,13 @@ use Rattle.types.specs.declared.Judged.{Judged}
 use Rattle.types.specs.declared.Judged.the-variants as judged
 use Rattle.types.specs.declared.Rejudged.{Rejudged}
 use Rattle.types.specs.declared.Rejudged.the-variants as rejudged
+use Rattle.types.specs.declared.Written.{Written}
+use Rattle.types.specs.declared.Written.the-variants as written
+use Rattle.types.specs.declared.Restored.{Restored}
+use Rattle.types.specs.declared.Restored.the-variants as restored
 use Rattle.types.specs.Numbers.{verdictNumber, verdictGround, placeA, placeB, verdictOf, answerGap, refusalNumber, refusalPlace}
 use Rattle.types.specs.Rows.{Effect, effect}
+use Rattle.snapshot.specs.Calls.{Reading}
 
 -- What C gets of a call: its result, and the words that it writes.
 pub record Told : Type 0 where
@@ -50,7 +55,7 @@ noVerdict = 3
 abbrev pub notFiled : ℕ
 notFiled = 2
 
--- In place of a count: no table has so many entries.
+-- In place of a count: no table has so many entries, and no file so many bytes.
 abbrev pub noCount : ℕ
 noCount = 4294967295
 
@@ -100,3 +105,27 @@ verdictWords v given = verdictNumber v ∷ verdictGround v ∷ placeA v ∷ plac
 abbrev pub judgedTold : Judged → ToldRoute
 judgedTold (judged.Answered a) = toldRoute 0 (verdictWords (verdictOf a) (gapGiven (answerGap a))) (gapTold (answerGap a))
 judgedTold (judged.Refused r) = toldRoute (refusalNumber r) (noVerdict ∷ 0 ∷ 0 ∷ 0 ∷ 0 ∷ placeWord (refusalPlace r) ∷ []) (pos 0)
+
+-- ---- Write and Read
+
+-- Write: the file's length in bytes.
+abbrev pub writtenTold : Written → Told
+writtenTold (written.Bytes n) = told 0 (n ∷ [])
+writtenTold (written.Refused r) = told (refusalNumber r) (noCount ∷ [])
+
+-- What C gets of a reading: its result, and the words of both tables.
+pub record ToldTables : Type 0 where
+  pub result : ℕ
+  pub register : List ℕ
+  pub ledger : List ℕ
+
+abbrev pub toldTables : ℕ → List ℕ → List ℕ → ToldTables
+toldTables result reg led = record { result = result; register = reg; ledger = led }
+
+abbrev pub restoredTold : Restored → ℕ
+restoredTold restored.Done = 0
+restoredTold (restored.Refused r) = refusalNumber r
+
+-- Read: the result alone; the words of both tables stay the same.
+abbrev pub readingTold : Reading → ToldTables
+readingTold e = toldTables (restoredTold (e .answer)) (e .register) (e .ledger)

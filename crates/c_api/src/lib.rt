@@ -8,8 +8,10 @@ use types::Place;
 use types::Refusal;
 use types::Rejudged;
 use types::Removal;
+use types::Restored;
 use types::RouteNumber;
 use types::Verdict;
+use types::Written;
 ghost use Prim.Native.Nat.{_<_};
 ghost use mathlib.Core.Path.{_≡_};
 ghost use mathlib.Core.List.{[], _∷_};
@@ -19,7 +21,8 @@ ghost use Rattle.rules.specs.Judging.{mostBytes};
 ghost use Rattle.register.specs.Calls.{fileEffect, withdrawEffect, clearEffect};
 ghost use Rattle.ledger.specs.Calls.{dropEffect};
 ghost use Rattle.filter.specs.Calls.{judgeAnswer, keeping, keepEffect, rejudgeEffect};
-ghost use Rattle.c_api.specs.Answers.{told, toldRoute, telling, placeWord, filedTold, removalTold, clearedTold, rejudgedTold, verdictWords, judgedTold};
+ghost use Rattle.snapshot.specs.Calls.{writeEffect, readEffect};
+ghost use Rattle.c_api.specs.Answers.{told, toldRoute, toldTables, telling, placeWord, filedTold, removalTold, clearedTold, rejudgedTold, verdictWords, judgedTold, writtenTold, readingTold};
 ghost use Rattle.c_api.specs.Helpers.{placeIn};
 
 // The words of an answer to Judge or Keep: verdict, ground, place a, place b, whether a gap is given, the place of a refusal.
@@ -209,5 +212,38 @@ pub extern "C" fn aspa_rejudge(register: &[u32], ledger: &mut [u32], out: &mut [
             0
         }
         Rejudged::Refused(r) => refused(r, NO_COUNT, out),
+    }
+}
+
+// Write: the file of both tables goes to the start of the output. out[0] is its length in bytes, NO_COUNT on a refusal. Rows 1, 2, 3, 21.
+#[no_mangle]
+pub extern "C" fn aspa_write(
+    register: &[u32],
+    ledger: &[u32],
+    output: &mut [u8],
+    out: &mut [u32; 1],
+) -> u32
+    ensures { λ r. ⌜ effect (told r (now (out .exit))) (now (output .exit))
+        ≡ telling writtenTold (writeEffect (now (register .entry)) (now (ledger .entry)) (now (output .entry))) ⌝ }
+{
+    match snapshot::write(register, ledger, output) {
+        Written::Bytes(n) => {
+            let bytes = n as u32;
+            *out = [bytes];
+            0
+        }
+        Written::Refused(r) => refused(r, NO_COUNT, out),
+    }
+}
+
+// Read: both tables get the words of the file. Rows 1, 24 of a file under 20 bytes, 22, 23, 24, 2, 3.
+#[no_mangle]
+pub extern "C" fn aspa_read(file: &[u8], register: &mut [u32], ledger: &mut [u32]) -> u32
+    ensures { λ r. ⌜ toldTables r (now (register .exit)) (now (ledger .exit))
+        ≡ readingTold (readEffect (now (file .entry)) (now (register .entry)) (now (ledger .entry))) ⌝ }
+{
+    match snapshot::read(file, register, ledger) {
+        Restored::Done => 0,
+        Restored::Refused(r) => r.number(),
     }
 }

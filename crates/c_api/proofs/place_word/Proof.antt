@@ -1,5 +1,6 @@
 -- `c_api::place_word` meets its contract. Assumes nothing.
-use mathlib.Core.Path.{sym, _∙_}
+use mathlib.Core.Path.{sym, _∙_, ap}
+use Rattle.c_api.specs.Answers.{placeWord}
 use native.Mathlib.Omega.{arith}
 use borrow.Author.Needs.{needs}
 use Rattle.c_api.proofs.place_word.Statement.{statement}
@@ -20,10 +21,10 @@ cast-result c =
     omega (arith, h)
 
 returns : tie.Need-returns
-returns c = search needs
+returns c = ap placeWord (sym (c .enum-told .given .1) ∙ c .before .before .place .ensures)
 
 returns-2 : tie.Need-returns-2
-returns-2 c = search needs
+returns-2 c = ap placeWord (sym (c .before .p .given .1) ∙ c .before .before .before .place .ensures)
 
 pub place-word-spec : {M : Type 1} → statement M
 place-word-spec =
