@@ -1,4 +1,4 @@
-//! The snapshot file (the papers' "hall file"): register and ledger together.
+//! The snapshot: register and ledger together in one file.
 //!
 //! Numbers take four bytes, the high byte first. Five of them are the contents:
 //! the edition, then start and length in bytes of the register's used words,
