@@ -88,6 +88,19 @@ fn numbers(bytes: &[u8]) -> Vec<u32> {
 
 // For streams and tests
 
+/// Counts whose used words or bytes, in 32 bits, would wrap round to what is there.
+pub const WRAPPING_COUNTS: [[u32; 2]; 9] = [
+    [1 << 28, 0],
+    [1 << 30, 0],
+    [0, 1 << 30],
+    [1 << 31, 1 << 31],
+    [1 << 30, 3 << 30],
+    [477_218_589, 4_294_967_291],
+    [u32::MAX, 4],
+    [u32::MAX, 9],
+    [u32::MAX, u32::MAX],
+];
+
 /// Number `index` of a file that has it.
 pub fn number_at(file: &[u8], index: usize) -> u32 {
     numbers(&file[NUMBER * index..][..NUMBER])[0]

@@ -832,18 +832,7 @@ fn lengths_unlike_the_counts() {
         for length in [6, 7][part]..zeros.len() {
             expect(&zeros[..length], damaged);
         }
-        // counts whose sum, in words or in bytes, wraps round to what is there
-        for counts in [
-            [1 << 28, 0],
-            [1 << 30, 0],
-            [0, 1 << 30],
-            [1 << 31, 1 << 31],
-            [1 << 30, 3 << 30],
-            [477_218_589, 4_294_967_291],
-            [u32::MAX, 4],
-            [u32::MAX, 9],
-            [u32::MAX, u32::MAX],
-        ] {
+        for counts in snapshot::WRAPPING_COUNTS {
             expect(&counts, damaged);
         }
     }

@@ -1756,21 +1756,7 @@ fn snapshot_refusals(lines: &mut Lines) {
             vec![0, 1],
             vec![1, 0],
         ];
-        // and counts whose sum, in words or in bytes, wraps round to what is there
-        others.extend(
-            [
-                [1 << 28, 0],
-                [1 << 30, 0],
-                [0, 1 << 30],
-                [1 << 31, 1 << 31],
-                [1 << 30, 3 << 30],
-                [477_218_589, 4_294_967_291],
-                [TOP, 4],
-                [TOP, 9],
-                [TOP, TOP],
-            ]
-            .map(|counts| counts.to_vec()),
-        );
+        others.extend(snapshot::WRAPPING_COUNTS.map(|counts| counts.to_vec()));
         for other in others {
             let mut parts = whole.clone();
             parts[part] = other;
