@@ -69,6 +69,30 @@
 //! # }
 //! ```
 //!
+//! # Saving and loading
+//!
+//! [`Tables`] is a register and a ledger together. It saves them as one file, a snapshot, and loads it again.
+//!
+//! ```
+//! use aspa_filter::{AsNumber, Tables};
+//!
+//! # fn main() -> Result<(), Box<dyn std::error::Error>> {
+//! # let directory = std::env::temp_dir().join(format!("aspa-filter-lib-{}", std::process::id()));
+//! # std::fs::create_dir_all(&directory)?;
+//! # let path = directory.join("tables");
+//! let mut tables = Tables::new();
+//! tables.register.file(0, AsNumber(64496), &[AsNumber(64500)])?;
+//! tables.save(&path)?;
+//!
+//! let mut loaded = Tables::load(&path)?;
+//! assert_eq!(loaded, tables);
+//! // The verdicts of a snapshot are as old as it is.
+//! loaded.rejudge()?;
+//! # std::fs::remove_dir_all(directory)?;
+//! # Ok(())
+//! # }
+//! ```
+//!
 //! # When a table is full
 //!
 //! Tables do not grow. A register holds [`MOST_RECORDS`] records and [`MOST_PROVIDER_WORDS`] provider numbers, a ledger [`MOST_ROUTES`]
@@ -97,18 +121,20 @@ mod limits;
 mod numbers;
 mod path;
 mod refusals;
+mod snapshots;
 mod tables;
 mod verdicts;
 
 pub use limits::{
     GREATEST_SOURCE, LEDGER_WORDS, MOST_ATTRIBUTE_BYTES, MOST_PATH, MOST_PATH_WORDS,
-    MOST_PROVIDERS, MOST_PROVIDER_WORDS, MOST_RECORDS, MOST_ROUTES, REGISTER_WORDS,
+    MOST_PROVIDERS, MOST_PROVIDER_WORDS, MOST_RECORDS, MOST_ROUTES, REGISTER_WORDS, SNAPSHOT_BYTES,
 };
 pub use numbers::{
     AsNumber, ParseAsNumberError, ParseRoleError, Role, RoleNumberError, RouteNumber,
 };
 pub use path::{sequence, PathBuilder, SegmentLengthError, MOST_SEGMENT};
 pub use refusals::Refusal;
+pub use snapshots::{SnapshotError, Tables};
 pub use tables::{Filed, Ledger, Record, Records, Register, Route, Routes};
 pub use verdicts::{Answer, Cause, Ground, ParseVerdictError, Verdict};
 
