@@ -102,10 +102,11 @@
 //!
 //! # What calls cost
 //!
-//! Every call checks the tables that it is lent, from the first word to the last. On the machine of docs/BENCHMARKS.md a judging of a
-//! short path takes some 6 µs over a full register and 2 µs over an empty one, a filing or withdrawal some 5 µs, and a re-judging of 512
-//! routes of 16 numbers 0.16 ms. No call allocates, and none keeps anything between calls: tables may be sent to other threads, and
-//! several threads may judge by one register at once.
+//! Every call checks the tables that it is lent, from the first word to the last. By the figures of docs/BENCHMARKS.md a judging of a
+//! short path takes some 6 µs over a full register and 2 µs over an empty one, a filing or withdrawal some 5 µs, a re-judging of 512
+//! routes of 16 numbers 0.16 ms, and a snapshot of full tables some 11 µs to write and 18 µs to read. Nothing is kept between calls, and
+//! only new tables and the calls of [`Tables`] on files and streams allocate: tables may be sent to other threads, and several threads
+//! may judge by one register at once.
 //!
 //! # Rules
 //!

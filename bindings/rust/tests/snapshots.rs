@@ -15,6 +15,8 @@ impl Directory {
     fn new(test: &str) -> Directory {
         let name = format!("aspa-filter-{}-{test}", std::process::id());
         let path = std::env::temp_dir().join(name);
+        // Left by a process of the same number that did not come to its end.
+        let _ = fs::remove_dir_all(&path);
         fs::create_dir(&path).unwrap();
         Directory(path)
     }
