@@ -16,13 +16,13 @@ pub struct Timed {
     pub check: u64,
 }
 
-fn hash(told: impl Hash) -> u64 {
+pub fn hash(told: impl Hash) -> u64 {
     let mut hasher = DefaultHasher::new();
     told.hash(&mut hasher);
     hasher.finish()
 }
 
-fn time<T>(f: impl FnOnce() -> T) -> (u64, T) {
+pub fn time<T>(f: impl FnOnce() -> T) -> (u64, T) {
     let began = Instant::now();
     let r = black_box(f());
     (began.elapsed().as_nanos() as u64, r)
@@ -44,10 +44,14 @@ pub const PLAIN: [(&str, Plain); 3] = [
     ("Rust, hints", plain::rejudge::<plain::Hinted>),
 ];
 
-/// A call's name and a run of it, in which it changes nothing or a copy.
+/// A run of a call, in which it changes nothing or a copy.
+pub type Run = Box<dyn Fn(usize) -> Timed>;
+
+/// A call's name, a run of it, and of the same in plain Rust where that is timed too.
 pub struct Call {
     pub name: &'static str,
-    run: Box<dyn Fn(usize) -> Timed>,
+    pub run: Run,
+    pub plain: Option<Run>,
 }
 
 /// One thing that is timed.
@@ -55,7 +59,9 @@ pub struct Call {
 pub enum What {
     /// A re-judging of these tables by the library, or in this plain way.
     Rejudge(usize, Option<usize>),
+    /// This call by the library, or in plain Rust.
     Call(usize),
+    PlainCall(usize),
 }
 
 /// In words that a worker reads.
@@ -65,6 +71,7 @@ impl fmt::Display for What {
             What::Rejudge(tables, None) => write!(f, "library {tables}"),
             What::Rejudge(tables, Some(way)) => write!(f, "plain {tables} {way}"),
             What::Call(call) => write!(f, "call {call}"),
+            What::PlainCall(call) => write!(f, "plain-call {call}"),
         }
     }
 }
@@ -81,8 +88,11 @@ impl Cases {
         let mut random = Random(0x9E37_79B9_7F4A_7C15);
         let work = work::make(&mut random, &work::ALL, MOST_RECORDS, 8);
         let (register, stale) = work.tables();
+        let calls = calls(&work, &register).into_iter();
+        #[cfg(feature = "snapshots")]
+        let calls = calls.chain(crate::snapshots::calls(&register, &stale));
         let mut cases = Cases {
-            calls: calls(&work, &register),
+            calls: calls.collect(),
             tables: vec![Tables {
                 name: "main".into(),
                 register,
@@ -112,6 +122,7 @@ impl Cases {
         match what {
             What::Rejudge(tables, way) => self.rejudge(tables, way),
             What::Call(call) => (self.calls[call].run)(round),
+            What::PlainCall(call) => self.calls[call].plain.as_ref().expect("it has one")(round),
         }
     }
 
@@ -175,6 +186,15 @@ impl Cases {
         }
         (refused, ends.finish())
     }
+
+    /// The same of snapshots, written of changed tables and read when they are changed. Answers how many were refused.
+    #[cfg(feature = "snapshots")]
+    pub fn compare_snapshots(&self) -> usize {
+        let Tables {
+            register, stale, ..
+        } = &self.tables[0];
+        crate::snapshots::compare(register, stale, &mut self.random.clone())
+    }
 }
 
 /// How many damaged tables are compared.
@@ -182,8 +202,11 @@ pub const CHANGED: usize = 4000;
 
 fn calls(work: &Work, register: &Register) -> Vec<Call> {
     fn call(name: &'static str, run: impl Fn(usize) -> Timed + 'static) -> Call {
-        let run = Box::new(run);
-        Call { name, run }
+        Call {
+            name,
+            run: Box::new(run),
+            plain: None,
+        }
     }
     let judge = |register: &Register, role: Role| {
         let register = register.clone();

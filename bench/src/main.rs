@@ -5,6 +5,8 @@
 #![forbid(unsafe_code)]
 mod cases;
 mod plain;
+#[cfg(feature = "snapshots")]
+mod snapshots;
 mod work;
 mod workers;
 
@@ -72,6 +74,14 @@ impl Timer<'_> {
         match self {
             Timer::Here(cases) => cases.time(what, round),
             Timer::Worker(worker) => worker.time(what, round),
+        }
+    }
+
+    /// How many calls its library has. Later ones are not in earlier libraries.
+    fn calls(&mut self) -> usize {
+        match self {
+            Timer::Here(cases) => cases.calls.len(),
+            Timer::Worker(worker) => worker.calls(),
         }
     }
 }
@@ -145,6 +155,11 @@ fn main() {
     });
     let ways: Vec<Way> = proved.chain(plain).collect();
     println!("same words and same answers, also on {CHANGED} changed tables ({refused} refused)");
+    #[cfg(feature = "snapshots")]
+    println!(
+        "same snapshots, also of {CHANGED} changed tables and of as many changed ones ({} refused)",
+        cases.compare_snapshots()
+    );
 
     let main = &cases.tables[0];
     let mut now = main.stale.clone();
@@ -187,18 +202,28 @@ fn main() {
     }
     println!();
     for (i, call) in cases.calls.iter().enumerate() {
-        let mut times = interleaved(libraries.len(), rounds, |which, round| {
-            timers[which].time(What::Call(i), round)
+        let mut ways: Vec<(&str, What, usize)> = Vec::new();
+        for (timer, library) in libraries.iter().enumerate() {
+            if i < timers[timer].calls() {
+                ways.push((library, What::Call(i), timer));
+            }
+        }
+        if call.plain.is_some() {
+            ways.push(("Rust", What::PlainCall(i), timers.len() - 1));
+        }
+        let mut times = interleaved(ways.len(), rounds, |which, round| {
+            let (_, what, timer) = ways[which];
+            timers[timer].time(what, round)
         });
-        for (other, library) in libraries.iter().enumerate().skip(1) {
+        for (other, (way, ..)) in ways.iter().enumerate().skip(1) {
             print(
-                &format!("{}, proved / {library}", call.name),
+                &format!("{}, proved / {way}", call.name),
                 "",
                 &mut ratios(&times, other),
             );
         }
-        for (library, samples) in libraries.iter().zip(&mut times) {
-            print(&format!("{}, {library}", call.name), "us", samples);
+        for ((way, ..), samples) in ways.iter().zip(&mut times) {
+            print(&format!("{}, {way}", call.name), "us", samples);
         }
     }
 }

@@ -6,7 +6,7 @@ use aspa_filter::{
 };
 
 /// The words of a record's slot and of a route's.
-const RECORD: usize = 4;
+pub const RECORD: usize = 4;
 pub const ROUTE: usize = 9;
 
 #[derive(Clone, Copy, PartialEq)]
@@ -37,7 +37,7 @@ fn bodies(words: &[u32], width: usize, most: usize, most_body: usize) -> Option<
     Some(begin)
 }
 
-fn is_register(reg: &[u32]) -> bool {
+pub fn is_register(reg: &[u32]) -> bool {
     let Some(mut at) = bodies(reg, RECORD, MOST_RECORDS, MOST_PROVIDER_WORDS) else {
         return false;
     };
@@ -63,7 +63,7 @@ fn is_register(reg: &[u32]) -> bool {
     true
 }
 
-fn is_ledger(ledger: &[u32]) -> bool {
+pub fn is_ledger(ledger: &[u32]) -> bool {
     let Some(mut at) = bodies(ledger, ROUTE, MOST_ROUTES, MOST_PATH_WORDS) else {
         return false;
     };

@@ -1,8 +1,8 @@
 //! Processes that time one library each, so that two builds of it can be compared: their names are the same, and one program cannot hold
 //! both.
 //!
-//! A worker reads lines: what to time and the round, or `compare`. It answers each by a line: the nanoseconds and the check, or the hash
-//! of the comparison. It ends at the end of its input.
+//! A worker reads lines: what to time and the round, `calls`, or `compare`. It answers each by a line: the nanoseconds and the check, how
+//! many calls its library has, or the hash of the comparison. It ends at the end of its input.
 use crate::cases::{Cases, Timed, What};
 use std::io::{BufRead, BufReader, Write};
 use std::path::Path;
@@ -21,6 +21,11 @@ pub fn serve(cases: &Cases) {
             "library" => (What::Rejudge(number(1), None), number(2)),
             "plain" => (What::Rejudge(number(1), Some(number(2))), number(3)),
             "call" => (What::Call(number(1)), number(2)),
+            "plain-call" => (What::PlainCall(number(1)), number(2)),
+            "calls" => {
+                println!("{}", cases.calls.len());
+                continue;
+            }
             "compare" => {
                 println!("{}", cases.compare().1);
                 continue;
@@ -73,6 +78,11 @@ impl Worker {
     pub fn time(&mut self, what: What, round: usize) -> Timed {
         let [nanoseconds, check] = self.ask(&format!("{what} {round}"));
         Timed { nanoseconds, check }
+    }
+
+    pub fn calls(&mut self) -> usize {
+        let [calls] = self.ask("calls");
+        calls as usize
     }
 
     pub fn compare(&mut self) -> u64 {

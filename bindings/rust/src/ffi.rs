@@ -56,6 +56,23 @@ extern "C" {
         ledger_len: usize,
         out: *mut [u32; 1],
     ) -> u32;
+    fn aspa_write(
+        reg: *const u32,
+        reg_len: usize,
+        ledger: *const u32,
+        ledger_len: usize,
+        output: *mut u8,
+        output_len: usize,
+        out: *mut [u32; 1],
+    ) -> u32;
+    fn aspa_read(
+        file: *const u8,
+        file_len: usize,
+        reg: *mut u32,
+        reg_len: usize,
+        ledger: *mut u32,
+        ledger_len: usize,
+    ) -> u32;
 }
 
 pub fn file(register: &mut [u32], source: u32, customer: u32, providers: &[u32]) -> (u32, u32) {
@@ -151,4 +168,35 @@ pub fn rejudge(register: &[u32], ledger: &mut [u32]) -> (u32, u32) {
         )
     };
     (row, out[0])
+}
+
+pub fn write(register: &[u32], ledger: &[u32], output: &mut [u8]) -> (u32, u32) {
+    let mut out = [UNWRITTEN];
+    // SAFETY: each pointer and length is of one borrowed slice; what is written, output and out, is borrowed mutably.
+    let row = unsafe {
+        aspa_write(
+            register.as_ptr(),
+            register.len(),
+            ledger.as_ptr(),
+            ledger.len(),
+            output.as_mut_ptr(),
+            output.len(),
+            &mut out,
+        )
+    };
+    (row, out[0])
+}
+
+pub fn read(file: &[u8], register: &mut [u32], ledger: &mut [u32]) -> u32 {
+    // SAFETY: each pointer and length is of one borrowed slice; what is written, register and ledger, is borrowed mutably.
+    unsafe {
+        aspa_read(
+            file.as_ptr(),
+            file.len(),
+            register.as_mut_ptr(),
+            register.len(),
+            ledger.as_mut_ptr(),
+            ledger.len(),
+        )
+    }
 }

@@ -23,6 +23,9 @@ pub const REGISTER_WORDS: usize =
 /// The words of a ledger.
 pub const LEDGER_WORDS: usize = counters::WORDS + MOST_ROUTES * route::WORDS + MOST_PATH_WORDS;
 
+/// The most bytes of a snapshot: contents of five words, and all words of both tables.
+pub const SNAPSHOT_BYTES: usize = 4 * (5 + REGISTER_WORDS + LEDGER_WORDS);
+
 /// The two numbers that a table begins with.
 pub(crate) mod counters {
     pub const ENTRIES: usize = 0;

@@ -9,8 +9,9 @@ use std::fmt;
 
 /// Why a call was refused. A refused call gives no verdict and changes no table.
 ///
-/// Each call tests the rows that concern its own tables and arguments, lowest number first, but 12 to 16 go by place. The `place` of a
-/// refusal is the index of the attribute's byte where the fault begins.
+/// Each call tests the rows that concern its own tables and arguments, lowest number first, but 12 to 16 go by place, and
+/// [`Tables::read`](crate::Tables::read) has an order of its own. The `place` of a refusal is the index of the attribute's byte where the
+/// fault begins.
 ///
 /// ```
 /// use aspa_filter::{AsNumber, Refusal, Register, Role};
@@ -25,9 +26,9 @@ use std::fmt;
 pub enum Refusal {
     /// 1: a table has the wrong length. A register has [`REGISTER_WORDS`] words, a ledger [`LEDGER_WORDS`].
     TableLength,
-    /// 2: the register breaks its word rules.
+    /// 2: the register breaks its word rules; of a snapshot that is read, the register in it.
     RegisterMalformed,
-    /// 3: the ledger breaks its word rules.
+    /// 3: the ledger breaks its word rules; of a snapshot that is read, the ledger in it.
     LedgerMalformed,
     /// 4: the source is above [`GREATEST_SOURCE`].
     Source,
@@ -78,6 +79,14 @@ pub enum Refusal {
     NoRoute,
     /// 20: the ledger would hold more than [`MOST_ROUTES`] routes or [`MOST_PATH_WORDS`] path numbers.
     LedgerFull,
+    /// 21: the output is shorter than the snapshot.
+    OutputLength,
+    /// 22: the snapshot is of an edition that is not known.
+    Edition,
+    /// 23: the snapshot's contents are wrong: a start, or a length that no table has.
+    Contents,
+    /// 24: the snapshot is cut short, or longer than its contents say.
+    SnapshotLength,
     /// No row: what the library told means nothing to this binding. The library that the package is made for never does this; one of
     /// another version might.
     NoAnswer {
@@ -87,7 +96,7 @@ pub enum Refusal {
 }
 
 impl Refusal {
-    /// The number of the row, 1 to 20; of [`NoAnswer`](Refusal::NoAnswer) what the call returned.
+    /// The number of the row, 1 to 24; of [`NoAnswer`](Refusal::NoAnswer) what the call returned.
     pub const fn number(self) -> u32 {
         match self {
             Refusal::TableLength => 1,
@@ -110,6 +119,10 @@ impl Refusal {
             Refusal::RouteTaken => 18,
             Refusal::NoRoute => 19,
             Refusal::LedgerFull => 20,
+            Refusal::OutputLength => 21,
+            Refusal::Edition => 22,
+            Refusal::Contents => 23,
+            Refusal::SnapshotLength => 24,
             Refusal::NoAnswer { number } => number,
         }
     }
@@ -127,7 +140,7 @@ impl Refusal {
     }
 
     /// Every row, with this place where it has one.
-    const fn rows(place: u32) -> [Refusal; 20] {
+    const fn rows(place: u32) -> [Refusal; 24] {
         [
             Refusal::TableLength,
             Refusal::RegisterMalformed,
@@ -149,6 +162,10 @@ impl Refusal {
             Refusal::RouteTaken,
             Refusal::NoRoute,
             Refusal::LedgerFull,
+            Refusal::OutputLength,
+            Refusal::Edition,
+            Refusal::Contents,
+            Refusal::SnapshotLength,
         ]
     }
 
@@ -212,6 +229,12 @@ impl fmt::Display for Refusal {
                 "the ledger would hold more than {MOST_ROUTES} routes \
                  or {MOST_PATH_WORDS} path numbers"
             ),
+            Refusal::OutputLength => f.write_str("the output is shorter than the snapshot"),
+            Refusal::Edition => f.write_str("the snapshot's edition is unknown"),
+            Refusal::Contents => f.write_str("the snapshot's contents are wrong"),
+            Refusal::SnapshotLength => {
+                f.write_str("the snapshot is cut short, or longer than its contents say")
+            }
             Refusal::NoAnswer { number } => write!(
                 f,
                 "the library returned {number} and words that mean nothing here"

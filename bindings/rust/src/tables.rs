@@ -27,8 +27,8 @@ impl Filed {
     }
 }
 
-/// How many entries a call tells of; a number that no table reaches is no answer.
-fn count((row, count): (u32, u32), most: usize) -> Result<u32, Refusal> {
+/// How many entries, or bytes, a call tells of; a number that is never reached is no answer.
+pub(crate) fn count((row, count): (u32, u32), most: usize) -> Result<u32, Refusal> {
     Refusal::told(row, 0)?;
     if count as usize <= most {
         Ok(count)
@@ -39,10 +39,10 @@ fn count((row, count): (u32, u32), most: usize) -> Result<u32, Refusal> {
 
 /// Provider records from sources 0 to [`GREATEST_SOURCE`].
 ///
-/// A register owns its [`REGISTER_WORDS`] words of four bytes. They may be stored and loaded again: [`words`](Register::words) and
-/// [`from_words`](Register::from_words).
+/// A register owns its [`REGISTER_WORDS`] words of four bytes, which [`words`](Register::words) and [`from_words`](Register::from_words)
+/// give and take. To store and load it with a ledger, see [`Tables`](crate::Tables).
 #[derive(Clone, PartialEq, Eq)]
-pub struct Register(Box<[u32]>);
+pub struct Register(pub(crate) Box<[u32]>);
 
 impl Register {
     /// The empty register.
@@ -156,10 +156,10 @@ impl fmt::Debug for Register {
 
 /// Kept routes with their verdicts.
 ///
-/// A ledger owns its [`LEDGER_WORDS`] words of four bytes. They may be stored and loaded again: [`words`](Ledger::words) and
-/// [`from_words`](Ledger::from_words).
+/// A ledger owns its [`LEDGER_WORDS`] words of four bytes, which [`words`](Ledger::words) and [`from_words`](Ledger::from_words) give and
+/// take. To store and load it with its register, see [`Tables`](crate::Tables).
 #[derive(Clone, PartialEq, Eq)]
-pub struct Ledger(Box<[u32]>);
+pub struct Ledger(pub(crate) Box<[u32]>);
 
 impl Ledger {
     /// The empty ledger.
@@ -212,7 +212,7 @@ impl Ledger {
     }
 
     /// Judges every kept route without a ground again by the register as it is now, and answers how many changed in their verdict or
-    /// its places. It takes some 17 KiB of stack; every other call takes less than 2 KiB.
+    /// its places. It takes some 17 KiB of stack, and [`Tables::read`](crate::Tables::read) more; every other call takes less than 2 KiB.
     ///
     /// # Errors
     ///
@@ -448,8 +448,8 @@ mod tests {
         for word in [0, 1, 2, UNWRITTEN] {
             assert_eq!(Filed::told((6, word)), Err(Refusal::Providers));
             assert_eq!(count((3, word), 1), Err(Refusal::LedgerMalformed));
-            let none = Refusal::NoAnswer { number: 21 };
-            assert_eq!(count((21, word), 1), Err(none));
+            let none = Refusal::NoAnswer { number: 25 };
+            assert_eq!(count((25, word), 1), Err(none));
         }
     }
 }

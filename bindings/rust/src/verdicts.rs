@@ -219,7 +219,7 @@ mod tests {
     fn words_of_a_refusal() {
         for words in [[0; 5], [3, 0, 0, 0, 0], [TOP; 5], [1, 2, 0, 0, 1]] {
             let [verdict, ground, a, b, has_gap] = words;
-            for row in 1..=20 {
+            for row in 1..=24 {
                 let told = (row, [verdict, ground, a, b, has_gap, 77], 5);
                 let refusal = Answer::told(told).expect_err("refused");
                 assert_eq!(refusal.number(), row);
@@ -232,7 +232,7 @@ mod tests {
     /// A result that is no row, and words that are no answer.
     #[test]
     fn no_answer() {
-        for row in [21, TOP] {
+        for row in [25, TOP] {
             let refusal = Answer::told((row, [0; answer::WORDS], 0)).expect_err("no row");
             assert_eq!(refusal, Refusal::NoAnswer { number: row });
             assert_eq!((refusal.number(), refusal.place()), (row, None));

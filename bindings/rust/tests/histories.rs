@@ -1,12 +1,13 @@
 //! Random histories of calls, run through the binding and through the second program's model. Every answer is compared, both tables word
-//! for word and entry by entry every 50 calls, and the refusals of damaged tables. The same seed gives the same history.
+//! for word and entry by entry every 50 calls, the refusals of damaged tables, and snapshots: each reads what the other wrote, whole or
+//! damaged. The same seed gives the same history.
 use aspa_filter::{
-    Answer, AsNumber, Cause, Filed, Ground, Ledger, Refusal, Register, Role, RouteNumber, Verdict,
-    LEDGER_WORDS, REGISTER_WORDS,
+    Answer, AsNumber, Cause, Filed, Ground, Ledger, Refusal, Register, Role, RouteNumber, Tables,
+    Verdict, LEDGER_WORDS, REGISTER_WORDS, SNAPSHOT_BYTES,
 };
 use reference::random::Random;
 use reference::words::Form;
-use reference::{judge as by, Model, Table, GREATEST_SOURCE};
+use reference::{judge as by, snapshot, Model, Table, GREATEST_SOURCE};
 use std::collections::BTreeMap;
 
 /// Of each shape.
@@ -26,6 +27,9 @@ enum Call {
     Keep(u32, Route),
     Drop(u32),
     Rejudge,
+    /// Into so many bytes.
+    Write(usize),
+    Read(Vec<u8>),
 }
 
 #[derive(Clone, Debug)]
@@ -35,13 +39,20 @@ struct Route {
     attribute: Vec<u8>,
 }
 
-#[derive(Clone, Copy, Debug, PartialEq, Eq)]
+#[derive(Clone, Debug, PartialEq, Eq)]
 enum Said {
     Filed(Filed),
     Done,
     Count(u32),
     Judged(Answer),
+    /// The length, and the whole output.
+    Written(usize, Vec<u8>),
     Refused(u32, Option<u32>),
+}
+
+/// So many bytes to write to.
+fn output(capacity: usize) -> Vec<u8> {
+    (0..capacity).map(|i| (7 * i + 3) as u8).collect()
 }
 
 fn said<T>(result: Result<T, Refusal>, then: impl Fn(T) -> Said) -> Said {
@@ -102,47 +113,48 @@ fn model_numbers(numbers: &[AsNumber]) -> Vec<reference::AsNumber> {
     numbers.iter().map(|n| reference::AsNumber(n.0)).collect()
 }
 
-/// The tables of the binding.
-#[derive(Clone, PartialEq, Eq)]
-struct Tables {
-    register: Register,
-    ledger: Ledger,
-}
-
-impl Tables {
-    fn run(&mut self, call: &Call) -> Said {
-        let Tables { register, ledger } = self;
-        match call {
-            Call::File(source, customer, list) => {
-                let list: Vec<AsNumber> = list.iter().copied().map(AsNumber).collect();
-                said(
-                    register.file(*source, AsNumber(*customer), &list),
-                    Said::Filed,
-                )
-            }
-            Call::Withdraw(source, customer) => {
-                said(register.withdraw(*source, AsNumber(*customer)), |()| {
-                    Said::Done
-                })
-            }
-            Call::Clear(source) => said(register.clear(*source), Said::Count),
-            Call::Judge(r) => said(
-                register.judge(r.role, AsNumber(r.neighbour), &r.attribute),
-                Said::Judged,
-            ),
-            Call::Keep(route, r) => said(
-                ledger.keep(
-                    register,
-                    RouteNumber(*route),
-                    r.role,
-                    AsNumber(r.neighbour),
-                    &r.attribute,
-                ),
-                Said::Judged,
-            ),
-            Call::Drop(route) => said(ledger.drop_route(RouteNumber(*route)), |()| Said::Done),
-            Call::Rejudge => said(ledger.rejudge(register), Said::Count),
+fn run(tables: &mut Tables, call: &Call) -> Said {
+    let Tables { register, ledger } = tables;
+    match call {
+        Call::File(source, customer, list) => {
+            let list: Vec<AsNumber> = list.iter().copied().map(AsNumber).collect();
+            said(
+                register.file(*source, AsNumber(*customer), &list),
+                Said::Filed,
+            )
         }
+        Call::Withdraw(source, customer) => {
+            said(register.withdraw(*source, AsNumber(*customer)), |()| {
+                Said::Done
+            })
+        }
+        Call::Clear(source) => said(register.clear(*source), Said::Count),
+        Call::Judge(r) => said(
+            register.judge(r.role, AsNumber(r.neighbour), &r.attribute),
+            Said::Judged,
+        ),
+        Call::Keep(route, r) => said(
+            ledger.keep(
+                register,
+                RouteNumber(*route),
+                r.role,
+                AsNumber(r.neighbour),
+                &r.attribute,
+            ),
+            Said::Judged,
+        ),
+        Call::Drop(route) => said(ledger.drop_route(RouteNumber(*route)), |()| Said::Done),
+        Call::Rejudge => said(tables.rejudge(), Said::Count),
+        Call::Write(capacity) => {
+            let mut to = output(*capacity);
+            let written = tables.write(&mut to);
+            assert!(
+                written.is_ok() || to == output(*capacity),
+                "a byte of the output changed"
+            );
+            said(written, |length| Said::Written(length, to.clone()))
+        }
+        Call::Read(file) => said(tables.read(file), |()| Said::Done),
     }
 }
 
@@ -175,6 +187,12 @@ fn run_model(model: &mut Model, call: &Call) -> Said {
         ),
         Call::Drop(route) => meant(model.drop(RouteNumber(*route)), |()| Said::Done),
         Call::Rejudge => meant(model.rejudge(), count),
+        Call::Write(capacity) => {
+            let mut to = output(*capacity);
+            let written = model.write(&mut to);
+            meant(written, |length| Said::Written(length, to.clone()))
+        }
+        Call::Read(file) => meant(model.read(file), |()| Said::Done),
     }
 }
 
@@ -190,8 +208,11 @@ struct Shape {
     long_lists: usize,
     long_paths: usize,
     /// Weights of the calls, in the order of `Call`.
-    weights: [usize; 7],
+    weights: [usize; KINDS],
 }
+
+/// How many kinds of calls there are.
+const KINDS: usize = 9;
 
 struct History<'a> {
     shape: &'a Shape,
@@ -200,6 +221,8 @@ struct History<'a> {
     tables: Tables,
     model: Model,
     calls: usize,
+    /// The last snapshots that the binding wrote.
+    files: Vec<Vec<u8>>,
     /// How often each kind of answer was given.
     tally: BTreeMap<String, usize>,
 }
@@ -210,12 +233,10 @@ impl History<'_> {
             shape,
             seed,
             random: Random::new(seed),
-            tables: Tables {
-                register: Register::new(),
-                ledger: Ledger::new(),
-            },
+            tables: Tables::new(),
             model: Model::new(),
             calls: 0,
+            files: vec![],
             tally: BTreeMap::new(),
         }
     }
@@ -243,11 +264,23 @@ impl History<'_> {
     fn make(&mut self, call: Call) {
         self.calls += 1;
         let before = self.tables.clone();
-        let answer = self.tables.run(&call);
-        let at = format!("seed {}, call {}: {call:?}", self.seed, self.calls);
-        assert_eq!(answer, run_model(&mut self.model, &call), "{at}");
-        let reads = matches!(call, Call::Judge(_)) || matches!(answer, Said::Refused(..));
-        assert!(!reads || self.tables == before, "a table changed: {at}");
+        let answer = run(&mut self.tables, &call);
+        let at = || format!("seed {}, call {}: {call:?}", self.seed, self.calls);
+        let meant = run_model(&mut self.model, &call);
+        assert!(answer == meant, "{answer:?} and {meant:?}, {}", at());
+        let reads = matches!(call, Call::Judge(_) | Call::Write(_));
+        let stays = reads || matches!(answer, Said::Refused(..));
+        assert!(!stays || self.tables == before, "a table changed: {}", at());
+        if let Said::Written(length, to) = &answer {
+            self.files.push(to[..*length].to_vec());
+            if self.files.len() > 4 {
+                self.files.remove(0);
+            }
+        }
+        // All words of both tables come from a snapshot.
+        if matches!((&call, &answer), (Call::Read(_), Said::Done)) {
+            self.compare_tables();
+        }
         self.count(&call, answer);
     }
 
@@ -255,6 +288,8 @@ impl History<'_> {
         let key = match answer {
             Said::Refused(number, _) => format!("refused by {number}"),
             Said::Filed(filed) => format!("{filed:?}"),
+            Said::Written(..) => "written".into(),
+            Said::Done if matches!(call, Call::Read(_)) => "read".into(),
             Said::Count(0) | Said::Done => return,
             Said::Count(_) if matches!(call, Call::Rejudge) => "changed".into(),
             Said::Count(_) => "cleared".into(),
@@ -366,7 +401,7 @@ impl History<'_> {
         }
         self.compare_tables();
         let allowed = self.model.register.well_formed() && self.model.ledger.well_formed();
-        for kind in 0..7 {
+        for kind in 0..KINDS {
             self.call(kind);
         }
         self.compare_tables();
@@ -399,7 +434,104 @@ impl History<'_> {
             3 => Call::Judge(self.route()),
             4 => Call::Keep(self.route_number(), self.route()),
             5 => Call::Drop(self.route_number()),
-            _ => Call::Rejudge,
+            6 => Call::Rejudge,
+            7 => Call::Write(self.capacity()),
+            _ => Call::Read(self.file()),
+        }
+    }
+
+    /// The model's snapshot of the tables as they are.
+    fn model_file(&self) -> Option<Vec<u8>> {
+        match (&self.model.register, &self.model.ledger) {
+            (Table::Held(records), Table::Held(routes)) => Some(snapshot::write(records, routes)),
+            _ => None,
+        }
+    }
+
+    /// Around the length of the snapshot, or anything.
+    fn capacity(&mut self) -> usize {
+        let length = self.model_file().map_or(100, |file| file.len());
+        let any = self.random.below(SNAPSHOT_BYTES + 100);
+        self.random.pick(&[
+            length,
+            length + 1,
+            length - 1,
+            length + 4,
+            length - 4,
+            0,
+            any,
+            SNAPSHOT_BYTES,
+        ])
+    }
+
+    /// A snapshot that the model writes now, or that the binding wrote before; every other one with something about it changed.
+    fn file(&mut self) -> Vec<u8> {
+        let earlier = self.files.get(self.random.below(4)).cloned();
+        let now = self.model_file();
+        let file = if self.random.percent(30) {
+            earlier.or(now)
+        } else {
+            now.or(earlier)
+        };
+        let empty = || snapshot::file(&[0, 0], &[0, 0]);
+        let file = file.unwrap_or_else(empty);
+        if self.random.percent(50) {
+            return file;
+        }
+        self.changed(file)
+    }
+
+    fn changed(&mut self, mut file: Vec<u8>) -> Vec<u8> {
+        let any = self.random.draw() as u32;
+        let near = |old: u32| [old + 1, old - 1, old + 4, old - 4];
+        match self.random.below(8) {
+            // The edition, and the other contents.
+            0 => snapshot::with(&file, &[(0, self.random.pick(&[0, 2, 3, 1 << 24, any]))]),
+            1 | 2 => {
+                let index = self.random.between(1, 4);
+                let old = snapshot::number_at(&file, index);
+                let near = self.random.pick(&near(old));
+                let value = self.random.pick(&[near, near, 0, 4, 8, u32::MAX - 3, any]);
+                snapshot::with(&file, &[(index, value)])
+            }
+            // The length.
+            3 => {
+                let end = self
+                    .random
+                    .pick(&[0, 19, 20, file.len() - 4, file.len() - 1]);
+                let any = self.random.below(file.len());
+                file.truncate(self.random.pick(&[end, any]));
+                file
+            }
+            4 => {
+                file.extend(vec![0; self.random.pick(&[1, 4, 1000, SNAPSHOT_BYTES])]);
+                file
+            }
+            // A word of a table, its counts more often than the others.
+            5 | 6 => {
+                let ledger = snapshot::number_at(&file, 3) as usize / 4;
+                let counts = [5, 6, ledger, ledger + 1];
+                let any_word = self.random.between(5, file.len() / 4 - 1);
+                let index = self
+                    .random
+                    .pick(&[counts.to_vec(), vec![any_word; 12]].concat());
+                let old = snapshot::number_at(&file, index);
+                let value = self
+                    .random
+                    .pick(&[old ^ 1, old ^ (1 << 31), 0, 1, 2, 65, any]);
+                snapshot::with(&file, &[(index, value)])
+            }
+            // A table with a word more or less, and contents that say so.
+            _ => {
+                let mut parts = snapshot::parts(&file);
+                let part = &mut parts[self.random.below(2)];
+                if self.random.percent(50) || part.len() == 2 {
+                    part.push(self.random.pick(&[0, 0, 1, any]));
+                } else {
+                    part.pop();
+                }
+                snapshot::file(&parts[0], &parts[1])
+            }
         }
     }
 
@@ -628,7 +760,7 @@ fn alter<T: Form>(random: &mut Random, table: &mut Table<T>) -> impl Fn(&[u32]) 
 }
 
 /// What every shape must reach, with the refusals below.
-const REACHED: [&str; 16] = [
+const REACHED: [&str; 18] = [
     "New",
     "Replaced",
     "cleared",
@@ -645,6 +777,8 @@ const REACHED: [&str; 16] = [
     "AsSet",
     "altered",
     "damaged",
+    "written",
+    "read",
 ];
 
 /// `full` are the refusals of a full table that this shape must reach.
@@ -660,7 +794,8 @@ fn histories(first_seed: u64, shape: Shape, full: &[u32]) {
     }
     println!("{calls} calls: {tally:?}");
     // Not 9: every Role is of 1 to 6.
-    let refusals = (1..=7).chain(10..=19).chain(full.iter().copied());
+    let refusals = (1..=7).chain(10..=19).chain(21..=24);
+    let refusals = refusals.chain(full.iter().copied());
     let refusals = refusals.map(|number| format!("refused by {number}"));
     for key in REACHED.map(String::from).into_iter().chain(refusals) {
         assert!(tally.contains_key(&key), "never: {key}");
@@ -678,7 +813,7 @@ const EVERYTHING: Shape = Shape {
     routes: 60,
     long_lists: 2,
     long_paths: 4,
-    weights: [200, 80, 20, 300, 200, 100, 100],
+    weights: [200, 80, 20, 300, 200, 100, 100, 30, 40],
 };
 
 #[test]
@@ -686,7 +821,7 @@ fn everything() {
     histories(100, EVERYTHING, &[]);
 }
 
-/// Small tables with every role and ground, each of their words set to each of some values.
+/// Small tables with every role and ground, each of their words set to each of some values, and each number of their snapshot too.
 #[test]
 fn single_words() {
     let mut history = History::new(&EVERYTHING, 600);
@@ -749,6 +884,14 @@ fn single_words() {
             (history.tables, history.model) = kept.clone();
         }
     }
+    let file = history.model_file().expect("well formed");
+    for index in 0..file.len() / 4 {
+        for value in values(snapshot::number_at(&file, index)) {
+            let file = snapshot::with(&file, &[(index, value)]);
+            history.make(Call::Read(file));
+            (history.tables, history.model) = kept.clone();
+        }
+    }
     println!("{} calls: {:?}", history.calls, history.tally);
 }
 
@@ -759,7 +902,7 @@ fn many_records() {
         routes: 60,
         long_lists: 0,
         long_paths: 2,
-        weights: [740, 20, 1, 80, 80, 60, 19],
+        weights: [740, 20, 1, 80, 80, 60, 19, 20, 20],
     };
     histories(200, shape, &[8]);
 }
@@ -771,7 +914,7 @@ fn long_lists() {
         routes: 60,
         long_lists: 60,
         long_paths: 15,
-        weights: [300, 60, 4, 300, 150, 100, 86],
+        weights: [300, 60, 4, 300, 150, 100, 86, 20, 30],
     };
     histories(300, shape, &[8]);
 }
@@ -783,7 +926,7 @@ fn many_routes() {
         routes: 700,
         long_lists: 1,
         long_paths: 1,
-        weights: [100, 30, 3, 80, 700, 30, 57],
+        weights: [100, 30, 3, 80, 700, 30, 57, 20, 20],
     };
     histories(400, shape, &[20]);
 }
@@ -795,7 +938,7 @@ fn long_paths() {
         routes: 450,
         long_lists: 10,
         long_paths: 75,
-        weights: [150, 50, 5, 150, 450, 60, 135],
+        weights: [150, 50, 5, 150, 450, 60, 135, 20, 30],
     };
     histories(500, shape, &[20]);
 }

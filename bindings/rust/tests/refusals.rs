@@ -1,15 +1,10 @@
 //! Every row through the binding: its number, its place, its text, and both tables as they were.
 use aspa_filter::{
-    sequence, AsNumber, Ledger, PathBuilder, Refusal, Register, Role, RouteNumber, LEDGER_WORDS,
-    MOST_ATTRIBUTE_BYTES, MOST_PATH, MOST_PROVIDERS, MOST_RECORDS, MOST_ROUTES, REGISTER_WORDS,
+    sequence, AsNumber, Ledger, PathBuilder, Refusal, Register, Role, RouteNumber, Tables,
+    LEDGER_WORDS, MOST_ATTRIBUTE_BYTES, MOST_PATH, MOST_PROVIDERS, MOST_RECORDS, MOST_ROUTES,
+    REGISTER_WORDS, SNAPSHOT_BYTES,
 };
 use std::collections::BTreeSet;
-
-#[derive(Clone, PartialEq, Debug)]
-struct Tables {
-    register: Register,
-    ledger: Ledger,
-}
 
 type Call = Box<dyn Fn(&mut Tables) -> Result<(), Refusal>>;
 
@@ -17,7 +12,7 @@ type Call = Box<dyn Fn(&mut Tables) -> Result<(), Refusal>>;
 type Faulty = fn(u32) -> Refusal;
 
 /// The text of each row.
-const TEXTS: [&str; 20] = [
+const TEXTS: [&str; 24] = [
     "refused by 1: a table has the wrong length: a register has 12290 words, a ledger 12802",
     "refused by 2: the register is malformed",
     "refused by 3: the ledger is malformed",
@@ -38,6 +33,10 @@ const TEXTS: [&str; 20] = [
     "refused by 18: the route number is taken",
     "refused by 19: there is no such route",
     "refused by 20: the ledger would hold more than 512 routes or 8192 path numbers",
+    "refused by 21: the output is shorter than the snapshot",
+    "refused by 22: the snapshot's edition is unknown",
+    "refused by 23: the snapshot's contents are wrong",
+    "refused by 24: the snapshot is cut short, or longer than its contents say",
 ];
 
 fn path() -> Vec<u8> {
@@ -154,7 +153,28 @@ fn rejudge() -> Call {
     Box::new(|t| t.ledger.rejudge(&t.register).map(|_| ()))
 }
 
-/// Every call that is lent a register.
+/// Into so many bytes, none of which may change where it is refused.
+fn write(capacity: usize) -> Call {
+    Box::new(move |t| {
+        let before: Vec<u8> = (0..capacity).map(|i| i as u8).collect();
+        let mut output = before.clone();
+        let written = t.write(&mut output).map(|_| ());
+        assert!(written.is_ok() || output == before);
+        written
+    })
+}
+
+fn read(snapshot: Vec<u8>) -> Call {
+    Box::new(move |t| t.read(&snapshot))
+}
+
+fn snapshot(tables: &Tables) -> Vec<u8> {
+    let mut bytes = Vec::new();
+    tables.write_to(&mut bytes).unwrap();
+    bytes
+}
+
+/// Every call that looks at a register.
 fn on_register() -> Vec<Call> {
     vec![
         file(0, 10, numbers(1)),
@@ -163,12 +183,20 @@ fn on_register() -> Vec<Call> {
         judge(20, path()),
         keep(2, 20, path()),
         rejudge(),
+        write(0),
+        write(SNAPSHOT_BYTES),
     ]
 }
 
-/// Every call that is lent a ledger.
+/// Every call that looks at a ledger.
 fn on_ledger() -> Vec<Call> {
-    vec![keep(2, 20, path()), drop_route(1), rejudge()]
+    vec![
+        keep(2, 20, path()),
+        drop_route(1),
+        rejudge(),
+        write(0),
+        write(SNAPSHOT_BYTES),
+    ]
 }
 
 /// The rows that have been seen.
@@ -221,6 +249,13 @@ fn every_row() {
         });
         seen.all(&tables, Refusal::TableLength, on_register());
         seen.all(&tables, Refusal::TableLength, on_ledger());
+        let calls = || vec![read(snapshot(&some)), read(vec![])];
+        seen.all(&tables, Refusal::TableLength, calls());
+        // Either table's length refuses a reading.
+        let tables = with_words(|r, _| r.resize(register, 0));
+        seen.all(&tables, Refusal::TableLength, calls());
+        let tables = with_words(|_, l| l.resize(ledger, 0));
+        seen.all(&tables, Refusal::TableLength, calls());
         // A wrong ledger does not touch who is not lent it, but comes before a malformed register.
         let tables = with_words(|r, l| {
             r[1] += 1;
@@ -309,7 +344,57 @@ fn every_row() {
         vec![keep(0, 20, path())],
     );
 
-    assert!(seen.0.into_iter().eq(1..=20), "every row");
+    // The snapshot of `some`, whose register has 12 words and whose ledger 24.
+    let file = snapshot(&some);
+    assert_eq!(file.len(), 20 + 4 * 12 + 4 * 24);
+    let calls = (0..file.len()).map(write).collect();
+    seen.all(&some, Refusal::OutputLength, calls);
+    let with = |index: usize, number: u32| {
+        let mut file = file.clone();
+        file[4 * index..][..4].copy_from_slice(&number.to_be_bytes());
+        file
+    };
+    let calls = [0, 2, 3, 1 << 24, u32::MAX].map(|edition| read(with(0, edition)));
+    seen.all(&some, Refusal::Edition, calls.into());
+    let calls = [
+        (1, 16),
+        (1, 24),
+        (2, 44),
+        (2, 49),
+        (2, u32::MAX - 3),
+        (3, 64),
+        (3, 72),
+        (4, 4),
+        (4, 95),
+        (4, 4 * LEDGER_WORDS as u32 + 4),
+        (4, u32::MAX - 3),
+    ];
+    let calls = calls.map(|(index, number)| read(with(index, number)));
+    seen.all(&some, Refusal::Contents, calls.into());
+    let cut = (0..file.len()).map(|length| read(file[..length].to_vec()));
+    let longer = (1..9).map(|more| read([&file[..], &vec![0; more]].concat()));
+    let other = [8, 92, 100, 4 * LEDGER_WORDS as u32].map(|length| read(with(4, length)));
+    let calls = cut.chain(longer).chain(other).collect();
+    seen.all(&some, Refusal::SnapshotLength, calls);
+    // A file under 20 bytes is too short, whatever its edition.
+    let calls = (0..20).map(|length| read(with(0, 7)[..length].to_vec()));
+    seen.all(&some, Refusal::SnapshotLength, calls.collect());
+    let both = |mut file: Vec<u8>| {
+        file[20 + 4 * 12..].fill(0xFF);
+        read(file)
+    };
+    let calls = vec![read(with(5, 3)), read(with(6, 1)), both(with(7, 0))];
+    seen.all(&some, Refusal::RegisterMalformed, calls);
+    let calls = vec![read(with(17, 1)), read(with(18, 5)), both(file.clone())];
+    seen.all(&some, Refusal::LedgerMalformed, calls);
+    // A zero behind a table's words, of which its own counts do not tell.
+    let wider = [&with(2, 52)[..12], &72u32.to_be_bytes(), &file[16..68]];
+    let calls = vec![read([&wider.concat()[..], &[0; 4], &file[68..]].concat())];
+    seen.all(&some, Refusal::RegisterMalformed, calls);
+    let calls = vec![read([&with(4, 100)[..], &[0; 4]].concat())];
+    seen.all(&some, Refusal::LedgerMalformed, calls);
+
+    assert!(seen.0.into_iter().eq(1..=24), "every row");
 }
 
 /// What full tables still take.

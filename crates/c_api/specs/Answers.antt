@@ -126,6 +126,6 @@ abbrev pub restoredTold : Restored → ℕ
 restoredTold restored.Done = 0
 restoredTold (restored.Refused r) = refusalNumber r
 
--- Read: the result alone; the words of both tables stay the same.
+-- Read: its answer as the result, and the words that it leaves in both tables.
 abbrev pub readingTold : Reading → ToldTables
 readingTold e = toldTables (restoredTold (e .answer)) (e .register) (e .ledger)
