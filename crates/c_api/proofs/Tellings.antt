@@ -21,9 +21,8 @@ use Rattle.ledger.specs.Routes.{ledgerWords}
 use Rattle.rules.specs.Judging.{mostBytes, refusalIn}
 use Rattle.filter.specs.Calls.{Keeping, judgeAnswer, keepEffect}
 use Rattle.filter.proofs.Places.{place-within, judge-placed, keep-placed}
-use Rattle.snapshot.specs.Snapshot.{snapshotOf}
+use Rattle.snapshot.specs.Snapshot.{FormedTables, snapshotOf}
 use Rattle.snapshot.specs.Calls.{writeRows, over, writeEffect, reading, Reading}
-use Rattle.snapshot.specs.Laws.{FormedTables}
 use Rattle.snapshot.proofs.Laws.{snapshot-laws}
 use Rattle.c_api.specs.Answers.{toldRoute, toldTables, placeWord, telling, restoredTold, readingTold}
 use Rattle.c_api.specs.Helpers.{placeIn}

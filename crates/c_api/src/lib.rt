@@ -22,7 +22,8 @@ ghost use Rattle.register.specs.Calls.{fileEffect, withdrawEffect, clearEffect}
 ghost use Rattle.ledger.specs.Calls.{dropEffect};
 ghost use Rattle.filter.specs.Calls.{judgeAnswer, keeping, keepEffect, rejudgeEffect};
 ghost use Rattle.snapshot.specs.Calls.{writeEffect, readEffect};
-ghost use Rattle.c_api.specs.Answers.{told, toldRoute, toldTables, telling, placeWord, filedTold, removalTold, clearedTold, rejudgedTold, verdictWords, judgedTold, writtenTold, readingTold};
+ghost use Rattle.c_api.specs.Answers.{told, toldRoute, toldTables, telling, placeWord, verdictWords};
+ghost use Rattle.c_api.specs.Answers.{filedTold, removalTold, clearedTold, rejudgedTold, judgedTold, writtenTold, readingTold};
 ghost use Rattle.c_api.specs.Helpers.{placeIn};
 
 // The words of an answer to Judge or Keep: verdict, ground, place a, place b, whether a gap is given, the place of a refusal.

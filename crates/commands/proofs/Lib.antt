@@ -1,3 +1,4 @@
 pub mod Parsing
 pub mod Choosing
 pub mod Setting
+pub mod ReadingBack

@@ -8,7 +8,8 @@ ghost use mathlib.Core.Path.{_≡_};
 ghost use Prim.Native.Nat.{_≤_};
 ghost use lib.ListN.{length};
 ghost use Rattle.lines.specs.Words.{wordsOf, wordAt};
-ghost use Rattle.commands.specs.Commands.{mostLine, namedBy, showCommand, pokeCommand, wordsCommand, lookCommand, snapshotCommand, routeCommand, lentCommand};
+ghost use Rattle.commands.specs.Commands.{mostLine, namedBy, showCommand, pokeCommand, wordsCommand};
+ghost use Rattle.commands.specs.Commands.{lookCommand, snapshotCommand, routeCommand, lentCommand};
 ghost use Rattle.commands.specs.Performing.{result, performedOn};
 
 pub fn named(line: &[u8], k: usize) -> Named

@@ -19,9 +19,9 @@ use Rattle.types.proofs.Clashes.{clash}
 use Rattle.types.proofs.Refusing.{refused-first, first-refuses, accepted-none, none-accepted, answers-first, refusal-leaves, numbered}
 use Rattle.register.specs.Register.{registerWords, registerOk}
 use Rattle.ledger.specs.Routes.{ledgerWords, ledgerOk}
-use Rattle.snapshot.specs.Snapshot.{bytesOf, Bytes, contentsBytes, edition, snapshotOf, field, contentsOk, lengthIn, registerIn, ledgerIn, registerInOk, ledgerInOk}
+use Rattle.snapshot.specs.Snapshot.{FormedTables, bytesOf, Bytes, contentsBytes, edition, snapshotOf, field, contentsOk, lengthIn, registerIn, ledgerIn, registerInOk, ledgerInOk}
 use Rattle.snapshot.specs.Calls.{writeRows, over, writeEffect, readRows, reading, readUnless, readEffect}
-use Rattle.snapshot.specs.Laws.{FormedTables, RoundTrips, WriteLaws, ReadLaws, SnapshotLaws}
+use Rattle.snapshot.specs.Laws.{RoundTrips, WriteLaws, ReadLaws, SnapshotLaws}
 use Rattle.snapshot.proofs.Accepting.{passed, Accepted, read-passed}
 use Rattle.snapshot.proofs.RoundTrips.{first, second, long, written-again, read-tables, written-back}
 use Rattle.snapshot.proofs.Writing.{short-row, write-accepted}

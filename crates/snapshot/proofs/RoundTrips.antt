@@ -9,9 +9,8 @@ use Rattle.types.specs.declared.Restored.the-variants as restored
 use Rattle.table.specs.Table.{pad}
 use Rattle.register.specs.Register.{registerWords, recordWidth}
 use Rattle.ledger.specs.Routes.{ledgerWords, routeWidth}
-use Rattle.snapshot.specs.Snapshot.{wordBytes, bytesOf, wordsIn, Bytes, contentsBytes, usedCount, usedBytes, used, contentsOf, snapshotOf, field, registerBytes, ledgerBytes, registerIn, ledgerIn}
+use Rattle.snapshot.specs.Snapshot.{FormedTables, wordBytes, bytesOf, wordsIn, Bytes, contentsBytes, usedCount, usedBytes, used, contentsOf, snapshotOf, field, registerBytes, ledgerBytes, registerIn, ledgerIn}
 use Rattle.snapshot.specs.Calls.{reading, readUnless, readEffect}
-use Rattle.snapshot.specs.Laws.{FormedTables}
 use Rattle.snapshot.proofs.Bytewise.{words-bytes, bytes-words, length-bytes, length-words, bytes-take, bytes-drop}
 use Rattle.snapshot.proofs.Padding.{Filled, take-pad, register-filled, ledger-filled}
 use Rattle.snapshot.proofs.Parts.{headPart, firstPart, secondPart, long-head-part, long-first-part, long-second-part, words-first, words-second, register-long, ledger-long}

@@ -15,9 +15,8 @@ use Rattle.types.specs.declared.Written.the-variants as written
 use Rattle.types.specs.Rows.{firstGiven, effect, unlessRefused}
 use Rattle.register.specs.Register.{registerWords, recordWidth, registerOk}
 use Rattle.ledger.specs.Routes.{ledgerWords, routeWidth, ledgerOk}
-use Rattle.snapshot.specs.Snapshot.{wordBytes, bytesOf, contentsBytes, usedCount, usedBytes, contentsOf, snapshotOf}
+use Rattle.snapshot.specs.Snapshot.{FormedTables, wordBytes, bytesOf, contentsBytes, usedCount, usedBytes, contentsOf, snapshotOf}
 use Rattle.snapshot.specs.Calls.{writeRows, over, writeEffect}
-use Rattle.snapshot.specs.Laws.{FormedTables}
 use Rattle.snapshot.specs.Helpers.{Writable}
 use Rattle.snapshot.proofs.RoundTrips.{first, second, long, long-first, length-contents, head, registerPart, ledgerPart}
 

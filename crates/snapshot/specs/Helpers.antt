@@ -10,9 +10,8 @@ use Rattle.types.specs.declared.Restored.the-variants.{Done, Refused}
 use Rattle.types.specs.Rows.{firstGiven}
 use Rattle.register.specs.Register.{registerWords, recordWidth}
 use Rattle.ledger.specs.Routes.{ledgerWords, routeWidth}
-use Rattle.snapshot.specs.Snapshot.{usedCount, snapshotOf}
+use Rattle.snapshot.specs.Snapshot.{FormedTables, usedCount, snapshotOf}
 use Rattle.snapshot.specs.Calls.{contentsRows}
-use Rattle.snapshot.specs.Laws.{FormedTables}
 
 -- The word of the four bytes from index i on.
 abbrev pub wordAt : List ℕ → ℕ → ℕ

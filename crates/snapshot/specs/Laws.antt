@@ -1,7 +1,6 @@
 -- What writing and reading promise together. proofs/Laws.antt has the proof.
 use Prim.Native.Nat.{ℕ, _+_, _*_, _≤_, _<_}
 use mathlib.Core.Path.{_≡_}
-use mathlib.Core.Bool.{true}
 use mathlib.Core.List.{List, [], _∷_}
 use mathlib.Core.Logic.{_↔_}
 use mathlib.Core.Option.{none}
@@ -11,17 +10,10 @@ use Rattle.types.specs.declared.Refusal.the-variants.{OutputLength}
 use Rattle.types.specs.declared.Written.the-variants as written
 use Rattle.types.specs.declared.Restored.the-variants as restored
 use Rattle.types.specs.Rows.{FirstAt, Numbered, effect}
-use Rattle.register.specs.Register.{registerWords, recordWidth, mostRecords, mostListed, registerOk}
-use Rattle.ledger.specs.Routes.{ledgerWords, routeWidth, mostRoutes, mostPathWords, ledgerOk}
-use Rattle.snapshot.specs.Snapshot.{Bytes, wordBytes, contentsBytes, usedBytes, snapshotOf}
+use Rattle.register.specs.Register.{registerWords, recordWidth, mostRecords, mostListed}
+use Rattle.ledger.specs.Routes.{ledgerWords, routeWidth, mostRoutes, mostPathWords}
+use Rattle.snapshot.specs.Snapshot.{Bytes, wordBytes, contentsBytes, FormedTables, usedBytes, snapshotOf}
 use Rattle.snapshot.specs.Calls.{writeRows, writeEffect, over, contentsRows, readRows, reading, readEffect}
-
--- Two tables of the right lengths that keep their word rules.
-pub record FormedTables (reg led : List ℕ) : Type 0 where
-  pub register-long : length reg ≡ registerWords
-  pub register-ok : registerOk reg ≡ true
-  pub ledger-long : length led ≡ ledgerWords
-  pub ledger-ok : ledgerOk led ≡ true
 
 -- Two tables whose counts are all at their limits.
 pub record FullTables (reg led : List ℕ) : Type 0 where

@@ -1,10 +1,11 @@
 -- The snapshot of a register and a ledger ("The snapshot"): one file of bytes. A word is four of them, high byte first. Five words are the contents,
 -- and behind them stand the used words of both tables.
 use Prim.Native.Nat.{ℕ, _+_, _*_, _/_, _%_, _<_}
-use mathlib.Core.Bool.{Bool, _&&_}
+use mathlib.Core.Path.{_≡_}
+use mathlib.Core.Bool.{Bool, true, _&&_}
 use mathlib.Core.List.{List, [], _∷_, _++_}
 use lib.Dec.{leb, eqb}
-use lib.ListN.{take, drop, getD}
+use lib.ListN.{length, take, drop, getD}
 use Rattle.table.specs.Table.{counters, pad}
 use Rattle.register.specs.Register.{registerWords, recordWidth, registerOk}
 use Rattle.ledger.specs.Routes.{ledgerWords, routeWidth, ledgerOk}
@@ -32,6 +33,13 @@ abbrev pub Bytes : List ℕ → Type 0
 Bytes bs = (i : ℕ) → getD bs i 0 < 256
 
 -- ---- the file of two tables
+
+-- Two tables of the right lengths that keep their word rules.
+pub record FormedTables (reg led : List ℕ) : Type 0 where
+  pub register-long : length reg ≡ registerWords
+  pub register-ok : registerOk reg ≡ true
+  pub ledger-long : length led ≡ ledgerWords
+  pub ledger-ok : ledgerOk led ≡ true
 
 abbrev pub edition : ℕ
 edition = 1

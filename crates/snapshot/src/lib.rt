@@ -13,7 +13,8 @@ ghost use lib.Seq.{sets};
 ghost use Rattle.register.specs.Register.{registerWords, recordWidth, registerOk};
 ghost use Rattle.ledger.specs.Routes.{ledgerWords, routeWidth, ledgerOk};
 ghost use Rattle.types.specs.Rows.{firstGiven, effect};
-ghost use Rattle.snapshot.specs.Snapshot.{wordBytes, bytesOf, wordsIn, contentsBytes, usedCount, usedBytes, snapshotOf, field as fieldOf, lengthOk, contentsOk, registerIn, ledgerIn, registerInOk, ledgerInOk};
+ghost use Rattle.snapshot.specs.Snapshot.{wordBytes, bytesOf, wordsIn, contentsBytes, usedCount, usedBytes, snapshotOf, field as fieldOf};
+ghost use Rattle.snapshot.specs.Snapshot.{lengthOk, contentsOk, registerIn, ledgerIn, registerInOk, ledgerInOk};
 ghost use Rattle.snapshot.specs.Calls.{over, writeEffect, contentsRows, reading, readEffect};
 ghost use Rattle.snapshot.specs.Helpers.{wordAt, Writable, answerBy, Loadable};
 
