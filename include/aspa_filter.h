@@ -13,7 +13,7 @@
  * ASPA_REFUSALS below: a number, a name and what it means. Each call tests the rows that concern its own arguments and
  * tables, in the order in which they are listed with it, and is refused by the first that is given; 12 to 16 go by
  * place. A refusal changes no table and no byte of an output. It does write the answer words `out` and `gap`, with
- * words that no answer has: ASPA_NO_VERDICT, ASPA_NOT_FILED, ASPA_NO_COUNT.
+ * words that no answer has: ASPA_NO_VERDICT, ASPA_NOT_FILED, ASPA_NO_COUNT, ASPA_NO_BYTES.
  *
  * What every call asks of its pointers. The library cannot test these, and to break one is undefined behaviour:
  *   - a pointer that comes with a length (`.._len`, counted in elements) has that many elements that can be read, and
@@ -116,8 +116,11 @@ extern "C" {
 #define ASPA_REPLACED 1
 #define ASPA_NOT_FILED 2
 
-/* In place of a count or a length where a clearing, a re-judging or a writing was refused. */
+/* In place of a count where a clearing or a re-judging was refused. */
 #define ASPA_NO_COUNT UINT32_MAX
+
+/* In place of a file's length where a writing was refused: no file is so short, and as a length it reads past no end. */
+#define ASPA_NO_BYTES 0
 
 /* Grounds on which a route is Invalid before any hop is looked at. */
 #define ASPA_GROUND_NONE 0
@@ -242,7 +245,7 @@ uint32_t aspa_rejudge(const uint32_t *reg, size_t reg_len, uint32_t *ledger, siz
 /*
  * Writes a snapshot of both tables, one file that aspa_read takes, to the start of the output. The output's bytes behind
  * the file stay, and so do both tables. Rows 1, 2, 3, 21; the last exactly when the output is shorter than the file.
- *   out[0]: the file's length in bytes, at most ASPA_SNAPSHOT_BYTES. On a refusal ASPA_NO_COUNT.
+ *   out[0]: the file's length in bytes, at most ASPA_SNAPSHOT_BYTES. On a refusal ASPA_NO_BYTES.
  * A file is numbers of four bytes, the high byte first: the contents, which are the edition (1), then for the register
  * and then for the ledger where its words begin and how many bytes they are; and those words, each table's from word 0
  * to the last that its counts lead to. The register's begin at byte ASPA_CONTENTS_BYTES, and there is no gap.

@@ -308,8 +308,8 @@ fn downstream(by: &impl Find, reg: &[u32], path: &[u32]) -> [u32; 3] {
     }
 }
 
-/// The refusal's number, or how many entries changed.
-pub fn rejudge<F: Find>(reg: &[u32], ledger: &mut [u32]) -> Result<u32, u32> {
+/// Rows 1 to 3 of both tables.
+pub fn check(reg: &[u32], ledger: &[u32]) -> Result<(), u32> {
     if reg.len() != REGISTER_WORDS || ledger.len() != LEDGER_WORDS {
         return Err(1);
     }
@@ -319,6 +319,12 @@ pub fn rejudge<F: Find>(reg: &[u32], ledger: &mut [u32]) -> Result<u32, u32> {
     if !is_ledger(ledger) {
         return Err(3);
     }
+    Ok(())
+}
+
+/// The refusal's number, or how many entries changed.
+pub fn rejudge<F: Find>(reg: &[u32], ledger: &mut [u32]) -> Result<u32, u32> {
+    check(reg, ledger)?;
     let by = F::over(reg);
     let begin = 2 + ledger[0] as usize * ROUTE;
     let (entries, paths) = ledger.split_at_mut(begin);

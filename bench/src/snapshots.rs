@@ -1,6 +1,6 @@
 //! Snapshots of full tables, written and read by the library and in plain Rust, which checks the same.
 use crate::cases::{hash, time, Call, Timed, CHANGED};
-use crate::plain::{is_ledger, is_register, RECORD, ROUTE};
+use crate::plain::{check, is_ledger, is_register, RECORD, ROUTE};
 use crate::work::Random;
 use aspa_filter::{
     Ledger, Refusal, Register, Tables, LEDGER_WORDS, REGISTER_WORDS, SNAPSHOT_BYTES,
@@ -28,15 +28,7 @@ fn get(bytes: &[u8], into: &mut [u32]) {
 
 /// The refusal's number, or the length of the snapshot.
 fn write(reg: &[u32], ledger: &[u32], output: &mut [u8]) -> Result<usize, u32> {
-    if reg.len() != REGISTER_WORDS || ledger.len() != LEDGER_WORDS {
-        return Err(1);
-    }
-    if !is_register(reg) {
-        return Err(2);
-    }
-    if !is_ledger(ledger) {
-        return Err(3);
-    }
+    check(reg, ledger)?;
     let (first, second) = (used(reg, RECORD), used(ledger, ROUTE));
     let next = CONTENTS + first;
     let output = output.get_mut(..next + second).ok_or(21u32)?;

@@ -57,6 +57,7 @@ static uint32_t *fresh(void) {
 
 #define REFUSED_FILING(call, row) (REFUSED(call, row), CHECK(out[0] == ASPA_NOT_FILED))
 #define REFUSED_COUNT(call, row) (REFUSED(call, row), CHECK(out[0] == ASPA_NO_COUNT))
+#define REFUSED_WRITING(call, row) (REFUSED(call, row), CHECK(out[0] == ASPA_NO_BYTES))
 
 /* A route that is judged and kept, each time by both ways of calling. */
 typedef struct route {
@@ -150,7 +151,7 @@ static int untouched(const uint8_t *bytes, size_t at, size_t n) {
 static void not_written(size_t reg_len, size_t ledger_len, size_t output_len, uint32_t row, int line) {
     uint8_t *output = output_of(output_len);
     refused(aspa_write(reg, reg_len, ledger, ledger_len, output, output_len, fresh()), row, "a writing", line);
-    check(out[0] == ASPA_NO_COUNT, "no length", line);
+    check(out[0] == ASPA_NO_BYTES, "no length", line);
     check(untouched(output, 0, output_len), "every byte of the output", line);
     free(output);
 }
@@ -565,8 +566,8 @@ static void null_pointers(void) {
     CHECK(words[ASPA_ANSWER_VERDICT] == ASPA_NO_VERDICT);
     REFUSED(aspa_drop(NULL, 0, 7), ASPA_REFUSED_TABLE_LENGTH);
     REFUSED_COUNT(aspa_rejudge(NULL, 0, NULL, 0, fresh()), ASPA_REFUSED_TABLE_LENGTH);
-    REFUSED_COUNT(aspa_write(NULL, 0, NULL, 0, NULL, 0, fresh()), ASPA_REFUSED_TABLE_LENGTH);
-    REFUSED_COUNT(aspa_write(reg, R, ledger, L, NULL, 0, fresh()), ASPA_REFUSED_OUTPUT_LENGTH);
+    REFUSED_WRITING(aspa_write(NULL, 0, NULL, 0, NULL, 0, fresh()), ASPA_REFUSED_TABLE_LENGTH);
+    REFUSED_WRITING(aspa_write(reg, R, ledger, L, NULL, 0, fresh()), ASPA_REFUSED_OUTPUT_LENGTH);
     REFUSED(aspa_read(NULL, 0, NULL, 0, NULL, 0), ASPA_REFUSED_TABLE_LENGTH);
     REFUSED(aspa_read(NULL, 0, reg, R, ledger, L), ASPA_REFUSED_SNAPSHOT_LENGTH);
     a = aspa_judge_route(reg, R, 1, 20, NULL, 0);

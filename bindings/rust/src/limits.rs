@@ -26,6 +26,9 @@ pub const LEDGER_WORDS: usize = counters::WORDS + MOST_ROUTES * route::WORDS + M
 /// The most bytes of a snapshot: contents of five words, and all words of both tables.
 pub const SNAPSHOT_BYTES: usize = 4 * (5 + REGISTER_WORDS + LEDGER_WORDS);
 
+/// The least: the contents, and two counters of each table.
+pub(crate) const SHORTEST_SNAPSHOT: usize = 4 * (5 + 2 * counters::WORDS);
+
 /// The two numbers that a table begins with.
 pub(crate) mod counters {
     pub const ENTRIES: usize = 0;

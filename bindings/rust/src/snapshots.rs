@@ -1,5 +1,5 @@
 //! Both tables together, as one file.
-use crate::limits::SNAPSHOT_BYTES;
+use crate::limits::{SHORTEST_SNAPSHOT, SNAPSHOT_BYTES};
 use crate::tables::count;
 use crate::{ffi, Ledger, Refusal, Register};
 use std::error::Error;
@@ -63,9 +63,9 @@ impl Tables {
     /// [`TableLength`](Refusal::TableLength), [`RegisterMalformed`](Refusal::RegisterMalformed),
     /// [`LedgerMalformed`](Refusal::LedgerMalformed), [`OutputLength`](Refusal::OutputLength). Then no byte of the output has changed.
     pub fn write(&self, output: &mut [u8]) -> Result<usize, Refusal> {
-        let most = output.len().min(SNAPSHOT_BYTES);
+        let possible = SHORTEST_SNAPSHOT..=output.len().min(SNAPSHOT_BYTES);
         let told = ffi::write(&self.register.0, &self.ledger.0, output);
-        count(told, most).map(|length| length as usize)
+        count(told, possible).map(|length| length as usize)
     }
 
     /// Reads a snapshot into both tables. Their earlier words are not looked at, only their lengths. It takes some 100 KiB of stack.

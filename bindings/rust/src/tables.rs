@@ -6,6 +6,7 @@ use crate::limits::{
 use crate::{ffi, Answer, AsNumber, Refusal, Role, RouteNumber, Verdict};
 use std::fmt;
 use std::iter::FusedIterator;
+use std::ops::RangeInclusive;
 
 /// What a filing answers.
 #[derive(Clone, Copy, Debug, PartialEq, Eq, Hash)]
@@ -27,10 +28,13 @@ impl Filed {
     }
 }
 
-/// How many entries, or bytes, a call tells of; a number that is never reached is no answer.
-pub(crate) fn count((row, count): (u32, u32), most: usize) -> Result<u32, Refusal> {
+/// How many entries, or bytes, a call tells of; a number that it never tells is no answer.
+pub(crate) fn count(
+    (row, count): (u32, u32),
+    possible: RangeInclusive<usize>,
+) -> Result<u32, Refusal> {
     Refusal::told(row, 0)?;
-    if count as usize <= most {
+    if possible.contains(&(count as usize)) {
         Ok(count)
     } else {
         Err(Refusal::NoAnswer { number: row })
@@ -95,7 +99,7 @@ impl Register {
     ///
     /// [`TableLength`](Refusal::TableLength), [`RegisterMalformed`](Refusal::RegisterMalformed), [`Source`](Refusal::Source).
     pub fn clear(&mut self, source: u32) -> Result<u32, Refusal> {
-        count(ffi::clear(&mut self.0, source), MOST_RECORDS)
+        count(ffi::clear(&mut self.0, source), 0..=MOST_RECORDS)
     }
 
     /// Judges a route: the role and the number of the neighbour that sent it, and the value of its AS_PATH attribute with four-byte
@@ -219,7 +223,7 @@ impl Ledger {
     /// [`TableLength`](Refusal::TableLength), [`RegisterMalformed`](Refusal::RegisterMalformed),
     /// [`LedgerMalformed`](Refusal::LedgerMalformed).
     pub fn rejudge(&mut self, register: &Register) -> Result<u32, Refusal> {
-        count(ffi::rejudge(&register.0, &mut self.0), MOST_ROUTES)
+        count(ffi::rejudge(&register.0, &mut self.0), 0..=MOST_ROUTES)
     }
 
     /// The kept routes, by number, with the verdicts of their keeping or of the last re-judging.
@@ -429,27 +433,32 @@ impl fmt::Debug for Routes<'_> {
 mod tests {
     use super::*;
     use crate::ffi::UNWRITTEN;
+    use crate::limits::SHORTEST_SNAPSHOT;
 
     #[test]
     fn words_that_are_no_answer() {
         let none = Refusal::NoAnswer { number: 0 };
         assert_eq!(Filed::told((0, 1)), Ok(Filed::Replaced));
-        assert_eq!(count((0, 512), MOST_ROUTES), Ok(512));
+        assert_eq!(count((0, 512), 0..=MOST_ROUTES), Ok(512));
         for word in [2, UNWRITTEN] {
             assert_eq!(Filed::told((0, word)), Err(none));
         }
         for word in [513, UNWRITTEN] {
-            assert_eq!(count((0, word), MOST_ROUTES), Err(none));
+            assert_eq!(count((0, word), 0..=MOST_ROUTES), Err(none));
         }
+        for word in [0, 35, 61, UNWRITTEN] {
+            assert_eq!(count((0, word), SHORTEST_SNAPSHOT..=60), Err(none));
+        }
+        assert_eq!(count((0, 36), SHORTEST_SNAPSHOT..=60), Ok(36));
     }
 
     #[test]
     fn words_of_a_refusal() {
         for word in [0, 1, 2, UNWRITTEN] {
             assert_eq!(Filed::told((6, word)), Err(Refusal::Providers));
-            assert_eq!(count((3, word), 1), Err(Refusal::LedgerMalformed));
+            assert_eq!(count((3, word), 0..=1), Err(Refusal::LedgerMalformed));
             let none = Refusal::NoAnswer { number: 25 };
-            assert_eq!(count((25, word), 1), Err(none));
+            assert_eq!(count((25, word), 0..=1), Err(none));
         }
     }
 }

@@ -34,9 +34,9 @@ use Rattle.filter.proofs.Tables.{rejudge-accepts}
 use Rattle.filter.proofs.Answers.{rejudge-accepted}
 use Rattle.filter.proofs.Rejudgings.{few-changed}
 use Rattle.snapshot.specs.Calls.{writeEffect}
-use Rattle.c_api.specs.Answers.{noVerdict, notFiled, noCount, filedTold, clearedTold, rejudgedTold, judgedTold, writtenTold}
+use Rattle.c_api.specs.Answers.{noVerdict, notFiled, noCount, noBytes, filedTold, clearedTold, rejudgedTold, judgedTold, writtenTold}
 use Rattle.c_api.specs.Laws.{Marks, RefusalLaws}
-use Rattle.c_api.proofs.Tellings.{few-bytes}
+use Rattle.c_api.proofs.Tellings.{some-bytes}
 
 -- ---- the word of a refusal, and any other
 
@@ -130,11 +130,11 @@ rejudge-marks reg led = go (rejudgeEffect reg led .answer) refl
     go (rejudged.Refused r) e = refused r
 
 write-marks : (reg led output : List ℕ)
-    → Marks noCount (writtenTold (writeEffect reg led output .answer) .result) (writtenTold (writeEffect reg led output .answer) .words)
+    → Marks noBytes (writtenTold (writeEffect reg led output .answer) .result) (writtenTold (writeEffect reg led output .answer) .words)
 write-marks reg led output = go (writeEffect reg led output .answer) refl
   where
-    go : (a : Written) → writeEffect reg led output .answer ≡ a → Marks noCount (writtenTold a .result) (writtenTold a .words)
-    go (written.Bytes n) e = answered (λ z. omega (arith, z, few-bytes reg led output n e))
+    go : (a : Written) → writeEffect reg led output .answer ≡ a → Marks noBytes (writtenTold a .result) (writtenTold a .words)
+    go (written.Bytes n) e = answered (λ z. omega (arith, z, some-bytes reg led output n e))
     go (written.Refused r) e = refused r
 
 pub refusal-laws : RefusalLaws

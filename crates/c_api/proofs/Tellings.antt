@@ -2,10 +2,10 @@
 use Prim.Native.Nat.{ℕ, _≤_, _<_}
 use mathlib.Core.Path.{_≡_, refl, sym, _∙_, ap}
 use mathlib.Core.List.{List}
-use mathlib.Core.Option.{Option, none, some}
+use mathlib.Core.Option.{some}
 use native.Mathlib.Omega.{arith}
 use lib.IntN.{ℤ}
-use lib.ListN.{length, replicate, length-replicate}
+use lib.ListN.{length}
 use Rattle.types.specs.declared.Place.{Place}
 use Rattle.types.specs.declared.Place.the-variants.{Nowhere, Byte}
 use Rattle.types.specs.declared.Refusal.{Refusal}
@@ -14,15 +14,11 @@ use Rattle.types.specs.declared.Judged.the-variants.{Answered, Refused}
 use Rattle.types.specs.declared.Written.the-variants as written
 use Rattle.types.specs.declared.Restored.{Restored}
 use Rattle.types.specs.Numbers.{refusalPlace}
-use Rattle.types.specs.Rows.{Effect, effect, firstGiven, unlessRefused}
-use Rattle.types.proofs.Clashes.{clash}
-use Rattle.register.specs.Register.{registerWords}
-use Rattle.ledger.specs.Routes.{ledgerWords}
+use Rattle.types.specs.Rows.{Effect, effect}
 use Rattle.rules.specs.Judging.{mostBytes, refusalIn}
 use Rattle.filter.specs.Calls.{Keeping, judgeAnswer, keepEffect}
 use Rattle.filter.proofs.Places.{place-within, judge-placed, keep-placed}
-use Rattle.snapshot.specs.Snapshot.{FormedTables, snapshotOf}
-use Rattle.snapshot.specs.Calls.{writeRows, over, writeEffect, reading, Reading}
+use Rattle.snapshot.specs.Calls.{writeEffect, reading, Reading}
 use Rattle.snapshot.proofs.Laws.{snapshot-laws}
 use Rattle.c_api.specs.Answers.{toldRoute, toldTables, placeWord, telling, restoredTold, readingTold}
 use Rattle.c_api.specs.Helpers.{placeIn}
@@ -62,27 +58,10 @@ pub tells-reading : {a v : Restored} {e : Reading} {reg led : List ℕ} {x : ℕ
 tells-reading {reg = reg} {led = led} e matched t = ap (λ y. toldTables y reg led) (t ∙ ap restoredTold (sym matched)) ∙ ap readingTold e
 
 module _ (reg led output : List ℕ) (n : ℕ) (h : writeEffect reg led output .answer ≡ written.Bytes n) where
-  -- What was written can be read, so the tables are well formed.
-  formed : FormedTables reg led
-  formed =
-      let trips = snapshot-laws .round-trips in
-      let zero : ℕ = 0 in
-      let r = length-replicate registerWords zero in
-      let l = length-replicate ledgerWords zero in
-      let e = trips .written-read reg led output (replicate registerWords 0) (replicate ledgerWords 0) n h r l in
-      let f = trips .read-formed _ _ _ (ap (λ x. x .answer) e) in
-      rw e at f
-
-  counted : n ≡ length (snapshotOf reg led)
-  unfolding writeEffect
-  counted = go (firstGiven (writeRows reg led output)) h
-    where
-      go : (o : Option Refusal)
-          → unlessRefused o written.Refused output (effect (written.Bytes (length (snapshotOf reg led))) (over (snapshotOf reg led) output)) .answer ≡ written.Bytes n
-          → n ≡ length (snapshotOf reg led)
-      go (some r) e = clash (cc)
-      go none e = cc
-
   -- A word holds the length that Write answers.
   pub few-bytes : n ≤ 100388
-  few-bytes = omega (arith, counted, snapshot-laws .write .most reg led formed)
+  few-bytes = let w = snapshot-laws .write .accepted-formed reg led output n h in omega (arith, w .1, snapshot-laws .write .most reg led (w .0))
+
+  -- It is not 0.
+  pub some-bytes : 36 ≤ n
+  some-bytes = let w = snapshot-laws .write .accepted-formed reg led output n h in omega (arith, w .1, snapshot-laws .write .least reg led (w .0))

@@ -55,9 +55,13 @@ noVerdict = 3
 abbrev pub notFiled : ℕ
 notFiled = 2
 
--- In place of a count: no table has so many entries, and no file so many bytes.
+-- In place of a count: no table has so many entries.
 abbrev pub noCount : ℕ
 noCount = 4294967295
+
+-- In place of a file's length: every file has some bytes. Who takes it for a length nevertheless goes past no end.
+abbrev pub noBytes : ℕ
+noBytes = 0
 
 -- ---- the calls on a table
 
@@ -111,7 +115,7 @@ judgedTold (judged.Refused r) = toldRoute (refusalNumber r) (noVerdict ∷ 0 ∷
 -- Write: the file's length in bytes.
 abbrev pub writtenTold : Written → Told
 writtenTold (written.Bytes n) = told 0 (n ∷ [])
-writtenTold (written.Refused r) = told (refusalNumber r) (noCount ∷ [])
+writtenTold (written.Refused r) = told (refusalNumber r) (noBytes ∷ [])
 
 -- What C gets of a reading: its result, and the words of both tables.
 pub record ToldTables : Type 0 where

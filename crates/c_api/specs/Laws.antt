@@ -10,7 +10,7 @@ use Rattle.types.specs.declared.Judged.{Judged}
 use Rattle.register.specs.Calls.{clearEffect}
 use Rattle.filter.specs.Calls.{rejudgeEffect}
 use Rattle.snapshot.specs.Calls.{writeEffect}
-use Rattle.c_api.specs.Answers.{noVerdict, notFiled, noCount, filedTold, clearedTold, rejudgedTold, judgedTold, writtenTold}
+use Rattle.c_api.specs.Answers.{noVerdict, notFiled, noCount, noBytes, filedTold, clearedTold, rejudgedTold, judgedTold, writtenTold}
 
 -- The first word is this one exactly when the result is not 0.
 abbrev pub Marks : ℕ → ℕ → List ℕ → Type 0
@@ -26,6 +26,6 @@ pub record RefusalLaws : Type 0 where
       → Marks noCount (rejudgedTold (rejudgeEffect reg led .answer) .result) (rejudgedTold (rejudgeEffect reg led .answer) .words)
   -- Judge and Keep, whatever they answer.
   pub judge : (j : Judged) → Marks noVerdict (judgedTold j .result) (judgedTold j .words)
-  -- Write, of whatever words and whatever output: no file has so many bytes.
+  -- Write, of whatever words and whatever output.
   pub write : (reg led output : List ℕ)
-      → Marks noCount (writtenTold (writeEffect reg led output .answer) .result) (writtenTold (writeEffect reg led output .answer) .words)
+      → Marks noBytes (writtenTold (writeEffect reg led output .answer) .result) (writtenTold (writeEffect reg led output .answer) .words)

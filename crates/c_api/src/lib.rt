@@ -35,8 +35,11 @@ const NO_VERDICT: u32 = 3;
 // of new or replaced,
 const NOT_FILED: u32 = 2;
 
-// and of a count.
+// of a count,
 const NO_COUNT: u32 = 4294967295;
+
+// and of a file's length: whoever takes it for one nevertheless goes past no end.
+const NO_BYTES: u32 = 0;
 
 // The place of a refusal, 0 if it has none. Every place is below the most bytes of an attribute, so the word holds it.
 fn place_word(r: Refusal) -> u32
@@ -216,7 +219,7 @@ pub extern "C" fn aspa_rejudge(register: &[u32], ledger: &mut [u32], out: &mut [
     }
 }
 
-// Write: the file of both tables goes to the start of the output. out[0] is its length in bytes, NO_COUNT on a refusal. Rows 1, 2, 3, 21.
+// Write: the file of both tables goes to the start of the output. out[0] is its length in bytes, NO_BYTES on a refusal. Rows 1, 2, 3, 21.
 #[no_mangle]
 pub extern "C" fn aspa_write(
     register: &[u32],
@@ -233,7 +236,7 @@ pub extern "C" fn aspa_write(
             *out = [bytes];
             0
         }
-        Written::Refused(r) => refused(r, NO_COUNT, out),
+        Written::Refused(r) => refused(r, NO_BYTES, out),
     }
 }
 

@@ -21,7 +21,8 @@ use Rattle.register.specs.Register.{registerWords, registerOk}
 use Rattle.ledger.specs.Routes.{ledgerWords, ledgerOk}
 use Rattle.snapshot.specs.Snapshot.{FormedTables, bytesOf, Bytes, contentsBytes, edition, snapshotOf, field, contentsOk, lengthIn, registerIn, ledgerIn, registerInOk, ledgerInOk}
 use Rattle.snapshot.specs.Calls.{writeRows, over, writeEffect, readRows, reading, readUnless, readEffect}
-use Rattle.snapshot.specs.Laws.{RoundTrips, WriteLaws, ReadLaws, SnapshotLaws}
+use Rattle.snapshot.specs.Laws.{FullTables, RoundTrips, WriteLaws, ReadLaws, SnapshotLaws}
+use Rattle.snapshot.proofs.Padding.{register-limits, ledger-limits}
 use Rattle.snapshot.proofs.Accepting.{passed, Accepted, read-passed}
 use Rattle.snapshot.proofs.RoundTrips.{first, second, long, written-again, read-tables, written-back}
 use Rattle.snapshot.proofs.Writing.{short-row, write-accepted}
@@ -97,11 +98,26 @@ too-short reg led out t = (to (ltb (length out) (length (snapshotOf reg led))) r
     to true q e = ltb-true (length out) (length (snapshotOf reg led)) q
     to false q e = fits (ltb-false (length out) (length (snapshotOf reg led)) q) e
 
+full : (reg led : List ℕ) → FormedTables reg led → (length (snapshotOf reg led) ≡ 100388) ↔ FullTables reg led
+full reg led t = (to, λ f. omega (arith, long reg led t, f .records, f .listed, f .routes, f .path-words))
+  where
+    to : length (snapshotOf reg led) ≡ 100388 → FullTables reg led
+    to e =
+        let r = register-limits reg (t .register-ok) in
+        let l = ledger-limits led (t .ledger-ok) in
+        record {
+          records = omega (arith, e, long reg led t, r .0, r .1, l .0, l .1);
+          listed = omega (arith, e, long reg led t, r .0, r .1, l .0, l .1);
+          routes = omega (arith, e, long reg led t, r .0, r .1, l .0, l .1);
+          path-words = omega (arith, e, long reg led t, r .0, r .1, l .0, l .1);
+        }
+
 write-laws : WriteLaws
 unfolding snapshotOf bytesOf
 write-laws = record {
   refused-first = write-refused-first;
   accepted-none = write-accepted-none;
+  accepted-formed = λ reg led out n h. (wrote reg led out n h .tables, wrote reg led out n h .count);
   rows-numbered =
       λ reg led out. (
         numbered (not (eqb (length reg) registerWords)) TableLength,
@@ -120,7 +136,7 @@ write-laws = record {
   long = long;
   empty = refl;
   least = λ reg led t. omega (arith, long reg led t, first reg led t .two, second reg led t .two);
-  full = λ reg led t f. omega (arith, long reg led t, f .records, f .listed, f .routes, f .path-words);
+  full = full;
   most = λ reg led t. omega (arith, long reg led t, first reg led t .within, second reg led t .within, t .register-long, t .ledger-long);
   most-words = refl;
 }

@@ -4,13 +4,17 @@ use mathlib.Core.Path.{_≡_, sym, ap, _∙_}
 use mathlib.Core.Bool.{true, and-eq-true-iff}
 use mathlib.Core.List.{List, _∷_, _++_}
 use native.Mathlib.Omega.{arith}
-use lib.ListN.{length, take, replicate, length-append}
+use lib.ListN.{length, take, getD, replicate, length-append}
 use lib.Seq.{length-take-le, take-at}
 use Rattle.table.specs.Table.{Entry, counters, width, slots, bodies, pad, encode, decode, wellFormed}
 use Rattle.table.proofs.Tables.{length-slots}
 use Rattle.table.proofs.Tabled.{table-laws}
-use Rattle.register.specs.Register.{recordHead, recordTail, recordWidth, recordsOf, recordsOk, registerOk}
-use Rattle.ledger.specs.Routes.{routeHead, routeTail, routeWidth, routesOf, routesOk, ledgerOk}
+use Rattle.register.proofs.Entries.{record-count, list-count}
+use Rattle.register.proofs.Holding as register
+use Rattle.ledger.proofs.Entries.{route-count, path-count}
+use Rattle.ledger.proofs.Holding as ledger
+use Rattle.register.specs.Register.{mostRecords, mostListed, recordHead, recordTail, recordWidth, recordsOf, recordsOk, registerOk}
+use Rattle.ledger.specs.Routes.{mostRoutes, mostPathWords, routeHead, routeTail, routeWidth, routesOf, routesOk, ledgerOk}
 use Rattle.snapshot.specs.Snapshot.{usedCount, used}
 
 -- Words with zeros behind them.
@@ -52,3 +56,18 @@ register-filled reg e = filled recordHead recordTail reg (and-eq-true-iff (wellF
 pub ledger-filled : (led : List ℕ) → ledgerOk led ≡ true → Filled routeWidth led
 unfolding ledgerOk
 ledger-filled led e = filled routeHead routeTail led (and-eq-true-iff (wellFormed routeHead routeTail led) (routesOk (routesOf led)) .0 e .0)
+
+-- Their two counts keep the limits.
+pub register-limits : (reg : List ℕ) → registerOk reg ≡ true → (getD reg 0 0 ≤ mostRecords) × (getD reg 1 0 ≤ mostListed)
+register-limits reg e =
+    let room = register.has-room (recordsOf reg) (register.records-ok reg e) in (
+      omega (arith, record-count reg (register.sound reg e), register.room-records (recordsOf reg) room),
+      omega (arith, list-count reg (register.sound reg e), register.room-lists (recordsOf reg) room),
+    )
+
+pub ledger-limits : (led : List ℕ) → ledgerOk led ≡ true → (getD led 0 0 ≤ mostRoutes) × (getD led 1 0 ≤ mostPathWords)
+ledger-limits led e =
+    let room = ledger.has-room (routesOf led) (ledger.routes-ok led e) in (
+      omega (arith, route-count led (ledger.sound led e), ledger.room-routes (routesOf led) room),
+      omega (arith, path-count led (ledger.sound led e), ledger.room-paths (routesOf led) room),
+    )

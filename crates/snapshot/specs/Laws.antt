@@ -40,6 +40,9 @@ pub record WriteLaws : Type 0 where
       → (writeEffect reg led out .answer ≡ written.Refused r) ↔ ((i : ℕ) × FirstAt (writeRows reg led out) i r)
   pub accepted-none : (reg led out : List ℕ)
       → (writeEffect reg led out .answer ≡ written.Bytes (length (snapshotOf reg led))) ↔ ((i : ℕ) → getD (writeRows reg led out) i none ≡ none)
+  -- An accepted Write was lent well-formed tables, and answers the length of their file.
+  pub accepted-formed : (reg led out : List ℕ) (n : ℕ) → writeEffect reg led out .answer ≡ written.Bytes n
+      → FormedTables reg led × (n ≡ length (snapshotOf reg led))
   -- Its rows, in their order.
   pub rows-numbered : (reg led out : List ℕ) → Numbered (writeRows reg led out) (1 ∷ 1 ∷ 2 ∷ 3 ∷ 21 ∷ [])
   -- A refused Write leaves the output; an accepted one puts the file at its start and leaves the bytes behind it.
@@ -51,12 +54,12 @@ pub record WriteLaws : Type 0 where
       → (writeEffect reg led out .answer ≡ written.Refused OutputLength) ↔ (length out < length (snapshotOf reg led))
   pub enough : (reg led out : List ℕ) → FormedTables reg led → length (snapshotOf reg led) ≤ length out
       → writeEffect reg led out .answer ≡ written.Bytes (length (snapshotOf reg led))
-  -- How long the file is: of empty tables 36 bytes, the least, and of full ones 100,388, the most.
+  -- How long the file is: of empty tables 36 bytes, the least, and of full ones, and no others, 100,388, the most.
   pub long : (reg led : List ℕ) → FormedTables reg led
       → length (snapshotOf reg led) ≡ contentsBytes + usedBytes recordWidth reg + usedBytes routeWidth led
   pub empty : length (snapshotOf (replicate registerWords 0) (replicate ledgerWords 0)) ≡ 36
   pub least : (reg led : List ℕ) → FormedTables reg led → 36 ≤ length (snapshotOf reg led)
-  pub full : (reg led : List ℕ) → FormedTables reg led → FullTables reg led → length (snapshotOf reg led) ≡ 100388
+  pub full : (reg led : List ℕ) → FormedTables reg led → (length (snapshotOf reg led) ≡ 100388) ↔ FullTables reg led
   pub most : (reg led : List ℕ) → FormedTables reg led → length (snapshotOf reg led) ≤ 100388
   pub most-words : contentsBytes + wordBytes * (registerWords + ledgerWords) ≡ 100388
 
