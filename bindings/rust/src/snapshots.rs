@@ -68,7 +68,7 @@ impl Tables {
         count(told, possible).map(|length| length as usize)
     }
 
-    /// Reads a snapshot into both tables. Their earlier words are not looked at, only their lengths. It takes some 100 KiB of stack.
+    /// Reads a snapshot into both tables. Their earlier words are not looked at, only their lengths. It takes some 98 KiB of stack.
     ///
     /// # Errors
     ///
