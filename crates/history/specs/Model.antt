@@ -54,7 +54,7 @@ eraseKept number rs = without numberOf eqb ltb (eqb number) rs
 
 -- By the arguments alone: rows 4, 5, 6 and 9 to 17.
 abbrev pub argumentRows : Call → List (Option Refusal)
-argumentRows (file source customer list) = sourceRow source ∷ customerRow customer ∷ rowIf (not (register.listOk list)) ProviderList ∷ []
+argumentRows (file source customer list) = sourceRow source ∷ customerRow customer ∷ rowIf (not (register.listOk customer list)) ProviderList ∷ []
 argumentRows (withdraw source customer) = sourceRow source ∷ customerRow customer ∷ []
 argumentRows (clear source) = sourceRow source ∷ []
 argumentRows (keep k) = judgeRows (k .role) (k .neighbour) (k .attribute)

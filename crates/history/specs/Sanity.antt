@@ -62,10 +62,10 @@ unfoldable pub numbers : ℕ → ℕ → List ℕ
 numbers x zero = []
 numbers x (suc n) = x ∷ numbers (suc x) n
 
--- Lists of the most numbers for the customers n to 1.
+-- Lists of the most numbers, all above 100, for the customers n to 1.
 unfoldable pub filings : ℕ → List Call
 filings zero = []
-filings (suc n) = file 0 (suc n) (numbers 0 mostProviders) ∷ filings n
+filings (suc n) = file 0 (suc n) (numbers 101 mostProviders) ∷ filings n
 
 -- 32 such lists fill the register's bodies. Then one goes out and another customer's comes in, or the other way about.
 abbrev pub room-made : List Call

@@ -19,7 +19,7 @@ use Rattle.register.specs.Calls.{findRecord}
 use Rattle.register.proofs.Holding.{room-records, room-lists, has-room, each-ok, in-order}
 
 -- A record whose parts passed rows 4, 5 and 6.
-pub record-ok : (r : Record) → ltb lastSource (r .source) ≡ false → eqb (r .customer) 0 ≡ false → listOk (r .providers) ≡ true → recordOk r ≡ true
+pub record-ok : (r : Record) → ltb lastSource (r .source) ≡ false → eqb (r .customer) 0 ≡ false → listOk (r .customer) (r .providers) ≡ true → recordOk r ≡ true
 unfolding recordOk
 record-ok r s c l = both-intro _ _ (above-zero (r .customer) c) (both-intro _ _ (le-leb (r .source) lastSource (ltb-false _ _ s)) l)
 

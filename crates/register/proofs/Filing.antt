@@ -55,7 +55,7 @@ module _ (ws : List ℕ) (source customer : ℕ) (list : List ℕ) where
         file-customer d = rw (eq-eqb (length ws) registerWords a, b, le-ltb lastSource source c, eq-eqb customer 0 d)
 
         module _ (d : customer ≡ 0 → ⊥) where
-          pub file-list : listOk list ≡ false → fileEffect ws source customer list ≡ record { answer = filed.Refused ProviderList; words = ws }
+          pub file-list : listOk customer list ≡ false → fileEffect ws source customer list ≡ record { answer = filed.Refused ProviderList; words = ws }
           unfolding fileEffect firstGiven
           file-list e = rw (eq-eqb (length ws) registerWords a, b, le-ltb lastSource source c, ne-eqb customer 0 d, e)
 

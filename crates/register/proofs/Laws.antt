@@ -93,7 +93,7 @@ module _ (ws : List ℕ) (r : Record) (w : Register ws) (f : findRecord (keyOf r
   unfolding recordOk
   source-known = leb-true _ _ (both-left _ _ (both-right (leb 1 (r .customer)) _ own))
 
-  list-rises : listOk (r .providers) ≡ true
+  list-rises : listOk (r .customer) (r .providers) ≡ true
   unfolding recordOk
   list-rises = both-right (leb (r .source) lastSource) _ (both-right (leb 1 (r .customer)) _ own)
 

@@ -43,18 +43,18 @@ module _ (l : List ℕ) (x i : ℕ) (same : risesFrom x (drop i l) ≡ rises l) 
   unfolding risesFrom
   rises-whole h = rw (drop-of-length-le l h) at same
 
-module _ (l : List ℕ) where
+module _ (customer : ℕ) (l : List ℕ) where
   -- No number.
-  pub list-empty : length l < 1 → false ≡ listOk l
+  pub list-empty : length l < 1 → false ≡ listOk customer l
   unfolding listOk
   list-empty h = rw (lt-leb 1 (length l) h)
 
   -- Too many numbers.
-  pub list-long : 1 ≤ length l → mostProviders < length l → false ≡ listOk l
+  pub list-long : 1 ≤ length l → mostProviders < length l → false ≡ listOk customer l
   unfolding listOk
   list-long h k = rw (le-leb 1 (length l) h, lt-leb (length l) mostProviders k)
 
   -- Otherwise the order decides.
-  pub list-rises : 1 ≤ length l → length l ≤ mostProviders → rises l ≡ listOk l
+  pub list-rises : 1 ≤ length l → length l ≤ mostProviders → rises l ≡ listOk customer l
   unfolding listOk
   list-rises h k = rw (le-leb 1 (length l) h, le-leb (length l) mostProviders k)

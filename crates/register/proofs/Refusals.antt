@@ -103,7 +103,7 @@ module _ (ws : List ℕ) (source customer : ℕ) where
         (
           no-customer,
           (
-            numbered (not (listOk list)) ProviderList,
+            numbered (not (listOk customer list)) ProviderList,
             (
               numbered (not (roomFor (putRecord (recordFor source customer list) (recordsOf ws)))) RegisterFull,
               tt,

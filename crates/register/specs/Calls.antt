@@ -64,7 +64,7 @@ fileRows ws source customer list =
     ∷ registerRow ws
     ∷ sourceRow source
     ∷ customerRow customer
-    ∷ rowIf (not (listOk list)) ProviderList
+    ∷ rowIf (not (listOk customer list)) ProviderList
     ∷ rowIf (not (roomFor (putRecord (recordFor source customer list) (recordsOf ws)))) RegisterFull
     ∷ []
 

@@ -29,7 +29,7 @@ pub record Passed (ws : List ℕ) (position source customer : ℕ) (list : List 
   pub ok : registerOk ws ≡ true
   pub known : source ≤ lastSource
   pub some : customer ≡ 0 → ⊥
-  pub rising : listOk list ≡ true
+  pub rising : listOk customer list ≡ true
   pub here : position ≡ positionOf customer source (recordsOf ws)
 
 -- ---- the words of hints

@@ -95,12 +95,12 @@ unfoldable pub rises : List ℕ → Bool
 rises [] = true
 rises (x ∷ l) = risesFrom x l
 
--- A list that may be filed (row 6): one number or more, not too many, ascending.
-unfoldable pub listOk : List ℕ → Bool
-listOk l = leb 1 (length l) && (leb (length l) mostProviders && rises l)
+-- A list that may be filed for a customer (row 6): one number or more, not too many, ascending.
+unfoldable pub listOk : ℕ → List ℕ → Bool
+listOk customer l = leb 1 (length l) && (leb (length l) mostProviders && rises l)
 
 unfoldable pub recordOk : Record → Bool
-recordOk r = leb 1 (r .customer) && (leb (r .source) lastSource && listOk (r .providers))
+recordOk r = leb 1 (r .customer) && (leb (r .source) lastSource && listOk (r .customer) (r .providers))
 
 -- The register fits its two limits (row 8).
 unfoldable pub roomFor : List Record → Bool

@@ -76,9 +76,9 @@ fn is_rising(list: &[u32]) -> bool
     true
 }
 
-// A list that may be filed.
-fn is_list(list: &[u32]) -> bool
-    ensures { λ r. ⌜ r ≡ listOk (now (list .entry)) ⌝ }
+// A list that may be filed for a customer.
+fn is_list(customer: AsNumber, list: &[u32]) -> bool
+    ensures { λ r. ⌜ r ≡ listOk (customer .0) (now (list .entry)) ⌝ }
 {
     if list.len() < 1 {
         return false;
@@ -371,7 +371,7 @@ pub fn file(reg: &mut [u32], source: u32, customer: AsNumber, list: &[u32]) -> F
     if c == 0 {
         return Filed::Refused(Refusal::CustomerZero);
     }
-    if !is_list(list) {
+    if !is_list(customer, list) {
         return Filed::Refused(Refusal::ProviderList);
     }
     let position = find(reg, customer, source);
