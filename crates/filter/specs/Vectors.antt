@@ -12,6 +12,7 @@ use Rattle.rules.specs.Vectors as rules
 use Rattle.rules.specs.Vectors.{registerD, sequence, Vector, vectors, wanted}
 use Rattle.table.specs.Table.{slots, bodies, pad, encode, decodeSlots, decode, slotsOk, allZero, wellFormed}
 use Rattle.keyed.specs.Keyed.{ascendsFrom, ascends, holds, put, every}
+use Rattle.rules.specs.Records.{isIn}
 use Rattle.register.specs.Register.{registerWords, recordsOf, registerOf, listed, risesFrom, rises, listOk, recordOk, roomFor, recordsOk, registerOk}
 use Rattle.register.specs.Calls.{fileEffect}
 use Rattle.filter.specs.Calls.{registerRows, judgeAnswer}
@@ -62,27 +63,27 @@ packedD =
     ∷ 20 ∷ 30 ∷ 40 ∷ 0 ∷ 40 ∷ 80 ∷ 70 ∷ [])
 
 step₁ : filed 10 (20 ∷ 30 ∷ []) (replicate registerWords 0) ≡ after₁
-unfolding fileEffect firstGiven slots bodies pad encode decodeSlots decode slotsOk allZero wellFormed ascendsFrom ascends holds put every recordsOf registerOf listed risesFrom rises listOk recordOk roomFor recordsOk registerOk
+unfolding fileEffect firstGiven slots bodies pad encode decodeSlots decode slotsOk allZero wellFormed ascendsFrom ascends holds put every recordsOf registerOf listed risesFrom rises isIn listOk recordOk roomFor recordsOk registerOk
 step₁ = refl
 
 step₂ : filed 20 (40 ∷ []) after₁ ≡ after₂
-unfolding fileEffect firstGiven slots bodies pad encode decodeSlots decode slotsOk allZero wellFormed ascendsFrom ascends holds put every recordsOf registerOf listed risesFrom rises listOk recordOk roomFor recordsOk registerOk
+unfolding fileEffect firstGiven slots bodies pad encode decodeSlots decode slotsOk allZero wellFormed ascendsFrom ascends holds put every recordsOf registerOf listed risesFrom rises isIn listOk recordOk roomFor recordsOk registerOk
 step₂ = refl
 
 step₃ : filed 40 (0 ∷ []) after₂ ≡ after₃
-unfolding fileEffect firstGiven slots bodies pad encode decodeSlots decode slotsOk allZero wellFormed ascendsFrom ascends holds put every recordsOf registerOf listed risesFrom rises listOk recordOk roomFor recordsOk registerOk
+unfolding fileEffect firstGiven slots bodies pad encode decodeSlots decode slotsOk allZero wellFormed ascendsFrom ascends holds put every recordsOf registerOf listed risesFrom rises isIn listOk recordOk roomFor recordsOk registerOk
 step₃ = refl
 
 step₄ : filed 50 (40 ∷ []) after₃ ≡ after₄
-unfolding fileEffect firstGiven slots bodies pad encode decodeSlots decode slotsOk allZero wellFormed ascendsFrom ascends holds put every recordsOf registerOf listed risesFrom rises listOk recordOk roomFor recordsOk registerOk
+unfolding fileEffect firstGiven slots bodies pad encode decodeSlots decode slotsOk allZero wellFormed ascendsFrom ascends holds put every recordsOf registerOf listed risesFrom rises isIn listOk recordOk roomFor recordsOk registerOk
 step₄ = refl
 
 step₅ : filed 70 (80 ∷ []) after₄ ≡ after₅
-unfolding fileEffect firstGiven slots bodies pad encode decodeSlots decode slotsOk allZero wellFormed ascendsFrom ascends holds put every recordsOf registerOf listed risesFrom rises listOk recordOk roomFor recordsOk registerOk
+unfolding fileEffect firstGiven slots bodies pad encode decodeSlots decode slotsOk allZero wellFormed ascendsFrom ascends holds put every recordsOf registerOf listed risesFrom rises isIn listOk recordOk roomFor recordsOk registerOk
 step₅ = refl
 
 step₆ : filed 80 (70 ∷ []) after₅ ≡ packedD
-unfolding fileEffect firstGiven slots bodies pad encode decodeSlots decode slotsOk allZero wellFormed ascendsFrom ascends holds put every recordsOf registerOf listed risesFrom rises listOk recordOk roomFor recordsOk registerOk
+unfolding fileEffect firstGiven slots bodies pad encode decodeSlots decode slotsOk allZero wellFormed ascendsFrom ascends holds put every recordsOf registerOf listed risesFrom rises isIn listOk recordOk roomFor recordsOk registerOk
 step₆ = refl
 
 -- The six filings leave register D, word by word.
@@ -97,7 +98,7 @@ whole-register =
 
 -- Neither row 1 nor row 2 is given to them.
 passed : firstGiven (registerRows packedD) ≡ none
-unfolding firstGiven decodeSlots decode slotsOk allZero wellFormed ascendsFrom ascends every recordsOf listed risesFrom rises listOk recordOk roomFor recordsOk registerOk
+unfolding firstGiven decodeSlots decode slotsOk allZero wellFormed ascendsFrom ascends every recordsOf listed risesFrom rises isIn listOk recordOk roomFor recordsOk registerOk
 passed = refl
 
 -- They hold register D's records.

@@ -14,6 +14,7 @@ use Rattle.as_path.specs.Grounds.{groundOf}
 use Rattle.as_path.specs.Reading.{contentOf}
 use Rattle.table.specs.Table.{slots, bodies, pad, encode, decode, decodeSlots}
 use Rattle.keyed.specs.Keyed.{find, holds, put, without, countOf}
+use Rattle.rules.specs.Records.{isIn}
 use Rattle.rules.specs.Draft.{each}
 use Rattle.rules.proofs.Drafting.{each-no}
 use Rattle.register.specs.Register.{registerWords, registerOf, listed, rises, risesFrom, listOk, roomFor, recordsOf}
@@ -34,30 +35,30 @@ use Rattle.history.proofs.Scans.{filed-is-last, kept-is-last}
 
 -- Either order comes to one model.
 two-lists : final blank two-first ≡ final blank one-first
-unfolding blank recordsOf routesOf decode decodeSlots after refusal firstGiven find holds put listed rises risesFrom listOk roomFor
+unfolding blank recordsOf routesOf decode decodeSlots after refusal firstGiven find holds put listed rises risesFrom isIn listOk roomFor
 two-lists = refl
 
 -- It holds both lists.
 both : (providersOf (findRecord (65010, 2) (final blank one-first .lists)) ≡ some (65001 ∷ 65002 ∷ []))
     × (providersOf (findRecord (65010, 0) (final blank one-first .lists)) ≡ some (65003 ∷ []))
-unfolding blank recordsOf routesOf decode decodeSlots after refusal firstGiven find holds put listed rises risesFrom listOk roomFor
+unfolding blank recordsOf routesOf decode decodeSlots after refusal firstGiven find holds put listed rises risesFrom isIn listOk roomFor
 both = (refl, refl)
 
 -- It is written as these words.
 register-words : written (final blank one-first) .register ≡ (2 ∷ 3 ∷ 65010 ∷ 0 ∷ 0 ∷ 1 ∷ 65010 ∷ 2 ∷ 1 ∷ 2 ∷ 65003 ∷ 65001 ∷ 65002 ∷ []) ++ replicate (registerWords - 13) 0
-unfolding written registerOf encode pad slots bodies blank recordsOf routesOf decode decodeSlots after refusal firstGiven find holds put listed rises risesFrom listOk roomFor
+unfolding written registerOf encode pad slots bodies blank recordsOf routesOf decode decodeSlots after refusal firstGiven find holds put listed rises risesFrom isIn listOk roomFor
 register-words = refl
 
 -- ---- room
 
 -- The filing that comes before the withdrawal is refused by 8.
 missing : replyAt blank room-missing 32 ≡ refused RegisterFull
-unfolding numbers filings blank recordsOf routesOf decode decodeSlots after refusal firstGiven find holds put without listed rises risesFrom listOk roomFor
+unfolding numbers filings blank recordsOf routesOf decode decodeSlots after refusal firstGiven find holds put without listed rises risesFrom isIn listOk roomFor
 missing = refl
 
 -- The other list has room for all.
 all-roomy : each (λ i. not (forRoom (replyAt blank room-made i))) 0 34 ≡ true
-unfolding numbers filings blank recordsOf routesOf decode decodeSlots after refusal firstGiven find holds put without listed rises risesFrom listOk roomFor each
+unfolding numbers filings blank recordsOf routesOf decode decodeSlots after refusal firstGiven find holds put without listed rises risesFrom isIn listOk roomFor each
 all-roomy = refl
 
 -- A list of which the model refuses nothing for room, up to its length.
@@ -78,28 +79,28 @@ made = roomy room-made 34 refl all-roomy
 
 -- Nor of the list of other answers,
 others-roomy : each (λ i. not (forRoom (replyAt blank not-for-room i))) 0 9 ≡ true
-unfolding blank recordsOf routesOf decode decodeSlots after refusal firstGiven find holds put without listed rises risesFrom listOk roomFor each countOf roomForRoutes pathNumbers contentOf firstFault faultAmong starts startsFrom groundOf segments
+unfolding blank recordsOf routesOf decode decodeSlots after refusal firstGiven find holds put without listed rises risesFrom isIn listOk roomFor each countOf roomForRoutes pathNumbers contentOf firstFault faultAmong starts startsFrom groundOf segments
 others-roomy = refl
 
 -- which are these.
 others-answered : (replyAt blank not-for-room 1 ≡ replaced) × (replyAt blank not-for-room 2 ≡ gone 1)
-unfolding blank recordsOf routesOf decode decodeSlots after refusal firstGiven find holds put without listed rises risesFrom listOk roomFor countOf
+unfolding blank recordsOf routesOf decode decodeSlots after refusal firstGiven find holds put without listed rises risesFrom isIn listOk roomFor countOf
 others-answered = (refl, refl)
 
 others-refused :
     (replyAt blank not-for-room 3 ≡ refused SourceNumber) × (replyAt blank not-for-room 4 ≡ refused ProviderList)
     × (replyAt blank not-for-room 5 ≡ refused NoRecord) × (replyAt blank not-for-room 6 ≡ refused NoRoute)
     × (replyAt blank not-for-room 8 ≡ refused RouteTaken)
-unfolding blank recordsOf routesOf decode decodeSlots after refusal firstGiven find holds put without listed rises risesFrom listOk roomFor countOf roomForRoutes pathNumbers contentOf firstFault faultAmong starts startsFrom groundOf segments
+unfolding blank recordsOf routesOf decode decodeSlots after refusal firstGiven find holds put without listed rises risesFrom isIn listOk roomFor countOf roomForRoutes pathNumbers contentOf firstFault faultAmong starts startsFrom groundOf segments
 others-refused = (refl, refl, refl, refl, refl)
 
 -- So one register holds the last list, and the other does not.
 list-made : providersOf (findRecord (33, 0) (final blank room-made .lists)) ≡ some (7 ∷ [])
-unfolding numbers filings blank recordsOf routesOf decode decodeSlots after refusal firstGiven find holds put without listed rises risesFrom listOk roomFor
+unfolding numbers filings blank recordsOf routesOf decode decodeSlots after refusal firstGiven find holds put without listed rises risesFrom isIn listOk roomFor
 list-made = refl
 
 list-missing : providersOf (findRecord (33, 0) (final blank room-missing .lists)) ≡ none
-unfolding numbers filings blank recordsOf routesOf decode decodeSlots after refusal firstGiven find holds put without listed rises risesFrom listOk roomFor
+unfolding numbers filings blank recordsOf routesOf decode decodeSlots after refusal firstGiven find holds put without listed rises risesFrom isIn listOk roomFor
 list-missing = refl
 
 -- The list of a pair in the last register is the model's.

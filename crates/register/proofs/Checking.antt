@@ -14,7 +14,7 @@ use Rattle.table.proofs.Sounds.{body-is}
 use Rattle.table.proofs.Exact.{passes-sound}
 use Rattle.keyed.specs.Keyed.{samePair, beforePair, ascends, ascendsFrom, every}
 use Rattle.keyed.proofs.Orders.{both-left, above-zero, before-test, first}
-use Rattle.rules.specs.Records.{Record}
+use Rattle.rules.specs.Records.{Record, isIn}
 use Rattle.register.specs.Register.{recordHead, recordTail, recordWidth, sourceWord, countWord, mostRecords, mostListed, mostProviders, lastSource, recordsOf, recordAt, keyOf, listed}
 use Rattle.register.specs.Register.{rises, listOk, recordOk, roomFor, recordsOk, registerOk}
 use Rattle.register.specs.Helpers.{descentsIn}
@@ -82,13 +82,17 @@ third-fails false true c d e = cc
 third-fails false false true d e = e
 third-fails false false false d e = refl
 
--- A record's rules: it passes the code's test, and its list ascends.
-rules-are : (r : Record) → recordOk r ≡ (not (broken (r .customer) (r .source) (length (r .providers))) && rises (r .providers))
+-- A list ascends, and does not hold its customer.
+abbrev free : ℕ → List ℕ → Bool
+free customer l = rises l && not (isIn customer l)
+
+-- A record's rules: it passes the code's test, and its list ascends and does not hold its customer.
+rules-are : (r : Record) → recordOk r ≡ (not (broken (r .customer) (r .source) (length (r .providers))) && free (r .customer) (r .providers))
 unfolding recordOk listOk
 rules-are r =
     let n = length (r .providers) in
     rw (at-least-one (r .customer), at-most (r .source) lastSource, at-most 1 n, at-most n mostProviders)
-    (all-fail (eqb (r .customer) 0) (ltb lastSource (r .source)) (ltb n 1) (ltb mostProviders n) (rises (r .providers)))
+    (all-fail (eqb (r .customer) 0) (ltb lastSource (r .source)) (ltb n 1) (ltb mostProviders n) (free (r .customer) (r .providers)))
 
 -- The tests of a record and of its position come first; its list, and what else is to be found, last.
 regroup : (a b c d e x : Bool) → ((((a && b) && c) && (d && e)) && x) ≡ (a && (d && ((c && e) && (b && x))))
@@ -106,12 +110,26 @@ regroup true false true true false x = refl
 rules-step : (k l : ℕ) (r : Record) (rs : List Record) (x : Bool)
     → (rulesFrom k l (r ∷ rs) && x)
     ≡ (not (broken (r .customer) (r .source) (length (r .providers)))
-    && (beforePair (k, l) (keyOf r) && (rulesFrom (r .customer) (r .source) rs && (rises (r .providers) && x))))
+    && (beforePair (k, l) (keyOf r) && (rulesFrom (r .customer) (r .source) rs && (free (r .customer) (r .providers) && x))))
 unfolding every ascendsFrom
 rules-step k l r rs x =
     rw (rules-are r)
-    (regroup (not (broken (r .customer) (r .source) (length (r .providers)))) (rises (r .providers)) (every recordOk rs) (beforePair (k, l) (keyOf r))
-    (ascendsFrom keyOf samePair beforePair (keyOf r) rs) x)
+    (regroup (not (broken (r .customer) (r .source) (length (r .providers)))) (free (r .customer) (r .providers)) (every recordOk rs)
+    (beforePair (k, l) (keyOf r)) (ascendsFrom keyOf samePair beforePair (keyOf r) rs) x)
+
+-- What the search by halves said stands for whether the list holds its customer: if the list does not ascend, it does not matter.
+free-by : (customer : ℕ) (l : List ℕ) {own : Bool} → (rises l ≡ true → own ≡ isIn customer l) → free customer l ≡ (rises l && not own)
+free-by customer l {own} f = go (rises l) refl
+  where
+    go : (b : Bool) → rises l ≡ b → (b && not (isIn customer l)) ≡ (b && not own)
+    go true e = ap not (sym (f e))
+    go false e = refl
+
+-- A test that fails among others.
+one-fails : (a b c : Bool) → (a && ((b && false) && c)) ≡ false
+one-fails true true c = refl
+one-fails true false c = refl
+one-fails false b c = refl
 
 -- The numbers in the lists that end at from.
 abbrev pub passed : List ℕ → ℕ → ℕ → List ℕ
@@ -194,7 +212,7 @@ module _ {ws : List ℕ} {n customer source between from i : ℕ} (g : Checked w
       opened :
           (not (broken cust src m)
           && (beforePair (customer, source) (cust, src)
-          && (rulesFrom cust src (drop (i + 1) (recordsOf ws)) && (rises (take m (drop from ws)) && eqb (descentsIn (passed ws n from)) between))))
+          && (rulesFrom cust src (drop (i + 1) (recordsOf ws)) && (free cust (take m (drop from ws)) && eqb (descentsIn (passed ws n from)) between))))
           ≡ rules (recordsOf ws)
       opened =
           rw (add-one i, customer-is ws (g .sound) i inside, source-is ws (g .sound) i inside, ← part-is, count-is)
@@ -208,46 +226,62 @@ module _ {ws : List ℕ} {n customer source between from i : ℕ} (g : Checked w
 
       module _ (k : broken cust src m ≡ false) where
         -- The list has a number.
-        not-empty : 1 ≤ m
-        not-empty = ltb-false m 1 (third-fails (eqb cust 0) (ltb lastSource src) (ltb m 1) (ltb mostProviders m) k)
+        pub list-some : 1 ≤ m
+        list-some = ltb-false m 1 (third-fails (eqb cust 0) (ltb lastSource src) (ltb m 1) (ltb mostProviders m) k)
 
         -- Its first number lies within the words.
         pub first-inside : from < length ws
-        first-inside = omega (arith, not-empty, list-inside)
+        first-inside = omega (arith, list-some, list-inside)
 
         -- The record does not stand behind the one before it.
         pub no-order : beforePair (customer, source) (cust, src) ≡ false → false ≡ rules (recordsOf ws)
         no-order q = rw (k, q) at opened
 
-        module _ (q : beforePair (customer, source) (cust, src) ≡ true) {now : ℕ} where
-          -- One record more, whose list begins with f descents.
-          checks-on : (f : ℕ) → f ≤ 1 → now ≡ between + f
-              → descentsIn (passed ws n (from + m)) ≡ descentsIn (passed ws n from) + f + descentsIn (take m (drop from ws))
-              → Checked ws n cust src now (from + m) (i + 1)
-          checks-on f t p r =
-              record {
-                sound = g .sound;
-                count = g .count;
-                within = omega arith;
-                start = rw (add-one i) (omega (arith, g .start, count-is, listed-next (recordsOf ws) i inside));
-                few = omega arith;
-                over = omega arith;
-                same = rw (r, p, counts-add (descentsIn (passed ws n from)) between f (take m (drop from ws)) (g .over)) (rw (k, q) at opened);
-              }
+        module _ (q : beforePair (customer, source) (cust, src) ≡ true) {own : Bool}
+            (f : rises (take (from + m - from) (drop from ws)) ≡ true → own ≡ isIn cust (take (from + m - from) (drop from ws))) where
+          -- What is left to find, by what was said of the list and its customer.
+          told : (rulesFrom cust src (drop (i + 1) (recordsOf ws)) && ((rises (take m (drop from ws)) && not own) && eqb (descentsIn (passed ws n from)) between))
+              ≡ rules (recordsOf ws)
+          told =
+              let z : from + m - from ≡ m = omega arith in
+              rw (k, q, free-by cust (take m (drop from ws)) (rw z at f)) at opened
 
-          -- A record with no list before it.
-          pub checks-first : from ≤ counters + n * recordWidth → now ≡ between → Checked ws n cust src now (from + m) (i + 1)
-          checks-first p t =
-              checks-on 0 (omega arith) (omega arith) (join-first ws (counters + n * recordWidth) from m (omega arith) p)
+          -- The list holds its customer, or does not ascend.
+          pub no-own : own ≡ true → false ≡ rules (recordsOf ws)
+          no-own t =
+              sym (one-fails (rulesFrom cust src (drop (i + 1) (recordsOf ws))) (rises (take m (drop from ws))) _) ∙ (rw t at told)
 
-          -- A record with lists before it.
-          pub checks-next : counters + n * recordWidth < from → now ≡ between + fall (getD ws (from - 1) 0) (getD ws from 0)
-              → Checked ws n cust src now (from + m) (i + 1)
-          checks-next p t =
-              let x = getD ws (from - 1) 0 in
-              let y = getD ws from 0 in
-              checks-on (fall x y) (fall-small x y) t
-              (join-next ws (counters + n * recordWidth) from m (omega arith) p not-empty list-inside)
+          module _ (t : own ≡ false) {now : ℕ} where
+            -- One record more, whose list begins with d descents.
+            checks-on : (d : ℕ) → d ≤ 1 → now ≡ between + d
+                → descentsIn (passed ws n (from + m)) ≡ descentsIn (passed ws n from) + d + descentsIn (take m (drop from ws))
+                → Checked ws n cust src now (from + m) (i + 1)
+            checks-on d u p r =
+                record {
+                  sound = g .sound;
+                  count = g .count;
+                  within = omega arith;
+                  start = rw (add-one i) (omega (arith, g .start, count-is, listed-next (recordsOf ws) i inside));
+                  few = omega arith;
+                  over = omega arith;
+                  same =
+                      rw (r, p, counts-add (descentsIn (passed ws n from)) between d (take m (drop from ws)) (g .over))
+                      (rw (t, and-true (rises (take m (drop from ws)))) at told);
+                }
+
+            -- A record with no list before it.
+            pub checks-first : from ≤ counters + n * recordWidth → now ≡ between → Checked ws n cust src now (from + m) (i + 1)
+            checks-first p u =
+                checks-on 0 (omega arith) (omega arith) (join-first ws (counters + n * recordWidth) from m (omega arith) p)
+
+            -- A record with lists before it.
+            pub checks-next : counters + n * recordWidth < from → now ≡ between + fall (getD ws (from - 1) 0) (getD ws from 0)
+                → Checked ws n cust src now (from + m) (i + 1)
+            checks-next p u =
+                let x = getD ws (from - 1) 0 in
+                let y = getD ws from 0 in
+                checks-on (fall x y) (fall-small x y) u
+                (join-next ws (counters + n * recordWidth) from m (omega arith) p list-some list-inside)
 
 -- ---- the whole register
 

@@ -1,6 +1,7 @@
 pub mod Entries
 pub mod Holding
 pub mod Lists
+pub mod Halving
 pub mod Descending
 pub mod Checking
 pub mod Looking

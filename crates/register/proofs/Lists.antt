@@ -1,7 +1,7 @@
 -- Lists that ascend: each turn of the loop over a list, and the tests of a list that may be filed. Assumes nothing.
 use Prim.Native.Nat.{ℕ, _+_, _≤_, _<_}
 use mathlib.Core.Path.{_≡_, refl}
-use mathlib.Core.Bool.{true, false, _&&_}
+use mathlib.Core.Bool.{Bool, true, false, not, _&&_}
 use mathlib.Core.List.{List, [], _∷_}
 use native.Mathlib.Omega.{arith}
 use native.Mathlib.Numerals.{add-one}
@@ -9,6 +9,7 @@ use borrow.Author.Tests.{lt-ltb, le-ltb, le-leb, lt-leb}
 use lib.Dec.{ltb}
 use lib.ListN.{length, getD, drop, drop-of-length-le}
 use lib.Seq.{drop-cons}
+use Rattle.rules.specs.Records.{isIn}
 use Rattle.register.specs.Register.{mostProviders, rises, risesFrom, listOk}
 
 -- The empty list ascends.
@@ -54,7 +55,13 @@ module _ (customer : ℕ) (l : List ℕ) where
   unfolding listOk
   list-long h k = rw (le-leb 1 (length l) h, lt-leb (length l) mostProviders k)
 
-  -- Otherwise the order decides.
-  pub list-rises : 1 ≤ length l → length l ≤ mostProviders → rises l ≡ listOk customer l
-  unfolding listOk
-  list-rises h k = rw (le-leb 1 (length l) h, le-leb (length l) mostProviders k)
+  module _ (h : 1 ≤ length l) (k : length l ≤ mostProviders) where
+    -- Numbers out of order.
+    pub list-falls : rises l ≡ false → false ≡ listOk customer l
+    unfolding listOk
+    list-falls e = rw (le-leb 1 (length l) h, le-leb (length l) mostProviders k, e)
+
+    -- Otherwise it is asked for its customer.
+    pub list-own : rises l ≡ true → {own : Bool} → own ≡ isIn customer l → not own ≡ listOk customer l
+    unfolding listOk
+    list-own e f = rw (le-leb 1 (length l) h, le-leb (length l) mostProviders k, e, f)

@@ -1,12 +1,12 @@
 -- The register ("Tables"): provider records in a packed table with two head words, customer and source, and no tail.
 use Prim.Native.Nat.{ℕ, _+_, _*_}
-use mathlib.Core.Bool.{Bool, true, _&&_}
+use mathlib.Core.Bool.{Bool, true, not, _&&_}
 use mathlib.Core.List.{List, [], _∷_, map}
 use lib.Dec.{leb, ltb}
 use lib.ListN.{length, getD}
 use Rattle.table.specs.Table.{Entry, counters, width, encode, decode, wellFormed}
 use Rattle.keyed.specs.Keyed.{samePair, beforePair, ascends, rank, every}
-use Rattle.rules.specs.Records.{Record}
+use Rattle.rules.specs.Records.{Record, isIn}
 
 -- ---- limits
 
@@ -95,9 +95,9 @@ unfoldable pub rises : List ℕ → Bool
 rises [] = true
 rises (x ∷ l) = risesFrom x l
 
--- A list that may be filed for a customer (row 6): one number or more, not too many, ascending.
+-- A list that may be filed for a customer (row 6): one number or more, not too many, ascending, and the customer not among them.
 unfoldable pub listOk : ℕ → List ℕ → Bool
-listOk customer l = leb 1 (length l) && (leb (length l) mostProviders && rises l)
+listOk customer l = leb 1 (length l) && (leb (length l) mostProviders && (rises l && not (isIn customer l)))
 
 unfoldable pub recordOk : Record → Bool
 recordOk r = leb 1 (r .customer) && (leb (r .source) lastSource && listOk (r .customer) (r .providers))

@@ -8,6 +8,7 @@ use Rattle.types.specs.declared.Filed.the-variants as filed
 use Rattle.types.specs.Rows.{firstGiven, Effect}
 use Rattle.table.specs.Table.{slots, bodies, pad, encode, decodeSlots, decode, slotsOk, allZero, wellFormed}
 use Rattle.keyed.specs.Keyed.{ascendsFrom, ascends, holds, put, every}
+use Rattle.rules.specs.Records.{isIn}
 use Rattle.register.specs.Register.{registerWords, recordsOf, registerOf, listed, risesFrom, rises, listOk, recordOk, roomFor, recordsOk, registerOk}
 use Rattle.register.specs.Calls.{fileEffect}
 
@@ -27,5 +28,5 @@ pub whole-register :
       answer = filed.New;
       words = (2 ∷ 3 ∷ 65010 ∷ 0 ∷ 0 ∷ 1 ∷ 65010 ∷ 2 ∷ 1 ∷ 2 ∷ 65003 ∷ 65001 ∷ 65002 ∷ []) ++ replicate (registerWords - 13) 0;
     }
-unfolding fileEffect firstGiven slots bodies pad encode decodeSlots decode slotsOk allZero wellFormed ascendsFrom ascends holds put every recordsOf registerOf listed risesFrom rises listOk recordOk roomFor recordsOk registerOk
+unfolding fileEffect firstGiven slots bodies pad encode decodeSlots decode slotsOk allZero wellFormed ascendsFrom ascends holds put every recordsOf registerOf listed risesFrom rises isIn listOk recordOk roomFor recordsOk registerOk
 whole-register = refl

@@ -76,6 +76,24 @@ fn is_rising(list: &[u32]) -> bool
     true
 }
 
+// Whether an ascending list holds a number, by halves: at most nine looks at a list of 256. Of another list it may say either.
+fn holds(list: &[u32], number: AsNumber) -> bool
+    requires { ⌜ 1 ≤ length (now list) ⌝ }
+    ensures { λ r. ⌜ (rises (now (list .entry)) ≡ true → r ≡ isIn (number .0) (now (list .entry))) ⌝ }
+{
+    let x = number.0;
+    let mut from: usize = 0;
+    let mut many = list.len();
+    while 1 < many {
+        let half = many / 2;
+        many -= half;
+        if list[from + half] <= x {
+            from += half;
+        }
+    }
+    list[from] == x
+}
+
 // A list that may be filed for a customer.
 fn is_list(customer: AsNumber, list: &[u32]) -> bool
     ensures { λ r. ⌜ r ≡ listOk (customer .0) (now (list .entry)) ⌝ }
@@ -86,7 +104,10 @@ fn is_list(customer: AsNumber, list: &[u32]) -> bool
     if MOST_PROVIDERS < list.len() {
         return false;
     }
-    is_rising(list)
+    if !is_rising(list) {
+        return false;
+    }
+    !holds(list, customer)
 }
 
 // The pair (c1, s1) stands before the pair (c2, s2).
@@ -122,7 +143,7 @@ fn descents(list: &[u32]) -> u32
 }
 
 // Each record's own rules, and their order. The lists are read in one go: each of them ascends if no two numbers descend but where
-// one list ends and the next begins.
+// one list ends and the next begins. If one does not, it does not matter what `holds` said of it.
 fn are_records(reg: &[u32]) -> bool
     requires { ⌜ Sound recordHead recordTail (now reg) × (getD (now reg) 1 0 ≤ mostListed) ⌝ }
     ensures { λ r. ⌜ r ≡ (every recordOk (recordsOf (now (reg .entry))) && ascends keyOf samePair beforePair (recordsOf (now (reg .entry)))) ⌝ }
@@ -143,6 +164,9 @@ fn are_records(reg: &[u32]) -> bool
             return false;
         }
         if !is_before(AsNumber(customer), source, AsNumber(c), s) {
+            return false;
+        }
+        if holds(&reg[from..from + count], AsNumber(c)) {
             return false;
         }
         if bodies < from {

@@ -8,8 +8,8 @@ use native.Mathlib.Omega.{arith}
 use lib.Dec.{eqb}
 use lib.ListN.{length-take, length-drop}
 use Rattle.register.proofs.Descending.{no-fall, one-fall}
-use Rattle.register.proofs.Checking.{Checked, checks, lists-few, lists-inside, all-checked, slot-inside, list-inside, no-record, first-inside}
-use Rattle.register.proofs.Checking.{no-order, checks-first, checks-next}
+use Rattle.register.proofs.Checking.{Checked, checks, lists-few, lists-inside, all-checked, slot-inside, list-inside, no-record, list-some, first-inside}
+use Rattle.register.proofs.Checking.{no-order, no-own, checks-first, checks-next}
 use Rattle.register.proofs.are_records.Statement.{statement}
 use Rattle.register.proofs.are_records.Tie as tie
 
@@ -74,39 +74,79 @@ returns-2 c =
     no-order (t .before .loop .inv) (t .loop-test .taken) (w .word2 .ensures .0) (c .before .before .if1 .left)
     (sym (c .before .is-before .ensures) ∙ not-true _ (c .if2 .taken))
 
-mul-if4 : tie.Need-mul-if4 Inv-loop μ-loop
-mul-if4 c =
+add-holds : tie.Need-add-holds Inv-loop μ-loop
+add-holds c =
+    let w = c .before .before .before in
+    let t = w .before .before .before in
+    omega (arith, list-inside (t .before .loop .inv) (t .loop-test .taken) (w .word2 .ensures .0))
+
+mul-holds : tie.Need-mul-holds Inv-loop μ-loop
+mul-holds c =
+    let w = c .before .before .before in
+    let t = w .before .before .before in
+    omega (arith, list-inside (t .before .loop .inv) (t .loop-test .taken) (w .word2 .ensures .0))
+
+sub-holds : tie.Need-sub-holds Inv-loop μ-loop
+sub-holds c = search needs
+
+part-holds-start : tie.Need-part-holds-start Inv-loop μ-loop
+part-holds-start c = search needs
+
+part-holds-end : tie.Need-part-holds-end Inv-loop μ-loop
+part-holds-end c =
+    let w = c .before .before .before in
+    let t = w .before .before .before in
+    omega (arith, list-inside (t .before .loop .inv) (t .loop-test .taken) (w .word2 .ensures .0))
+
+holds-requires : tie.Need-holds-requires Inv-loop μ-loop
+holds-requires c κs =
     let w = c .before .before .before .before in
     let t = w .before .before .before in
-    omega (arith, first-inside (t .before .loop .inv) (t .loop-test .taken) (w .word2 .ensures .0) (c .before .before .before .if1 .left))
+    simp (length-take, length-drop)
+    (omega
+    (arith, list-inside (t .before .loop .inv) (t .loop-test .taken) (w .word2 .ensures .0),
+    list-some (t .before .loop .inv) (t .loop-test .taken) (w .word2 .ensures .0) (c .before .before .before .if1 .left)))
 
-shared-slice-read-if4 : tie.Need-shared-slice-read-if4 Inv-loop μ-loop
-shared-slice-read-if4 c =
-    let w = c .before .before .before .before .before in
-    let t = w .before .before .before in
-    first-inside (t .before .loop .inv) (t .loop-test .taken) (w .word2 .ensures .0) (c .before .before .before .before .if1 .left)
-
-sub-if4 : tie.Need-sub-if4 Inv-loop μ-loop
-sub-if4 c = search needs
-
-mul-if4-2 : tie.Need-mul-if4-2 Inv-loop μ-loop
-mul-if4-2 c =
-    let w = c .before .before .before .before .before in
-    let t = w .before .before .before in
-    omega (arith, first-inside (t .before .loop .inv) (t .loop-test .taken) (w .word2 .ensures .0) (c .before .before .before .before .if1 .left))
-
-shared-slice-read-if4-2 : tie.Need-shared-slice-read-if4-2 Inv-loop μ-loop
-shared-slice-read-if4-2 c =
+returns-3 : tie.Need-returns-3 Inv-loop μ-loop
+returns-3 c =
     let w = c .before .before .before .before .before .before in
     let t = w .before .before .before in
-    omega (arith, first-inside (t .before .loop .inv) (t .loop-test .taken) (w .word2 .ensures .0) (c .before .before .before .before .before .if1 .left))
+    no-own (t .before .loop .inv) (t .loop-test .taken) (w .word2 .ensures .0) (c .before .before .before .before .before .if1 .left)
+    (sym (c .before .before .before .before .is-before .ensures) ∙ not-false _ (c .before .before .before .if2 .left)) (c .before .holds .ensures) (c .if3 .taken)
+
+mul-if5 : tie.Need-mul-if5 Inv-loop μ-loop
+mul-if5 c =
+    let w = c .before .before .before .before .before .before .before in
+    let t = w .before .before .before in
+    omega (arith, first-inside (t .before .loop .inv) (t .loop-test .taken) (w .word2 .ensures .0) (c .before .before .before .before .before .before .if1 .left))
+
+shared-slice-read-if5 : tie.Need-shared-slice-read-if5 Inv-loop μ-loop
+shared-slice-read-if5 c =
+    let w = c .before .before .before .before .before .before .before .before in
+    let t = w .before .before .before in
+    first-inside (t .before .loop .inv) (t .loop-test .taken) (w .word2 .ensures .0) (c .before .before .before .before .before .before .before .if1 .left)
+
+sub-if5 : tie.Need-sub-if5 Inv-loop μ-loop
+sub-if5 c = search needs
+
+mul-if5-2 : tie.Need-mul-if5-2 Inv-loop μ-loop
+mul-if5-2 c =
+    let w = c .before .before .before .before .before .before .before .before in
+    let t = w .before .before .before in
+    omega (arith, first-inside (t .before .loop .inv) (t .loop-test .taken) (w .word2 .ensures .0) (c .before .before .before .before .before .before .before .if1 .left))
+
+shared-slice-read-if5-2 : tie.Need-shared-slice-read-if5-2 Inv-loop μ-loop
+shared-slice-read-if5-2 c =
+    let w = c .before .before .before .before .before .before .before .before .before in
+    let t = w .before .before .before in
+    omega (arith, first-inside (t .before .loop .inv) (t .loop-test .taken) (w .word2 .ensures .0) (c .before .before .before .before .before .before .before .before .if1 .left))
 
 add-between : tie.Need-add-between Inv-loop μ-loop
 add-between c = search needs
 
 add-from : tie.Need-add-from Inv-loop μ-loop
 add-from c =
-    let w = c .before .before .before .before in
+    let w = c .before .before .before .before .before .before .before in
     let t = w .before .before .before in
     omega (arith, list-inside (t .before .loop .inv) (t .loop-test .taken) (w .word2 .ensures .0))
 
@@ -118,16 +158,19 @@ loop-less c = search needs
 
 loop-again : tie.Need-loop-again Inv-loop μ-loop
 loop-again c =
-    let w = c .before .before .before .before in
+    let w = c .before .before .before .before .before .before .before in
     let t = w .before .before .before in
     let g = t .before .loop .inv in
     let h = t .loop-test .taken in
     let e = w .word2 .ensures .0 in
-    let k = c .before .before .before .if1 .left in
-    let q = sym (c .before .before .is-before .ensures) ∙ not-false _ (c .before .if2 .left) in
-    ⊎-elim (λ a. checks-next g h e k q (a .0 .taken) (omega (arith, a .4, one-fall (a .3 .taken))))
-    (⊎-elim (λ a. checks-next g h e k q (a .0 .taken) (omega (arith, a .4, no-fall (a .3 .left)))) (λ a. checks-first g h e k q (a .0 .left) (a .1)))
-    (c .if3 .came)
+    let k = c .before .before .before .before .before .before .if1 .left in
+    let q = sym (c .before .before .before .before .before .is-before .ensures) ∙ not-false _ (c .before .before .before .before .if2 .left) in
+    let f = c .before .before .holds .ensures in
+    let o = c .before .if3 .left in
+    ⊎-elim (λ a. checks-next g h e k q f o (a .0 .taken) (omega (arith, a .4, one-fall (a .3 .taken))))
+    (⊎-elim (λ a. checks-next g h e k q f o (a .0 .taken) (omega (arith, a .4, no-fall (a .3 .left))))
+    (λ a. checks-first g h e k q f o (a .0 .left) (a .1)))
+    (c .if4 .came)
 
 mul-descents : tie.Need-mul-descents Inv-loop μ-loop
 mul-descents c = omega (arith, lists-inside (c .before .loop .inv))
@@ -144,8 +187,8 @@ part-descents-end c = omega (arith, lists-inside (c .before .loop .inv))
 descents-requires : tie.Need-descents-requires Inv-loop μ-loop
 descents-requires c κs = simp (length-take, length-drop) (omega (arith, lists-few (c .before .before .loop .inv)))
 
-returns-3 : tie.Need-returns-3 Inv-loop μ-loop
-returns-3 c =
+returns-4 : tie.Need-returns-4 Inv-loop μ-loop
+returns-4 c =
     let l = c .before .before in
     ap (λ d. eqb d (l .before .loop .between)) (c .descents .ensures .0) ∙ all-checked (l .before .loop .inv) (l .loop-test .left)
 
@@ -171,11 +214,18 @@ are-records-spec =
     returns
     is-before-requires
     returns-2
-    mul-if4
-    shared-slice-read-if4
-    sub-if4
-    mul-if4-2
-    shared-slice-read-if4-2
+    add-holds
+    mul-holds
+    sub-holds
+    part-holds-start
+    part-holds-end
+    holds-requires
+    returns-3
+    mul-if5
+    shared-slice-read-if5
+    sub-if5
+    mul-if5-2
+    shared-slice-read-if5-2
     add-between
     add-from
     add-i
@@ -186,4 +236,4 @@ are-records-spec =
     part-descents-start
     part-descents-end
     descents-requires
-    returns-3)
+    returns-4)

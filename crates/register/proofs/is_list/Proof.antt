@@ -1,7 +1,8 @@
 -- `register::is_list` meets its contract. Assumes nothing.
-use mathlib.Core.Path.{_∙_}
-use Rattle.register.proofs.Lists.{list-empty, list-long, list-rises}
+use mathlib.Core.Path.{sym, _∙_}
 use borrow.Author.Needs.{needs}
+use borrow.Author.Tests.{not-true, not-false}
+use Rattle.register.proofs.Lists.{list-empty, list-long, list-falls, list-own}
 use Rattle.register.proofs.is_list.Statement.{statement}
 use Rattle.register.proofs.is_list.Tie as tie
 
@@ -15,7 +16,16 @@ is-rising-requires : tie.Need-is-rising-requires
 is-rising-requires c κs = search needs
 
 returns-3 : tie.Need-returns-3
-returns-3 c = c .is-rising .ensures ∙ list-rises _ _ (c .before .before .if1 .left) (c .before .if2 .left)
+returns-3 c =
+    list-falls _ _ (c .before .before .before .if1 .left) (c .before .before .if2 .left) (sym (c .before .is-rising .ensures) ∙ not-true _ (c .if3 .taken))
+
+holds-requires : tie.Need-holds-requires
+holds-requires c κs = c .before .before .before .if1 .left
+
+returns-4 : tie.Need-returns-4
+returns-4 c =
+    let e = sym (c .before .before .is-rising .ensures) ∙ not-false _ (c .before .if3 .left) in
+    list-own _ _ (c .before .before .before .before .if1 .left) (c .before .before .before .if2 .left) e (c .holds .ensures e)
 
 pub is-list-spec : {M : Type 1} → statement M
-is-list-spec = tie.close (tie.spec returns returns-2 is-rising-requires returns-3)
+is-list-spec = tie.close (tie.spec returns returns-2 is-rising-requires returns-3 holds-requires returns-4)
