@@ -54,7 +54,7 @@ pub fn is_register(reg: &[u32]) -> bool {
             return false;
         }
         let list = &reg[at..at + count];
-        if list.windows(2).any(|pair| pair[0] >= pair[1]) {
+        if list.windows(2).any(|pair| pair[0] >= pair[1]) || list.contains(&key.0) {
             return false;
         }
         last = key;

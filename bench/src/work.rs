@@ -167,17 +167,18 @@ pub fn make(random: &mut Random, numbers: &Numbers, records: usize, providers: u
             };
             if let (Some(i), Some(&y)) = (pick, next) {
                 let list = &mut lists[*i];
-                if random.below(16) != 0 && list.len() < providers && !list.contains(&y) {
+                let may_hold = y != customers[*i] && !list.contains(&y);
+                if random.below(16) != 0 && list.len() < providers && may_hold {
                     list.push(y);
                 }
             }
         }
         paths.push(path);
     }
-    for list in &mut lists {
+    for (customer, list) in customers.iter().zip(&mut lists) {
         while list.len() < providers {
             let y = random.next();
-            if !list.contains(&y) {
+            if y != *customer && !list.contains(&y) {
                 list.push(y);
             }
         }

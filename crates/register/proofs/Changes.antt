@@ -1,17 +1,17 @@
 -- An accepted call leaves a well-formed register; and only its own records change. Assumes nothing.
-use Prim.Native.Nat.{ℕ, zero, suc, _+_, _≤_}
+use Prim.Native.Nat.{ℕ, _+_, _≤_}
 use mathlib.Core.Path.{_≡_, refl, sym, _∙_, ap}
-use mathlib.Core.Bool.{Bool, true, false, not, cond}
-use mathlib.Core.List.{List, [], _∷_, map}
-use mathlib.Core.Option.{Option, none, some}
+use mathlib.Core.Bool.{Bool, true, false, cond}
+use mathlib.Core.List.{List, [], _∷_}
+use mathlib.Core.Option.{none, some}
 use native.Mathlib.Omega.{arith}
-use borrow.Author.Tests.{le-leb, lt-leb, ltb-false, not-true, not-false}
+use borrow.Author.Tests.{le-leb, leb-true, ltb-false}
 use lib.Dec.{leb, ltb, eqb}
 use lib.ListN.{length}
-use Rattle.keyed.specs.Keyed.{samePair, beforePair, ascends, every, find, put, without, holds, countOf}
-use Rattle.keyed.proofs.Orders.{ordered-pairs, both-intro, same-flip, above-zero}
+use Rattle.keyed.specs.Keyed.{samePair, beforePair, without}
+use Rattle.keyed.proofs.Orders.{ordered-pairs, both-intro, both-left, both-right, same-flip, above-zero}
 use Rattle.keyed.proofs.Puts.{ascends-put, ascends-without}
-use Rattle.keyed.proofs.Finds.{every-put, every-without, find-put, find-without, find-key, same-finds, count-without}
+use Rattle.keyed.proofs.Finds.{every-put, every-without, find-put, find-without, same-finds, count-without}
 use Rattle.rules.specs.Records.{Record}
 use Rattle.register.specs.Register.{mostRecords, mostListed, lastSource, keyOf, listed, listOk, recordOk, roomFor, recordsOk}
 use Rattle.register.specs.Calls.{putRecord, eraseRecord, clearRecords, countRecords, ofSource}
@@ -22,6 +22,20 @@ use Rattle.register.proofs.Holding.{room-records, room-lists, has-room,
 pub record-ok : (r : Record) → ltb lastSource (r .source) ≡ false → eqb (r .customer) 0 ≡ false → listOk (r .customer) (r .providers) ≡ true → recordOk r ≡ true
 unfolding recordOk
 record-ok r s c l = both-intro _ _ (above-zero (r .customer) c) (both-intro _ _ (le-leb (r .source) lastSource (ltb-false _ _ s)) l)
+
+-- And back: the rules of a record, one by one.
+module _ (r : Record) (e : recordOk r ≡ true) where
+  pub record-customer : 1 ≤ r .customer
+  unfolding recordOk
+  record-customer = leb-true _ _ (both-left _ _ e)
+
+  pub record-source : r .source ≤ lastSource
+  unfolding recordOk
+  record-source = leb-true _ _ (both-left _ _ (both-right (leb 1 (r .customer)) _ e))
+
+  pub record-list : listOk (r .customer) (r .providers) ≡ true
+  unfolding recordOk
+  record-list = both-right (leb (r .source) lastSource) _ (both-right (leb 1 (r .customer)) _ e)
 
 -- Fewer records, with fewer numbers, still fit.
 pub room-fewer : (rs ss : List Record) → length ss ≤ length rs → listed ss ≤ listed rs → roomFor rs ≡ true → roomFor ss ≡ true

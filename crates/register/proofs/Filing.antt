@@ -1,22 +1,19 @@
 -- Each way through File and Withdraw gives the answer and the words of their definitions. Assumes nothing.
-use Prim.Native.Nat.{ℕ, suc, _+_, _-_, _*_, _^_, _≤_, _<_}
+use Prim.Native.Nat.{ℕ, suc, _+_, _-_, _*_, _≤_, _<_}
 use mathlib.Core.Path.{_≡_, refl, sym, _∙_, ap}
-use mathlib.Core.Bool.{Bool, true, false, not, cond, and-false}
-use mathlib.Core.List.{List, [], _∷_, _++_, map, append-assoc}
+use mathlib.Core.Bool.{Bool, true, false, cond, and-false}
+use mathlib.Core.List.{List, [], _∷_, _++_, map}
 use native.Mathlib.Omega.{arith}
 use borrow.Author.Tests.{eq-eqb, ne-eqb, le-ltb, lt-ltb, le-leb, lt-leb}
-use lib.Dec.{leb, ltb, eqb}
+use lib.Dec.{leb, eqb}
 use lib.ListN.{length, getD, take, drop, length-append, length-drop}
-use lib.Seq.{length-take-le, take-at, drop-at, take-append-seam, drop-append-seam}
+use lib.Seq.{length-take-le, take-at, drop-at}
 use Rattle.types.specs.declared.Refusal.the-variants.{TableLength, RegisterMalformed, SourceNumber, CustomerZero, ProviderList, NoRecord, RegisterFull}
-use Rattle.types.specs.declared.Filed.{Filed}
 use Rattle.types.specs.declared.Filed.the-variants as filed
-use Rattle.types.specs.declared.Removal.{Removal}
 use Rattle.types.specs.declared.Removal.the-variants as removal
-use Rattle.types.specs.declared.Cleared.{Cleared}
 use Rattle.types.specs.declared.Cleared.the-variants as cleared
-use Rattle.types.specs.Rows.{firstGiven, Effect, effect}
-use Rattle.table.specs.Table.{counters, Entry, bodies, encode, decode, Sound, stayingEntries, insertAt, removeAt}
+use Rattle.types.specs.Rows.{firstGiven, effect}
+use Rattle.table.specs.Table.{counters, bodies, encode, decode, Sound, stayingEntries, insertAt, removeAt}
 use Rattle.table.specs.Helpers.{Insertable, Removable, Clearable}
 use Rattle.table.proofs.After.{removed}
 use Rattle.keyed.specs.Keyed.{samePair, beforePair, ascends, without}
@@ -71,7 +68,7 @@ module _ {ws : List ℕ} {position source customer : ℕ} {list : List ℕ} (p :
   s : Sound recordHead recordTail ws
   s = sound ws (p .ok)
 
-  file-full : roomFor (putRecord r rs) ≡ false → fileEffect ws source customer list ≡ record { answer = filed.Refused RegisterFull; words = ws }
+  pub file-full : roomFor (putRecord r rs) ≡ false → fileEffect ws source customer list ≡ record { answer = filed.Refused RegisterFull; words = ws }
   unfolding fileEffect firstGiven
   file-full e =
       rw (eq-eqb (length ws) registerWords (p .long), p .ok, le-ltb lastSource source (p .known), ne-eqb customer 0 (p .some), p .rising, e)

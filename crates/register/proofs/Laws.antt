@@ -3,27 +3,26 @@ use Prim.Native.Nat.{ℕ, _+_, _≤_}
 use mathlib.Core.Path.{_≡_, refl, sym, _∙_, ap}
 use mathlib.Core.Bool.{Bool, true, false, cond}
 use mathlib.Core.List.{List}
-use mathlib.Core.Option.{Option, none, some}
+use mathlib.Core.Option.{none, some}
 use native.Mathlib.Omega.{arith}
-use borrow.Author.Tests.{not-false, eq-eqb, ne-eqb, le-ltb, leb-true}
-use lib.Dec.{leb}
+use borrow.Author.Tests.{not-false, eq-eqb, ne-eqb, le-ltb}
 use lib.ListN.{length}
 use Rattle.types.specs.declared.Filed.the-variants.{New}
 use Rattle.types.specs.declared.Cleared.the-variants.{Gone}
-use Rattle.types.specs.Rows.{firstGiven, Effect, effect}
+use Rattle.types.specs.Rows.{firstGiven, effect}
 use Rattle.types.proofs.Refusing.{row-passed, accepted-none}
 use Rattle.keyed.specs.Keyed.{samePair, beforePair, without}
-use Rattle.keyed.proofs.Orders.{ordered-pairs, both-left, both-right}
+use Rattle.keyed.proofs.Orders.{ordered-pairs}
 use Rattle.keyed.proofs.Finds.{isSome, find-holds, every-found}
 use Rattle.rules.specs.Records.{Record}
-use Rattle.register.specs.Register.{registerWords, lastSource, recordsOf, registerOf, keyOf, positionOf, listOk, recordOk, roomFor, recordsOk, registerOk}
+use Rattle.register.specs.Register.{registerWords, lastSource, recordsOf, registerOf, keyOf, positionOf, recordOk, roomFor, recordsOk, registerOk}
 use Rattle.register.specs.Calls.{holdsRecord, putRecord, eraseRecord, clearRecords, countRecords, ofSource, recordFor, fileRows, withdrawRows, clearRows, fileEffect, withdrawEffect, clearEffect}
 use Rattle.register.specs.Helpers.{Passed}
 use Rattle.register.specs.Calls.{findRecord}
 use Rattle.register.specs.Laws.{Register, RegisterLaws}
 use Rattle.register.proofs.Entries.{records-of-words, words-are}
 use Rattle.register.proofs.Holding.{sound, records-ok, has-room, room-records, room-lists, each-ok}
-use Rattle.register.proofs.Changes.{without-ok, filed-finds, withdrawn-finds, cleared-finds, cleared-count}
+use Rattle.register.proofs.Changes.{record-customer, record-source, record-list, without-ok, filed-finds, withdrawn-finds, cleared-finds, cleared-count}
 use Rattle.register.proofs.Changes as changes
 use Rattle.register.proofs.Refusals.{records-register, file-preserves, withdraw-preserves, clear-preserves}
 use Rattle.register.proofs.Filing.{file-done}
@@ -86,16 +85,10 @@ module _ (ws : List ℕ) (r : Record) (w : Register ws) (f : findRecord (keyOf r
   own = every-found keyOf samePair beforePair recordOk (keyOf r) rs r (each-ok rs ok) f
 
   customer-some : r .customer ≡ 0 → ⊥
-  unfolding recordOk
-  customer-some e = let h : 1 ≤ r .customer = leb-true _ _ (both-left _ _ own) in omega arith
+  customer-some e = omega (arith, record-customer r own)
 
   source-known : r .source ≤ lastSource
-  unfolding recordOk
-  source-known = leb-true _ _ (both-left _ _ (both-right (leb 1 (r .customer)) _ own))
-
-  list-rises : listOk (r .customer) (r .providers) ≡ true
-  unfolding recordOk
-  list-rises = both-right (leb (r .source) lastSource) _ (both-right (leb 1 (r .customer)) _ own)
+  source-known = record-source r own
 
   held : holdsRecord (r .customer) (r .source) rs ≡ true
   held = find-holds keyOf samePair beforePair (keyOf r) rs ∙ ap isSome f
@@ -123,7 +116,7 @@ module _ (ws : List ℕ) (r : Record) (w : Register ws) (f : findRecord (keyOf r
   passed : Passed (registerOf rest) (positionOf (r .customer) (r .source) (recordsOf (registerOf rest))) (r .source) (r .customer) (r .providers)
   passed =
       let formed = records-register rest rest-ok in
-      record { long = formed .long; ok = formed .ok; known = source-known; some = customer-some; rising = list-rises; here = refl }
+      record { long = formed .long; ok = formed .ok; known = source-known; some = customer-some; rising = record-list r own; here = refl }
 
   refiled : fileEffect (withdrawEffect ws (r .source) (r .customer) .words) (r .source) (r .customer) (r .providers) ≡ effect New ws
   refiled =

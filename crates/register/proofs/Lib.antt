@@ -1,6 +1,7 @@
 pub mod Entries
 pub mod Holding
 pub mod Lists
+pub mod Members
 pub mod Halving
 pub mod Descending
 pub mod Checking
@@ -11,4 +12,5 @@ pub mod Placing
 pub mod Changes
 pub mod Refusals
 pub mod Filing
+pub mod ListLaws
 pub mod Laws

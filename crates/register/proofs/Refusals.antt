@@ -1,24 +1,21 @@
 -- Each call is refused by the first of its rows that is given, and by no other; a refusal leaves the words. Assumes nothing.
 use Prim.Native.Nat.{ℕ}
-use mathlib.Core.Path.{_≡_, refl, sym, _∙_, ap}
+use mathlib.Core.Path.{_≡_, refl}
 use mathlib.Core.Bool.{Bool, true, false, cond, not}
 use mathlib.Core.Logic.{_↔_}
 use mathlib.Core.List.{List, [], _∷_, map}
 use mathlib.Core.Option.{Option, none, some}
-use borrow.Author.Tests.{not-false, not-true, eqb-true, eq-eqb}
+use borrow.Author.Tests.{not-false}
 use native.Mathlib.Omega.{arith}
 use lib.Dec.{ltb, eqb}
 use lib.ListN.{length}
 use Rattle.types.specs.declared.Refusal.{Refusal}
 use Rattle.types.specs.declared.Refusal.the-variants.{TableLength, RegisterMalformed, SourceNumber, CustomerZero, ProviderList, NoRecord, RegisterFull}
 use Rattle.types.specs.Numbers.{refusalNumber}
-use Rattle.types.specs.declared.Filed.{Filed}
 use Rattle.types.specs.declared.Filed.the-variants as filed
-use Rattle.types.specs.declared.Removal.{Removal}
 use Rattle.types.specs.declared.Removal.the-variants as removal
-use Rattle.types.specs.declared.Cleared.{Cleared}
 use Rattle.types.specs.declared.Cleared.the-variants as cleared
-use Rattle.types.specs.Rows.{rowIf, firstGiven, Effect, unlessRefused, FirstAt, Numbered}
+use Rattle.types.specs.Rows.{firstGiven, unlessRefused, FirstAt, Numbered}
 use Rattle.types.proofs.Refusing.{row-passed, accepted-none, answers-first, refusal-leaves, numbered, removal-apart, removal-same}
 use Rattle.table.proofs.Exact.{length-encode}
 use Rattle.keyed.specs.Keyed.{samePair}

@@ -1,17 +1,20 @@
 -- What the documents say of the register, as statements. proofs/Laws.antt has their proof.
-use Prim.Native.Nat.{ℕ, _+_, _<_}
+use Prim.Native.Nat.{ℕ, suc, _+_, _≤_, _<_}
 use mathlib.Core.Path.{_≡_}
 use mathlib.Core.Bool.{true, cond}
 use mathlib.Core.List.{List}
+use mathlib.Core.Logic.{_↔_}
 use mathlib.Core.Option.{none, some}
 use lib.Dec.{eqb}
-use lib.ListN.{length}
-use Rattle.types.specs.declared.Filed.the-variants.{New}
+use lib.ListN.{length, getD}
+use Rattle.types.specs.declared.Refusal.the-variants.{ProviderList}
+use Rattle.types.specs.declared.Filed.the-variants.{New, Refused}
 use Rattle.types.specs.declared.Cleared.the-variants.{Gone}
 use Rattle.types.specs.Rows.{firstGiven, effect}
-use Rattle.keyed.specs.Keyed.{samePair}
-use Rattle.rules.specs.Records.{Record, isIn, united}
-use Rattle.register.specs.Register.{registerWords, recordsOf, keyOf, recordAt, registerOk}
+use Rattle.types.specs.declared.Hop.the-variants.{ProviderPlus}
+use Rattle.keyed.specs.Keyed.{samePair, beforePair, ascends}
+use Rattle.rules.specs.Records.{Record, isIn, united, hopOf}
+use Rattle.register.specs.Register.{registerWords, mostProviders, lastSource, recordsOf, keyOf, recordAt, roomFor, recordsOk, registerOk}
 use Rattle.register.specs.Calls.{findRecord, countRecords, recordFor, fileRows, withdrawRows, clearRows, fileEffect, withdrawEffect, clearEffect}
 
 -- A register of the right length that keeps the word rules (rows 1 and 2).
@@ -51,3 +54,29 @@ pub record RegisterLaws : Type 0 where
   -- Room that is given up is used again: a record that is withdrawn is accepted once more, as new, and every word is as it was.
   pub refiled : (ws : List ℕ) (r : Record) → Register ws → findRecord (keyOf r) (recordsOf ws) ≡ some r
       → fileEffect (withdrawEffect ws (r .source) (r .customer) .words) (r .source) (r .customer) (r .providers) ≡ effect New ws
+
+-- ---- the rule of a list, by its numbers
+
+-- Why a list may not be filed for a customer: it has no number, or too many, or one that is not above the one before it, or the customer.
+pub data BadList (customer : ℕ) (l : List ℕ) : Type 0 where
+  empty : length l ≡ 0 → BadList customer l
+  long : mostProviders < length l → BadList customer l
+  falls : (i : ℕ) → suc i < length l → getD l (suc i) 0 ≤ getD l i 0 → BadList customer l
+  own : (i : ℕ) → i < length l → getD l i 0 ≡ customer → BadList customer l
+
+-- The rules of records: each list is held to the customer of its own record, and to no other.
+pub record RecordRules (rs : List Record) : Type 0 where
+  pub room : roomFor rs ≡ true
+  pub order : ascends keyOf samePair beforePair rs ≡ true
+  pub customers : (i : ℕ) → i < length rs → 1 ≤ recordAt rs i .customer
+  pub sources : (i : ℕ) → i < length rs → recordAt rs i .source ≤ lastSource
+  pub lists : (i : ℕ) → i < length rs → BadList (recordAt rs i .customer) (recordAt rs i .providers) → ⊥
+
+pub record ListLaws : Type 0 where
+  -- A filing that rows 1, 2, 4 and 5 pass is refused by 6 exactly for these reasons, whatever the register holds.
+  pub row-six : (ws : List ℕ) → Register ws → (source customer : ℕ) (list : List ℕ) → source ≤ lastSource → 1 ≤ customer
+      → (fileEffect ws source customer list .answer ≡ Refused ProviderList) ↔ BadList customer list
+  -- The word rules say the same of each record's list.
+  pub each-list : (rs : List Record) → (recordsOk rs ≡ true) ↔ RecordRules rs
+  -- No well-formed register says Provider+ of a number and itself.
+  pub no-self : (ws : List ℕ) → registerOk ws ≡ true → (x : ℕ) → hopOf (recordsOf ws) x x ≡ ProviderPlus → ⊥

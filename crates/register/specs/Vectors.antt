@@ -1,11 +1,13 @@
--- Two sources file for one customer: the whole register, word by word, by computation from the definitions.
+-- Whole registers and refusals, by computation from the definitions.
 use Prim.Native.Nat.{ℕ, _-_}
 use mathlib.Core.Path.{_≡_, refl}
+use mathlib.Core.Bool.{true, false}
 use mathlib.Core.List.{List, [], _∷_, _++_}
 use lib.ListN.{replicate}
+use Rattle.types.specs.declared.Refusal.the-variants.{CustomerZero, ProviderList}
 use Rattle.types.specs.declared.Filed.{Filed}
 use Rattle.types.specs.declared.Filed.the-variants as filed
-use Rattle.types.specs.Rows.{firstGiven, Effect}
+use Rattle.types.specs.Rows.{firstGiven, Effect, effect}
 use Rattle.table.specs.Table.{slots, bodies, pad, encode, decodeSlots, decode, slotsOk, allZero, wellFormed}
 use Rattle.keyed.specs.Keyed.{ascendsFrom, ascends, holds, put, every}
 use Rattle.rules.specs.Records.{isIn}
@@ -30,3 +32,36 @@ pub whole-register :
     }
 unfolding fileEffect firstGiven slots bodies pad encode decodeSlots decode slotsOk allZero wellFormed ascendsFrom ascends holds put every recordsOf registerOf listed risesFrom rises isIn listOk recordOk roomFor recordsOk registerOk
 whole-register = refl
+
+-- ---- a customer in its own list
+
+-- It is refused by 6 wherever it stands, and nothing changes.
+pub own-first : fileEffect empty 0 65010 (65010 ∷ 65020 ∷ []) ≡ effect (filed.Refused ProviderList) empty
+unfolding fileEffect firstGiven slots bodies decodeSlots decode slotsOk allZero wellFormed ascends every recordsOf listed risesFrom rises isIn listOk roomFor recordsOk registerOk
+own-first = refl
+
+pub own-last : fileEffect empty 0 65010 (65001 ∷ 65010 ∷ []) ≡ effect (filed.Refused ProviderList) empty
+unfolding fileEffect firstGiven slots bodies decodeSlots decode slotsOk allZero wellFormed ascends every recordsOf listed risesFrom rises isIn listOk roomFor recordsOk registerOk
+own-last = refl
+
+-- Customer 0 is refused first, by 5.
+pub own-zero : fileEffect empty 0 0 (0 ∷ []) ≡ effect (filed.Refused CustomerZero) empty
+unfolding fileEffect firstGiven slots bodies decodeSlots decode slotsOk allZero wellFormed ascends every recordsOf listed roomFor recordsOk registerOk
+own-zero = refl
+
+-- A register of two records with one provider each.
+abbrev two : (first second firstProvider secondProvider : ℕ) → List ℕ
+two a b x y = (2 ∷ 2 ∷ a ∷ 0 ∷ 0 ∷ 1 ∷ b ∷ 0 ∷ 1 ∷ 1 ∷ x ∷ y ∷ []) ++ replicate (registerWords - 12) 0
+
+-- Two customers may list each other, but not themselves.
+pub each-other : registerOk (two 65001 65002 65002 65001) ≡ true
+unfolding bodies decodeSlots decode slotsOk allZero wellFormed ascendsFrom ascends every recordsOf listed risesFrom rises isIn listOk recordOk roomFor recordsOk registerOk
+each-other = refl
+
+pub first-itself : registerOk (two 65001 65002 65001 65003) ≡ false
+unfolding bodies decodeSlots decode slotsOk allZero wellFormed ascendsFrom ascends every recordsOf listed risesFrom rises isIn listOk recordOk roomFor recordsOk registerOk
+first-itself = refl
+
+pub second-itself : registerOk (two 65001 65002 65003 65002) ≡ false
+unfolding bodies decodeSlots decode slotsOk allZero wellFormed ascendsFrom ascends every recordsOf listed risesFrom rises isIn listOk recordOk roomFor recordsOk registerOk
+second-itself = refl

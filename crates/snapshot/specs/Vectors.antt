@@ -9,7 +9,8 @@ use Rattle.types.specs.declared.Restored.{Restored}
 use Rattle.types.specs.declared.Restored.the-variants.{Done, Refused}
 use Rattle.types.specs.Rows.{firstGiven}
 use Rattle.table.specs.Table.{bodies, pad, decodeSlots, decode, slotsOk, allZero, wellFormed}
-use Rattle.keyed.specs.Keyed.{ascends, every}
+use Rattle.keyed.specs.Keyed.{ascends, ascendsFrom, every}
+use Rattle.rules.specs.Records.{isIn}
 use Rattle.register.specs.Register.{registerWords, recordsOf, listed, recordsOk, registerOk}
 use Rattle.register.specs.Register as register
 use Rattle.ledger.specs.Routes.{ledgerWords, routesOf, pathWords, routeOk, routesOk, ledgerOk}
@@ -75,6 +76,16 @@ pub longer-register :
     read ((0 ∷ 0 ∷ 0 ∷ 1 ∷ 0 ∷ 0 ∷ 0 ∷ 20 ∷ 0 ∷ 0 ∷ 0 ∷ 12 ∷ 0 ∷ 0 ∷ 0 ∷ 32 ∷ 0 ∷ 0 ∷ 0 ∷ 8 ∷ []) ++ zeros 20) ≡ Refused RegisterMalformed
 unfolding readEffect firstGiven field wordsIn contentsOk lengthOk registerIn pad decodeSlots decode slotsOk allZero wellFormed every ascends recordsOf listed recordsOk register.roomFor registerOk
 longer-register = refl
+
+-- A register whose one list holds its own customer: the file of an earlier version may have it.
+pub own-customer :
+    read
+    ((0 ∷ 0 ∷ 0 ∷ 1 ∷ 0 ∷ 0 ∷ 0 ∷ 20 ∷ 0 ∷ 0 ∷ 0 ∷ 28 ∷ 0 ∷ 0 ∷ 0 ∷ 48 ∷ 0 ∷ 0 ∷ 0 ∷ 8 ∷ [])
+    ++ (0 ∷ 0 ∷ 0 ∷ 1 ∷ 0 ∷ 0 ∷ 0 ∷ 1 ∷ 0 ∷ 0 ∷ 253 ∷ 242 ∷ 0 ∷ 0 ∷ 0 ∷ 2 ∷ 0 ∷ 0 ∷ 0 ∷ 0 ∷ 0 ∷ 0 ∷ 0 ∷ 1 ∷ 0 ∷ 0 ∷ 253 ∷ 242 ∷ [])
+    ++ zeros 8)
+    ≡ Refused RegisterMalformed
+unfolding readEffect firstGiven field wordsIn contentsOk lengthOk registerIn pad decodeSlots decode slotsOk allZero wellFormed every ascends ascendsFrom recordsOf listed recordsOk register.roomFor registerOk bodies register.risesFrom register.rises isIn register.listOk register.recordOk
+own-customer = refl
 
 -- A ledger that says a route and has none.
 pub no-route :

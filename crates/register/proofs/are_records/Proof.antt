@@ -103,9 +103,11 @@ holds-requires c κs =
     let w = c .before .before .before .before in
     let t = w .before .before .before in
     simp (length-take, length-drop)
-    (omega
-    (arith, list-inside (t .before .loop .inv) (t .loop-test .taken) (w .word2 .ensures .0),
-    list-some (t .before .loop .inv) (t .loop-test .taken) (w .word2 .ensures .0) (c .before .before .before .if1 .left)))
+    (omega (
+      arith,
+      list-inside (t .before .loop .inv) (t .loop-test .taken) (w .word2 .ensures .0),
+      list-some (t .before .loop .inv) (t .loop-test .taken) (w .word2 .ensures .0) (c .before .before .before .if1 .left),
+    ))
 
 returns-3 : tie.Need-returns-3 Inv-loop μ-loop
 returns-3 c =
