@@ -1705,24 +1705,21 @@ fn own_customers_stored(lines: &mut Lines) {
     lines.all(&["file 1 10 9", "file 1 9 9", "keep 8 1 5 -"]);
     // as snapshots, which leave the tables; then one of them with other faults
     lines.write(131_072);
-    let own = pokes.iter().map(|(index, value)| (CONTENTS / 4 + index, *value));
-    for (index, value) in own.clone() {
-        lines.read(&with(&file, &[(index, value)]));
+    for (index, value) in &pokes {
+        lines.read(&with(&file, &[(CONTENTS / 4 + index, *value)]));
     }
     lines.write(131_072);
-    for (index, value) in own.take(1) {
-        let ledger = CONTENTS / 4 + words.len();
-        lines.read(&with(&file, &[(index, value), (ledger, 9)]));
-        lines.read(&with(&file, &[(index, value), (0, 2)]));
-        lines.read(&with(&file, &[(index, value), (1, 24)]));
-        lines.read(&with(&file, &[(index, value)])[..file.len() - 1]);
+    let (index, value) = pokes[0];
+    let own = with(&file, &[(CONTENTS / 4 + index, value)]);
+    for other in [(CONTENTS / 4 + words.len(), 9), (0, 2), (1, 24)] {
+        lines.read(&with(&own, &[other]));
     }
+    lines.read(&own[..file.len() - 1]);
     lines.write(131_072);
     lines.read_and_write(&file);
     // read over a register with this fault, which a refused read leaves
-    let (index, value) = pokes[0];
     lines.say(&format!("poke register {index} {value}"));
-    lines.read(&with(&file, &[(CONTENTS / 4 + index, value)]));
+    lines.read(&own);
     lines.all(&SHOW);
     lines.read(&file);
     lines.all(&SHOW);
@@ -2241,57 +2238,55 @@ mod tests {
         assert!(checked > 200, "{checked}");
     }
 
+    /// Where a list holds its customer.
+    fn place(list: &[u32], customer: u32) -> Option<String> {
+        let at = list.iter().position(|number| *number == customer)?;
+        let place = match at {
+            0 if list.len() == 1 => "alone",
+            0 => "first",
+            _ if at + 1 == list.len() => "last",
+            _ => "between",
+        };
+        Some(format!("{place}{}", if list.len() == 256 { " of 256" } else { "" }))
+    }
+
     /// Filings, pokes and reads with an own customer and no other fault.
     #[test]
     fn own_customers_are_drawn() {
-        let mut model = Model::new();
         let mut seen: BTreeMap<String, usize> = BTreeMap::new();
         for seed in 1..=4 {
+            let mut model = Model::new();
             random_stream(seed, 8_000, |line, answer| {
                 let before = model.register.well_formed();
                 console::answer(&mut model, line.as_bytes());
                 let words: Vec<&str> = line.split(' ').collect();
-                let kind = match words[0] {
-                    "file" if answer == "refused 6" => {
+                let kind = match (words[0], answer) {
+                    ("file", "refused 6") => {
                         let list: Vec<u32> =
-                            words[3..].iter().map(|n| n.parse().unwrap()).collect();
-                        let place = list.iter().position(|n| n.to_string() == words[2]);
-                        let Some(place) = place else { return Ok(()) };
-                        if list.len() > 256 || list != ascending(list.clone()) {
-                            return Ok(());
-                        }
-                        let long = if list.len() == 256 { "long" } else { "short" };
-                        match place {
-                            _ if list.len() == 1 => "alone".to_string(),
-                            0 => format!("{long}, first"),
-                            n if n + 1 == list.len() => format!("{long}, last"),
-                            _ => format!("{long}, between"),
-                        }
+                            words[2..].iter().map(|word| word.parse().unwrap()).collect();
+                        let (customer, list) = (list[0], &list[1..]);
+                        let other = list.len() > 256 || list != ascending(list.to_vec());
+                        place(list, customer).filter(|_| !other)
                     }
-                    "poke" if before && only_own_customer(&model.register.words()) => "poke".into(),
-                    "read" if answer == "refused 2" => {
-                        let digits = words[1].as_bytes().chunks(2);
-                        let file: Vec<u8> = digits
-                            .map(|d| {
-                                u8::from_str_radix(std::str::from_utf8(d).unwrap(), 16).unwrap()
-                            })
-                            .collect();
-                        if !only_own_customer(&parts(&file)[0]) {
-                            return Ok(());
-                        }
-                        "read".to_string()
+                    ("poke", _) if before => {
+                        only_own_customer(&model.register.words()).then(|| "poke".to_string())
                     }
-                    _ => return Ok(()),
+                    ("read", "refused 2") => {
+                        let [register, _] = parts(&console::bytes(words[1]).unwrap());
+                        only_own_customer(&register).then(|| "read".to_string())
+                    }
+                    _ => None,
                 };
-                *seen.entry(kind).or_default() += 1;
+                if let Some(kind) = kind {
+                    *seen.entry(kind).or_default() += 1;
+                }
                 Ok(())
             })
             .unwrap();
-            model = Model::new();
         }
         for kind in [
-            "alone", "short, first", "short, between", "short, last", "long, first",
-            "long, between", "long, last", "poke", "read",
+            "alone", "first", "between", "last", "first of 256", "between of 256", "last of 256",
+            "poke", "read",
         ] {
             assert!(seen.get(kind).is_some_and(|count| *count >= 4), "{kind}: {seen:?}");
         }
