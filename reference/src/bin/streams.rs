@@ -1652,6 +1652,8 @@ fn own_customers_filed(lines: &mut Lines) {
         lines.all(&[&format!("file 0 300 {list}"), &format!("file 0 301 {list}")]);
     }
     lines.say("register");
+    // numbers that differ in one byte only
+    lines.all(&["file 0 4 260 65540 16777220 2147483652", "file 0 65540 4", "rejudge", "register"]);
     // what is stored stays, the customer's other lists too
     lines.all(&["empty", "file 0 40 41", "file 2 40 43", "register"]);
     lines.all(&["file 0 40 40", "file 1 40 40", "file 2 40 40 43", "file 3 40 39 40", "register"]);
