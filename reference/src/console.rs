@@ -104,7 +104,7 @@ fn as_number(word: &str) -> Option<AsNumber> {
 }
 
 /// Lowercase hex, two digits a byte; `-` for none.
-fn bytes(word: &str) -> Option<Vec<u8>> {
+pub fn bytes(word: &str) -> Option<Vec<u8>> {
     if word == "-" {
         return Some(Vec::new());
     }

@@ -191,10 +191,7 @@ impl Model {
         let records = self.register.open()?;
         check_source(source)?;
         check_customer(customer)?;
-        let ascends = list.windows(2).all(|pair| pair[0] < pair[1]);
-        if list.is_empty() || list.len() > MOST_PROVIDERS || !ascends {
-            return Err(Refusal::row(6));
-        }
+        check_list(customer, list)?;
         // Room is that of the register afterwards: a replaced list gives its own back.
         let key = (customer, source);
         let others = records.iter().filter(|(k, _)| **k != key);
@@ -326,6 +323,16 @@ fn check_source(source: u32) -> Result<(), Refusal> {
 fn check_customer(customer: AsNumber) -> Result<(), Refusal> {
     if customer.0 == 0 {
         return Err(Refusal::row(5));
+    }
+    Ok(())
+}
+
+/// Row 6. The word rules ask the same of a stored list.
+fn check_list(customer: AsNumber, list: &[AsNumber]) -> Result<(), Refusal> {
+    let length = (1..=MOST_PROVIDERS).contains(&list.len());
+    let ascends = list.windows(2).all(|pair| pair[0] < pair[1]);
+    if !length || !ascends || list.contains(&customer) {
+        return Err(Refusal::row(6));
     }
     Ok(())
 }

@@ -272,7 +272,7 @@ fn widest_overlap() {
 
 #[test]
 fn refusals_in_order() {
-    let list = |n: usize| (1..=n).map(|i| format!(" {i}")).collect::<String>();
+    let list = |n: usize| (2..).take(n).map(|i| format!(" {i}")).collect::<String>();
     let long = "02".repeat(1_025);
     let five = sequence(&[5]);
     let many = sequence(&(1..=65).collect::<Vec<u32>>());
@@ -316,6 +316,177 @@ fn refusals_in_order() {
         ("register", "0 0"),
         ("ledger", "0 0"),
     ]);
+}
+
+/// A list of `length` consecutive numbers, `before` of them below the customer.
+fn around(customer: u32, before: usize, length: usize) -> Vec<u32> {
+    (customer - before as u32..).take(length).collect()
+}
+
+fn words_of(list: &[u32]) -> String {
+    list.iter().map(|number| format!(" {number}")).collect()
+}
+
+#[test]
+fn no_list_holds_its_customer() {
+    let mut model = Model::new();
+    for (length, befores) in
+        [(1, &[0][..]), (2, &[0, 1]), (3, &[0, 1, 2]), (256, &[0, 1, 127, 128, 254, 255])]
+    {
+        for before in befores {
+            let own = around(300, *before, length);
+            let before = model.clone();
+            check(&mut model, &[(&format!("file 2 300{}", words_of(&own)), "refused 6")]);
+            assert!(same_words(&model, &before));
+            // right for another customer, and without the customer
+            check(&mut model, &[(&format!("file 2 1000{}", words_of(&own)), "new")]);
+            let other: Vec<u32> = own.iter().map(|n| if *n < 300 { *n } else { n + 1 }).collect();
+            check(
+                &mut model,
+                &[
+                    (&format!("file 2 300{}", words_of(&other)), "new"),
+                    ("withdraw 2 300", "done"),
+                    ("withdraw 2 1000", "done"),
+                ],
+            );
+        }
+    }
+    run(&[
+        ("file 0 1 1", "refused 6"),
+        ("file 0 1 0 1", "refused 6"),
+        ("file 0 4294967295 4294967295", "refused 6"),
+        ("file 0 4294967295 0 7 4294967295", "refused 6"),
+        ("file 0 4294967295 0 7 4294967294", "new"),
+        // 4 and 5 go first, other faults of a list are the same row
+        ("file 0 0 0", "refused 5"),
+        ("file 8 7 7", "refused 4"),
+        ("file 8 0 0", "refused 4"),
+        ("file 0 7 7 7", "refused 6"),
+        ("file 0 7 8 7", "refused 6"),
+        ("file 0 7 7 6", "refused 6"),
+        (&format!("file 0 7{}", words_of(&around(7, 3, 257))), "refused 6"),
+        // each list for itself: two numbers that list each other, other sources' lists
+        ("file 0 5 6", "new"),
+        ("file 0 6 5", "new"),
+        ("file 1 5 5", "refused 6"),
+        ("file 1 5 4 5 6", "refused 6"),
+        ("file 0 5 5", "refused 6"),
+        ("file 1 5 6", "new"),
+        ("register", "4 6 5 0 0 1 5 1 1 1 6 0 2 1 4294967295 0 3 3 6 6 5 0 7 4294967294"),
+    ]);
+}
+
+/// Each poke puts the customer into one list, and breaks no other rule.
+#[test]
+fn a_register_with_an_own_customer() {
+    let mut sound = Model::new();
+    check(
+        &mut sound,
+        &[
+            ("file 0 10 9 11 12", "new"),
+            ("file 0 20 18 19 22", "new"),
+            ("file 3 20 21 22 23", "new"),
+            ("file 7 30 28 31 32", "new"),
+            ("keep 7 4 5 -", "Invalid ground 1"),
+            (
+                "register",
+                "4 12 10 0 0 3 20 0 3 3 20 3 6 3 30 7 9 3 9 11 12 18 19 22 21 22 23 28 31 32",
+            ),
+        ],
+    );
+    let file = written(&mut sound.clone());
+    for (index, value) in [
+        // the customer becomes a number of the list: first, between, last
+        (2, 9),
+        (2, 11),
+        (2, 12),
+        (6, 18),
+        (6, 19),
+        (10, 21),
+        (10, 22),
+        (10, 23),
+        (14, 28),
+        (14, 31),
+        (14, 32),
+        // a number of the list becomes the customer
+        (18, 10),
+        (19, 10),
+        (22, 20),
+        (23, 20),
+        (24, 20),
+        (27, 30),
+        (28, 30),
+    ] {
+        let mut model = sound.clone();
+        let old = model.register.words()[index];
+        check(&mut model, &[(&format!("poke register {index} {value}"), "done")]);
+        assert!(!model.register.well_formed());
+        let poked = model.clone();
+        check(
+            &mut model,
+            &[
+                ("file 9 0", "refused 2"),
+                ("file 1 40 41", "refused 2"),
+                ("withdraw 0 10", "refused 2"),
+                ("clear 0", "refused 2"),
+                ("judge 1 5 -", "refused 2"),
+                ("keep 8 1 5 -", "refused 2"),
+                ("rejudge", "refused 2"),
+                ("write 131072", "refused 2"),
+            ],
+        );
+        // as a snapshot: over sound tables, and over these, which stay
+        let own = with(&file, &[(5 + index, value)]);
+        assert_eq!(row(model.read(&own)), 2);
+        assert!(same_words(&model, &poked));
+        let mut other = small_tables();
+        assert_eq!(row(other.read(&own)), 2);
+        assert_eq!(row(other.read(&with(&own, &[(5 + 30, 9)]))), 2);
+        assert_eq!(row(other.read(&own[..own.len() - 1])), 24);
+        assert!(same_words(&other, &small_tables()));
+        assert_eq!(row(other.read(&file)), 0);
+        assert!(same_words(&other, &sound));
+        // a read doesn't look at what the register was
+        let mut read = poked.clone();
+        assert_eq!(row(read.read(&file)), 0);
+        assert!(same_words(&read, &sound));
+        // mended
+        check(
+            &mut model,
+            &[
+                ("drop 7", "done"),
+                (&format!("poke register {index} {old}"), "done"),
+                ("rejudge", "changed 0"),
+                ("file 1 40 41", "new"),
+            ],
+        );
+    }
+    // other words for these customers and lists are no fault
+    for (index, value) in
+        [(2, 10), (2, 13), (6, 17), (10, 24), (14, 29), (18, 8), (22, 21), (29, 33)]
+    {
+        let mut model = sound.clone();
+        check(&mut model, &[(&format!("poke register {index} {value}"), "done")]);
+        assert!(model.rejudge().is_ok(), "{index} {value}");
+        let input = with(&file, &[(5 + index, value)]);
+        assert_eq!(row(Model::new().read(&input)), 0, "{index} {value}");
+    }
+    // lists of 256, of two sources
+    let mut model = Model::new();
+    for (source, list) in [around(301, 0, 256), around(299, 255, 256)].iter().enumerate() {
+        check(&mut model, &[(&format!("file {source} 300{}", words_of(list)), "new")]);
+    }
+    for (index, old) in [(10, 301), (10 + 511, 299)] {
+        check(
+            &mut model,
+            &[
+                (&format!("poke register {index} 300"), "done"),
+                ("rejudge", "refused 2"),
+                (&format!("poke register {index} {old}"), "done"),
+                ("rejudge", "changed 0"),
+            ],
+        );
+    }
 }
 
 #[test]
@@ -473,14 +644,16 @@ fn word_rules() {
 fn room_in_the_register() {
     let mut model = Model::new();
     for customer in 1..=1_024 {
-        let command = format!("file {} {customer} 5", customer % 8);
+        let command = format!("file {} {customer} 3000", customer % 8);
         check(&mut model, &[(&command, "new")]);
     }
     check(
         &mut model,
         &[
             ("file 0 1025 5", "refused 8"),
+            ("file 0 1025 1025", "refused 6"),
             ("file 0 1 5", "refused 8"),
+            ("file 0 1 0 1", "refused 6"),
             ("file 1 1 5 6 7", "replaced"),
             ("file 1 1025", "refused 6"),
             ("withdraw 1 1", "done"),
@@ -492,7 +665,7 @@ fn room_in_the_register() {
         ],
     );
     let mut model = Model::new();
-    let list = |n: usize| (0..n).map(|i| format!(" {i}")).collect::<String>();
+    let list = |n: usize| (100..).take(n).map(|i| format!(" {i}")).collect::<String>();
     for customer in 1..=32 {
         check(&mut model, &[(&format!("file 0 {customer}{}", list(256)), "new")]);
     }
@@ -500,9 +673,12 @@ fn room_in_the_register() {
         &mut model,
         &[
             ("file 0 33 5", "refused 8"),
+            ("file 0 33 33", "refused 6"),
             (&format!("file 0 32{}", list(256)), "replaced"),
+            (&format!("file 0 32 32{}", list(255)), "refused 6"),
             (&format!("file 0 32{}", list(255)), "replaced"),
             ("file 0 33 5 6", "refused 8"),
+            ("file 0 33 5 33", "refused 6"),
             ("file 0 33 5", "new"),
             (&format!("file 0 32{}", list(256)), "refused 8"),
             ("withdraw 0 33", "done"),
@@ -874,7 +1050,7 @@ fn a_full_snapshot() {
     let list = |first: u32| (first..first + 8).map(AsNumber).collect::<Vec<_>>();
     let mut model = Model::new();
     for customer in 1..=1_024 {
-        model.file(customer % 8, AsNumber(customer), &list(customer)).unwrap();
+        model.file(customer % 8, AsNumber(customer), &list(customer + 1)).unwrap();
     }
     for route in 0..512 {
         let path: Vec<u32> = (route + 1..=route + 16).collect();
@@ -1146,10 +1322,11 @@ fn random_records_of(
     for _ in 0..random.between(0, most) {
         let mut list: Vec<AsNumber> =
             (0..random.between(1, longest)).map(|_| AsNumber(random.below(9) as u32)).collect();
+        let customer = AsNumber(random.between(1, customers) as u32);
+        list.iter_mut().filter(|provider| **provider == customer).for_each(|own| own.0 = 0);
         list.sort();
         list.dedup();
-        records
-            .insert((AsNumber(random.between(1, customers) as u32), random.below(8) as u32), list);
+        records.insert((customer, random.below(8) as u32), list);
     }
     records
 }
@@ -1205,6 +1382,7 @@ fn register_by_rewriting(words: &[u32]) -> bool {
             return false;
         };
         let mut sorted = list.to_vec();
+        sorted.retain(|provider| *provider != entry[0]);
         sorted.sort();
         sorted.dedup();
         if entry[0] == 0 || entry[1] > 7 || count == 0 || count > 256 || sorted != list {

@@ -1,8 +1,8 @@
 //! The two tables as words: their rules, reading, writing out.
 
 use crate::{
-    AsNumber, Records, Route, RouteNumber, Routes, GREATEST_SOURCE, LONGEST_PATH, MOST_BODY_WORDS,
-    MOST_PROVIDERS, MOST_RECORDS, MOST_ROUTES,
+    check_list, AsNumber, Records, Route, RouteNumber, Routes, GREATEST_SOURCE, LONGEST_PATH,
+    MOST_BODY_WORDS, MOST_RECORDS, MOST_ROUTES,
 };
 
 /// What a map needs to stand for a table.
@@ -84,8 +84,7 @@ impl Form for Records {
         let each = entries.iter().all(|(entry, list)| {
             entry[0] >= 1
                 && entry[1] <= GREATEST_SOURCE
-                && (1..=MOST_PROVIDERS).contains(&list.len())
-                && list.windows(2).all(|pair| pair[0] < pair[1])
+                && check_list(AsNumber(entry[0]), &numbers(list)).is_ok()
         });
         each && entries.windows(2).all(|pair| {
             let (before, after) = (pair[0].0, pair[1].0);

@@ -7,7 +7,10 @@ use reference::attributes::{hex, segment};
 use reference::console;
 use reference::random::Random;
 use reference::snapshot::{self, number_at, parts, with, CONTENTS};
-use reference::{AsNumber, Model, Table, GREATEST_SOURCE, LONGEST_ATTRIBUTE, MOST_BODY_WORDS};
+use reference::words::{padded, Form};
+use reference::{
+    AsNumber, Model, Records, Table, GREATEST_SOURCE, LONGEST_ATTRIBUTE, MOST_BODY_WORDS,
+};
 use std::io::{self, BufWriter, Write};
 use std::process::ExitCode;
 
@@ -52,6 +55,54 @@ fn numbers(list: &[u32]) -> String {
 
 const REGISTER: &str = "register";
 const LEDGER: &str = "ledger";
+
+// Lists
+
+fn ascending(mut list: Vec<u32>) -> Vec<u32> {
+    list.sort_unstable();
+    list.dedup();
+    list
+}
+
+/// LENGTH numbers from `first` on, all but the customer.
+fn run_without(customer: u32, first: u32, length: usize) -> Vec<u32> {
+    (first..=u32::MAX).filter(|number| *number != customer).take(length).collect()
+}
+
+/// Of well-formed words of a register, used ones or all: each word and what it
+/// must become for a list to hold its own customer, all other rules being kept.
+/// Either a number of the list becomes the customer or the customer one of the
+/// list. None for other words.
+fn own_customer_pokes(words: &[u32]) -> Vec<(usize, u32)> {
+    let table = padded(words.to_vec(), Records::LENGTH.max(words.len()));
+    let whole = table.len() == Records::LENGTH && Records::used(words) <= words.len() as u64;
+    if !whole || !Records::well_formed(&table) {
+        return Vec::new();
+    }
+    let count = words[0] as usize;
+    let entries: Vec<&[u32]> = words[2..].chunks(4).take(count).collect();
+    let mut pokes = Vec::new();
+    for (nth, entry) in entries.iter().enumerate() {
+        let (customer, source) = (entry[0], entry[1]);
+        let start = 2 + 4 * count + entry[2] as usize;
+        let list = &words[start..][..entry[3] as usize];
+        for (i, provider) in list.iter().enumerate() {
+            let above = i == 0 || list[i - 1] < customer;
+            let below = list.get(i + 1).is_none_or(|next| customer < *next);
+            if above && below {
+                pokes.push((start + i, customer));
+            }
+            let after =
+                nth == 0 || (entries[nth - 1][0], entries[nth - 1][1]) < (*provider, source);
+            let before =
+                entries.get(nth + 1).is_none_or(|next| (*provider, source) < (next[0], next[1]));
+            if *provider > 0 && after && before {
+                pokes.push((2 + 4 * nth, *provider));
+            }
+        }
+    }
+    pokes
+}
 
 // Snapshots
 
@@ -121,6 +172,8 @@ impl<W: FnMut(&str, &str) -> io::Result<()>> Stream<W> {
             Self::single_words,
         ];
         phases.extend([Self::snapshots as Phase<Self>; 5]);
+        let own_customer: Phase<Self> = |s| s.damage(REGISTER, Self::poke_own_customer);
+        phases.extend([own_customer; 2]);
         phases.extend([Self::ordinary as Phase<Self>; 12]);
         for damage in [
             |s: &mut Self| s.damage(REGISTER, Self::resize),
@@ -211,6 +264,16 @@ impl<W: FnMut(&str, &str) -> io::Result<()>> Stream<W> {
         }
     }
 
+    /// A provider of `customer`, which is no provider of itself.
+    fn provider(&mut self, customer: u32) -> u32 {
+        loop {
+            let number = self.number_or_zero();
+            if number != customer {
+                return number;
+            }
+        }
+    }
+
     fn source(&mut self) -> u32 {
         match self.random.below(100) {
             0..=69 => self.random.below(3) as u32,
@@ -220,32 +283,36 @@ impl<W: FnMut(&str, &str) -> io::Result<()>> Stream<W> {
         }
     }
 
-    fn list(&mut self) -> Vec<u32> {
-        let ascending = |mut list: Vec<u32>| {
-            list.sort_unstable();
-            list.dedup();
-            list
-        };
+    /// Hardly ever with the customer in it.
+    fn list(&mut self, customer: u32) -> Vec<u32> {
         match self.random.below(100) {
             0..=69 => {
                 let length = self.random.between(1, 5);
-                ascending((0..length).map(|_| self.number_or_zero()).collect())
+                ascending((0..length).map(|_| self.provider(customer)).collect())
             }
             70..=77 => vec![0],
             78..=81 => Vec::new(),
-            82..=85 => vec![self.number(), u32::MAX],
-            86..=91 => (0..self.random.between(2, 5)).map(|_| self.number()).collect(),
-            92 | 93 => {
-                let number = self.number();
-                vec![number, number]
-            }
+            82..=85 => vec![self.provider(customer), u32::MAX],
+            86..=91 => (0..self.random.between(2, 5)).map(|_| self.provider(customer)).collect(),
+            92 | 93 => vec![self.provider(customer); 2],
             94..=97 => {
                 let length = self.random.pick(&[255, 256, 257]);
-                let first = self.random.below(3) as u32;
-                (first..first + length).collect()
+                run_without(customer, self.random.below(3) as u32, length)
             }
-            _ => (1..=self.random.between(6, 40) as u32).collect(),
+            _ => run_without(customer, 1, self.random.between(5, 39)),
         }
+    }
+
+    /// A list with the customer in it: alone, first, last or between, and mostly
+    /// with no other fault.
+    fn list_with(&mut self, customer: u32) -> Vec<u32> {
+        if self.random.percent(40) {
+            let list = self.list(customer);
+            return ascending([list, vec![customer]].concat());
+        }
+        let length = self.random.pick(&[1, 2, 2, 3, 4, 5, 255, 256, 256, 256, 257]);
+        let before = self.random.pick(&[0, length / 2, length - 1, length - 1]) as u32;
+        (customer.saturating_sub(before)..=u32::MAX).take(length).collect()
     }
 
     fn role(&mut self) -> u32 {
@@ -410,12 +477,19 @@ impl<W: FnMut(&str, &str) -> io::Result<()>> Stream<W> {
 
     fn file(&mut self) {
         let (mut source, mut customer) = (self.source(), self.number_or_zero());
-        let mut list = self.list();
+        let mut list = self.list(customer);
+        if self.random.percent(4) {
+            // Only above a greater customer is there room for long lists on both sides.
+            customer = self.random.pick(&[customer, 255, 256, 1_000]);
+            list = self.list_with(customer);
+        }
         // Several faults at once show the order of the rows.
         if self.random.percent(4) {
             source = self.random.pick(&[source, 8]);
             customer = self.random.pick(&[customer, 0]);
-            list = self.random.pick(&[list, Vec::new(), vec![2, 1]]);
+            let own = [vec![customer], vec![customer, customer], vec![customer, 0]];
+            let own = self.random.pick(&own);
+            list = self.random.pick(&[list, own, Vec::new(), vec![2, 1]]);
         }
         self.say(&format!("file {source} {customer}{}", numbers(&list)));
     }
@@ -507,7 +581,7 @@ impl<W: FnMut(&str, &str) -> io::Result<()>> Stream<W> {
             && u64::from(number_at(&file, 3)) == 20 + u64::from(number_at(&file, 2))
             && (28..length).contains(&(number_at(&file, 3) as usize))
             && length.is_multiple_of(4);
-        match self.random.below(20) {
+        match self.random.below(21) {
             0 | 1 if length > 0 => {
                 let at = self.random.below(length);
                 let steps = [1, 255, 2, 64, 128];
@@ -565,6 +639,13 @@ impl<W: FnMut(&str, &str) -> io::Result<()>> Stream<W> {
                 file = snapshot::file(&parts[0], &parts[1]);
             }
             19 => file = file.chunks(4).flat_map(|n| n.iter().rev().copied()).collect(),
+            20 if whole => {
+                let pokes = own_customer_pokes(&parts(&file)[0]);
+                if !pokes.is_empty() {
+                    let (index, customer) = self.random.pick(&pokes);
+                    file = with(&file, &[(CONTENTS / 4 + index, customer)]);
+                }
+            }
             _ => {}
         }
         file
@@ -634,9 +715,9 @@ impl<W: FnMut(&str, &str) -> io::Result<()>> Stream<W> {
             (0..8).flat_map(|source| (1..=128).map(move |customer| (source, customer))).collect();
         while !pairs.is_empty() && self.left > 0 {
             let (source, customer) = pairs.swap_remove(self.random.below(pairs.len()));
-            let first = self.number_or_zero();
-            let list =
-                if self.random.percent(30) && first < 40 { vec![first, 40] } else { vec![first] };
+            let first = self.provider(customer);
+            let two = self.random.percent(30) && first < 40 && customer != 40;
+            let list = if two { vec![first, 40] } else { vec![first] };
             self.say(&format!("file {source} {customer}{}", numbers(&list)));
         }
         self.say("file 3 200 7");
@@ -645,7 +726,8 @@ impl<W: FnMut(&str, &str) -> io::Result<()>> Stream<W> {
             let provider = self.number();
             match self.random.below(10) {
                 0..=5 => {
-                    let customer = self.random.between(100, 160);
+                    let customer = self.random.between(100, 160) as u32;
+                    let provider = self.random.pick(&[provider, provider, provider, customer]);
                     self.say(&format!("file {source} {customer} {provider}"));
                 }
                 6 => self.withdraw(),
@@ -658,6 +740,7 @@ impl<W: FnMut(&str, &str) -> io::Result<()>> Stream<W> {
         }
         self.show(REGISTER);
         self.long_snapshot();
+        self.own_customer_and_back();
         self.clear();
     }
 
@@ -677,23 +760,26 @@ impl<W: FnMut(&str, &str) -> io::Result<()>> Stream<W> {
     /// Up to 8,192 numbers in lists, then at the limit.
     fn long_lists(&mut self) {
         self.clear_all();
-        let ascending = |first: usize, length: usize| {
-            numbers(&(first..first + length).map(|n| n as u32).collect::<Vec<u32>>())
-        };
         for customer in 1..=32 {
-            let (source, first) = (self.random.below(8), self.random.below(4));
-            self.say(&format!("file {source} {customer}{}", ascending(first, 256)));
+            let (source, first) = (self.random.below(8), self.random.below(4) as u32);
+            let list = run_without(customer, first, 256);
+            self.say(&format!("file {source} {customer}{}", numbers(&list)));
         }
         self.say("file 3 200 7");
         for _ in 0..25 {
             let length = self.random.pick(&[1, 1, 2, 3, 255, 256, 256, 257]);
-            let first = self.random.below(4);
+            let first = self.random.below(4) as u32;
             let (customer, source) = match self.some_record() {
                 // the same pair, so that its own room counts
                 Some(record) if self.random.percent(50) => record,
                 _ => (self.random.between(1, 36) as u32, self.random.below(8) as u32),
             };
-            self.say(&format!("file {source} {customer}{}", ascending(first, length)));
+            let list = if self.random.percent(10) {
+                self.list_with(customer)
+            } else {
+                run_without(customer, first, length)
+            };
+            self.say(&format!("file {source} {customer}{}", numbers(&list)));
             if self.random.percent(15) {
                 self.withdraw();
             }
@@ -706,6 +792,7 @@ impl<W: FnMut(&str, &str) -> io::Result<()>> Stream<W> {
             self.show(REGISTER);
         }
         self.long_snapshot();
+        self.own_customer_and_back();
         self.clear_all();
     }
 
@@ -896,6 +983,28 @@ impl<W: FnMut(&str, &str) -> io::Result<()>> Stream<W> {
         format!("poke {table} {index} {old}")
     }
 
+    /// A list with its own customer in it, and no other fault, if one word can
+    /// do it. Gives the command that undoes it.
+    fn poke_own_customer(&mut self, table: &str) -> String {
+        let words = self.words(table);
+        let pokes = if table == REGISTER { own_customer_pokes(&words) } else { Vec::new() };
+        if pokes.is_empty() {
+            return self.poke(table);
+        }
+        let (index, value) = self.random.pick(&pokes);
+        self.say(&format!("poke {table} {index} {value}"));
+        format!("poke {table} {index} {}", words[index])
+    }
+
+    fn own_customer_and_back(&mut self) {
+        for _ in 0..3 {
+            let undo = self.poke_own_customer(REGISTER);
+            self.judge();
+            self.say(&undo);
+        }
+        self.judge();
+    }
+
     /// One word at a time, near its own bounds, looked at and put back.
     fn single_words(&mut self) {
         for _ in 0..8 {
@@ -904,8 +1013,11 @@ impl<W: FnMut(&str, &str) -> io::Result<()>> Stream<W> {
         }
         for _ in 0..50 {
             let table = self.random.pick(&[REGISTER, LEDGER]);
-            let undo =
-                if self.random.percent(40) { self.poke(table) } else { self.poke_entry(table) };
+            let undo = match self.random.below(10) {
+                0..=3 => self.poke(table),
+                4 => self.poke_own_customer(table),
+                _ => self.poke_entry(table),
+            };
             match table {
                 REGISTER => self.judge(),
                 _ => self.say("drop 4000000000"),
@@ -1012,7 +1124,7 @@ impl<W: FnMut(&str, &str) -> io::Result<()>> Stream<W> {
         if self.random.percent(50) {
             let starts = ["judge 1 200 ", "judge 1 20 ", "file 0 1", "file 0 12", "read "];
             let start = self.random.pick(&starts);
-            let repeated = if start.starts_with("file") { " 1" } else { "00" };
+            let repeated = if start.starts_with("file") { " 2" } else { "00" };
             let times = (console::LONGEST_LINE + 1 - start.len()) / 2 - self.random.below(2);
             self.say(&format!("{start}{}", repeated.repeat(times)));
         }
@@ -1036,8 +1148,8 @@ impl<W: FnMut(&str, &str) -> io::Result<()>> Stream<W> {
                 }
             }
             1 => {
-                let (source, customer, list) = (self.source(), self.number(), self.list());
-                let list = numbers(&list);
+                let (source, customer) = (self.source(), self.number());
+                let list = numbers(&self.list(customer));
                 match self.random.below(4) {
                     0 => format!("file 0{source} {customer}{list}"),
                     1 => format!("file {source} {customer}{list} "),
@@ -1111,6 +1223,9 @@ fn vectors() -> Vec<String> {
         lines.say(call);
     }
     lines.say("empty");
+    own_customers_filed(&mut lines);
+    own_customers_stored(&mut lines);
+    lines.say("empty");
     room(&mut lines);
     lines.say("empty");
     errors(&mut lines);
@@ -1133,6 +1248,10 @@ impl Lines {
 
     fn all(&mut self, lines: &[&str]) {
         lines.iter().for_each(|line| self.say(line));
+    }
+
+    fn file(&mut self, source: u32, customer: u32, list: &[u32]) {
+        self.0.push(format!("file {source} {customer}{}", numbers(list)));
     }
 
     fn judge(&mut self, role: u32, neighbour: u32, attribute: &[u8]) {
@@ -1201,7 +1320,7 @@ fn judged_vectors(lines: &mut Lines) {
     // O: a run doesn't cross a boundary
     lines.judge(1, 20, &[sequence(&[20]), sequence(&[20, 10])].concat());
     lines.keep(13, 1, 20, &[sequence(&[20]), sequence(&[20, 10])].concat());
-    // a number that lists itself
+    // a number that lists itself is refused, and O stays Invalid
     lines.say("file 5 20 20");
     lines.judge(1, 20, &[sequence(&[20]), sequence(&[20, 10])].concat());
     lines.all(&["rejudge", "ledger"]);
@@ -1280,7 +1399,7 @@ fn attributes(lines: &mut Lines) {
     for number in 1..=64u32 {
         let list: Vec<u32> =
             [number - 1, number + 1].into_iter().filter(|n| (1..=64).contains(n)).collect();
-        lines.say(&format!("file 3 {number}{}", numbers(&list)));
+        lines.file(3, number, &list);
     }
     lines.judge(6, 1, &sequence(&upto(64)));
     lines.judge(2, 1, &sequence(&upto(64)));
@@ -1298,9 +1417,9 @@ fn argument_refusals(lines: &mut Lines) {
     let upto = |n: u32| (1..=n).collect::<Vec<u32>>();
     lines.all(&["file 8 1 2", "file 4294967295 1 2", "file 8 0", "file 0 0 2", "file 7 0"]);
     lines.all(&["file 0 1", "file 0 1 2 2", "file 0 1 3 2", "file 0 1 0 0", "file 0 1 0"]);
-    lines.say(&format!("file 0 1{}", numbers(&upto(257))));
-    lines.say(&format!("file 0 1{}", numbers(&upto(256))));
-    lines.all(&["file 7 1 0 4294967295", "file 0 4294967295 4294967295", "register"]);
+    lines.file(0, 1, &run_without(1, 0, 257));
+    lines.file(0, 1, &run_without(1, 0, 256));
+    lines.all(&["file 7 1 0 4294967295", "file 0 4294967295 4294967294", "register"]);
     lines.all(&["withdraw 8 1", "withdraw 8 0", "withdraw 0 0", "withdraw 0 2", "withdraw 1 1"]);
     lines.all(&[
         "withdraw 0 1", "withdraw 0 1", "clear 8", "clear 1", "clear 7", "clear 7", "register",
@@ -1424,7 +1543,6 @@ fn one_rule_broken() -> Vec<(Vec<String>, Vec<String>, &'static str)> {
     let pokes = |table: &str, words: &[(usize, u32)]| {
         words.iter().map(|(index, value)| format!("poke {table} {index} {value}")).collect()
     };
-    let upto = |n: u32| (0..n).collect::<Vec<u32>>();
     let file = |customer: u32, list: &[u32]| format!("file 0 {customer}{}", numbers(list));
     // From a route server, so that the first number is free
     let keep = |route: u32, length: u32| {
@@ -1438,13 +1556,13 @@ fn one_rule_broken() -> Vec<(Vec<String>, Vec<String>, &'static str)> {
         (vec![file(1, &[5]), file(2, &[6])], pokes(REGISTER, &[(5, 0), (8, 0), (9, 2)]), judge),
         // a list of 257: one more, taken from the second record
         (
-            vec![file(1, &upto(256)), file(2, &[1_000, 2_000])],
+            vec![file(1, &run_without(1, 0, 256)), file(2, &[1_000, 2_000])],
             pokes(REGISTER, &[(5, 257), (8, 257), (9, 1)]),
             judge,
         ),
         // 1,025 records: the first body words become an entry, zeros the new body words
         (
-            (1..=1_024).map(|customer| file(customer, &[5])).collect(),
+            (1..=1_024).map(|customer| file(customer, &[3_000])).collect(),
             pokes(
                 REGISTER,
                 &[(0, 1_025), (1, 1_025), (4_098, 2_000), (4_099, 0), (4_100, 1_024), (4_101, 1)],
@@ -1454,8 +1572,8 @@ fn one_rule_broken() -> Vec<(Vec<String>, Vec<String>, &'static str)> {
         // 8,193 body words: list 32 takes the number of list 33, which gets a new one
         (
             (1..=31)
-                .map(|customer| file(customer, &upto(256)))
-                .chain([file(32, &upto(255)), file(33, &[1_000])])
+                .map(|customer| file(customer, &run_without(customer, 0, 256)))
+                .chain([file(32, &run_without(32, 0, 255)), file(33, &[1_000])])
                 .collect(),
             pokes(
                 REGISTER,
@@ -1470,6 +1588,8 @@ fn one_rule_broken() -> Vec<(Vec<String>, Vec<String>, &'static str)> {
         ),
         // one pair twice
         (vec![file(1, &[5]), file(2, &[6])], pokes(REGISTER, &[(6, 1)]), judge),
+        // a list with its own customer
+        (vec![file(1, &[5]), file(2, &[6])], pokes(REGISTER, &[(11, 2)]), judge),
         // a path of no number
         (vec![keep(1, 1), keep(2, 1)], pokes(LEDGER, &[(10, 0), (18, 0), (19, 2)]), drop),
         // a path under a ground
@@ -1506,24 +1626,137 @@ fn one_rule_broken() -> Vec<(Vec<String>, Vec<String>, &'static str)> {
     ]
 }
 
+/// Lists with the customer in all places, and those lists without it.
+fn own_customers_filed(lines: &mut Lines) {
+    for (customer, length, befores) in [
+        (1, 1, &[0][..]),
+        (1, 2, &[0, 1]),
+        (300, 1, &[0]),
+        (300, 2, &[0, 1]),
+        (300, 3, &[0, 1, 2]),
+        (300, 256, &[0, 1, 127, 128, 254, 255]),
+    ] {
+        for before in befores {
+            let first: u32 = customer - before;
+            lines.file(2, customer, &(first..).take(length).collect::<Vec<u32>>());
+            lines.say("register");
+            lines.file(2, customer, &run_without(customer, first, length));
+        }
+        lines.say("register");
+    }
+    lines.all(&["file 2 4294967295 4294967295", "file 2 4294967295 0 4294967294 4294967295"]);
+    lines.all(&["file 2 4294967295 0 4294967294", "file 2 4294967294 4294967295", "register"]);
+    // numbers far apart, and the same list under another customer
+    lines.say("empty");
+    for list in ["5 300 70000", "0 300", "300 4294967295", "0 1 2 300"] {
+        lines.all(&[&format!("file 0 300 {list}"), &format!("file 0 301 {list}")]);
+    }
+    lines.say("register");
+    // numbers that differ in one byte only
+    lines.all(&["file 0 4 260 65540 16777220 2147483652", "file 0 65540 4", "rejudge", "register"]);
+    // what is stored stays, the customer's other lists too
+    lines.all(&["empty", "file 0 40 41", "file 2 40 43", "register"]);
+    lines.all(&["file 0 40 40", "file 1 40 40", "file 2 40 40 43", "file 3 40 39 40", "register"]);
+    lines.all(&["file 1 40 42", "file 3 40 41", "register"]);
+    // one number is another's provider, and that one its
+    lines.all(&["empty", "file 0 5 6", "file 0 6 5", "file 1 5 6", "file 1 6 5", "register"]);
+    lines.judge(6, 6, &sequence(&[6, 5]));
+    lines.all(&["file 0 20 20 30", "file 0 21 20 30", "file 0 30 20 30", "file 0 19 20 30"]);
+    lines.say("register");
+    // 4 and 5 go before 6; other faults of the list beside this one
+    lines.all(&["file 0 0 0", "file 7 0 0 1", "file 8 7 7", "file 8 0 0", "file 4294967295 7 7"]);
+    lines
+        .all(&["file 0 7 7 7", "file 0 7 8 7", "file 0 7 7 6", "file 0 7 6 7 7", "file 0 7 0 0 7"]);
+    lines.file(0, 7, &(7..7 + 257).collect::<Vec<u32>>());
+    lines.file(0, 7, &(0..257).collect::<Vec<u32>>());
+    lines.say("register");
+}
+
+/// Near numbers: in each list one word can put the customer first, between and
+/// last, all other rules being kept.
+const NEAR: [&str; 5] = [
+    "file 0 10 9 11 12", "file 0 20 18 19 22", "file 3 20 21 22 23", "file 7 30 28 31 32",
+    "keep 7 1 20 0202000000140000000a",
+];
+
+/// Registers and snapshots in which a list holds its own customer.
+fn own_customers_stored(lines: &mut Lines) {
+    let file = file_after(&NEAR);
+    let [words, _] = parts(&file);
+    let pokes = own_customer_pokes(&words);
+    let calls = [
+        "file 9 0", "file 0 10 9", "file 1 10 10", "withdraw 9 0", "withdraw 0 10", "clear 9",
+        "clear 5", "judge 9 0 02", "judge 1 5 -", "keep 7 9 0 02", "keep 8 1 5 -", "rejudge",
+        "write 0", "write 131072",
+    ];
+    lines.say("empty");
+    lines.all(&NEAR);
+    lines.write(131_072);
+    for (index, value) in &pokes {
+        lines.say(&format!("poke register {index} {value}"));
+        lines.all(&calls);
+        // a ledger alone is lent to this one
+        lines.all(&["drop 9", "words register"]);
+        lines.say(&format!("poke register {index} {}", words[*index]));
+        lines.all(&["clear 5", "rejudge"]);
+    }
+    lines.say("register");
+    // mended by another word: the list goes to another customer
+    lines.all(&["poke register 18 10", "rejudge", "poke register 2 9", "rejudge", "register"]);
+    lines.judge(1, 10, &sequence(&[10, 9]));
+    lines.all(&["file 1 10 9", "file 1 9 9", "keep 8 1 5 -"]);
+    // as snapshots, which leave the tables; then one of them with other faults
+    lines.write(131_072);
+    for (index, value) in &pokes {
+        lines.read(&with(&file, &[(CONTENTS / 4 + index, *value)]));
+    }
+    lines.write(131_072);
+    let (index, value) = pokes[0];
+    let own = with(&file, &[(CONTENTS / 4 + index, value)]);
+    for other in [(CONTENTS / 4 + words.len(), 9), (0, 2), (1, 24)] {
+        lines.read(&with(&own, &[other]));
+    }
+    lines.read(&own[..file.len() - 1]);
+    lines.write(131_072);
+    lines.read_and_write(&file);
+    // read over a register with this fault, which a refused read leaves
+    lines.say(&format!("poke register {index} {value}"));
+    lines.read(&own);
+    lines.all(&SHOW);
+    lines.read(&file);
+    lines.all(&SHOW);
+    lines.say("rejudge");
+    // lists of 256, each of another source of the customer
+    lines.say("empty");
+    for (source, first) in [(0, 301), (1, 172), (2, 44)] {
+        lines.file(source, 300, &run_without(300, first, 256));
+    }
+    for (index, old) in [(14, 301), (14 + 256 + 127, 299), (14 + 256 + 128, 301), (14 + 767, 299)] {
+        lines.all(&["judge 1 5 -", &format!("poke register {index} 300"), "judge 1 5 -"]);
+        lines.say(&format!("poke register {index} {old}"));
+    }
+    lines.all(&["judge 1 5 -", "file 1 300 299 301", "register"]);
+}
+
 fn room(lines: &mut Lines) {
     for customer in 1..=1_024 {
-        lines.say(&format!("file {} {customer} 5", customer % 8));
+        lines.file(customer % 8, customer, &[3_000]);
     }
     lines.all(&["file 0 1025 5", "file 0 1 5", "file 1 1025", "file 1 1 5 6 7", "register"]);
+    // 6 goes before 8
+    lines.all(&["file 0 1025 1025", "file 0 1 1 2"]);
     lines.all(&["withdraw 1 1", "file 0 1025 5", "file 1 1 5", "clear 3", "clear 3", "file 3 3 5"]);
     lines.say("empty");
-    let upto = |n: u32| numbers(&(0..n).collect::<Vec<u32>>());
     for customer in 1..=32 {
-        lines.say(&format!("file 0 {customer}{}", upto(256)));
+        lines.file(0, customer, &run_without(customer, 0, 256));
     }
-    lines.say("file 0 33 5");
-    lines.say(&format!("file 0 32{}", upto(256)));
-    lines.say(&format!("file 0 32{}", upto(255)));
-    lines.all(&["file 0 33 5 6", "file 0 33 5"]);
-    lines.say(&format!("file 0 32{}", upto(256)));
+    lines.all(&["file 0 33 5", "file 0 33 33"]);
+    lines.file(0, 32, &run_without(32, 0, 256));
+    lines.file(0, 32, &run_without(32, 0, 255));
+    lines.all(&["file 0 33 5 6", "file 0 33 5 33", "file 0 33 5"]);
+    lines.file(0, 32, &run_without(32, 0, 256));
     lines.say("withdraw 0 33");
-    lines.say(&format!("file 0 32{}", upto(256)));
+    lines.file(0, 32, &run_without(32, 0, 256));
     lines.all(&["clear 0", "register"]);
     for route in 0..512 {
         lines.keep(route, 1, 5, &[]);
@@ -1557,7 +1790,7 @@ fn errors(lines: &mut Lines) {
     // the longest line, and lines past it
     lines.say(&format!("judge 1 200 {}", "0".repeat(262_132)));
     lines.say(&format!("judge 1 20 {}", "0".repeat(262_134)));
-    lines.say(&format!("file 0 1{}", " 1".repeat(131_068)));
+    lines.say(&format!("file 0 1{}", " 2".repeat(131_068)));
     // the longest input that a line has room for, and one byte more
     let [longest, longer] = [131_069, 131_070].map(|length| {
         let mut input = snapshot::file(&[0, 0], &[0, 0]);
@@ -1615,7 +1848,7 @@ fn snapshots_of_tables(lines: &mut Lines) {
     lines.all(&SHOW);
     lines.write(small.len() - 1);
     lines.write(small.len());
-    lines.say("file 7 4294967295 4294967295");
+    lines.say("file 7 4294967295 4294967294");
     lines.keep(4_294_967_295, 4, 4_294_967_295, &sequence(&[4_294_967_295, 1]));
     lines.write(131_072);
     lines.read(&filled);
@@ -1855,8 +2088,9 @@ fn snapshots_and_damaged_tables(lines: &mut Lines) {
 fn full_snapshot(lines: &mut Lines) {
     let start = lines.0.len();
     for customer in 1..=1_024u32 {
-        let list: Vec<u32> = (customer + 1..=customer + 8).collect();
-        lines.say(&format!("file {} {customer}{}", customer % 8, numbers(&list)));
+        // The last list goes up to its customer, which one word then puts into it.
+        let first = if customer < 1_024 { customer + 1 } else { customer - 8 };
+        lines.file(customer % 8, customer, &run_without(customer, first, 8));
     }
     for route in 0..512u32 {
         let path: Vec<u32> = (1..=16).map(|n| 2 * route + n).rev().collect();
@@ -1871,6 +2105,11 @@ fn full_snapshot(lines: &mut Lines) {
     lines.read(&file);
     lines
         .all(&["write 100387", "file 0 1025 1", "keep 512 1 5 -", "rejudge", "register", "ledger"]);
+    // the first list and the last word of the register with the own customer
+    for (index, customer, old) in [(4_098, 1, 2), (12_289, 1_024, 1_023)] {
+        lines.all(&[&format!("poke register {index} {customer}"), "rejudge", "write 131072"]);
+        lines.all(&[&format!("poke register {index} {old}"), "rejudge"]);
+    }
     // one word more than the table has; as many as it has, of which two are used
     lines.read(&with(&file[..20], &[(2, 49_164), (3, 49_184)]));
     lines.read(&with(&file[..20], &[(4, 51_212)]));
@@ -1893,11 +2132,10 @@ fn odd_lines() -> Vec<Vec<u8>> {
         "register", "resize register 0", "register", "words register", "resize register 1",
         "register", "resize register 12290", "words register", "empty", "empty 1", "empty ",
     ]);
-    let upto = |n: u32| numbers(&(1..=n).collect::<Vec<u32>>());
-    lines.say(&format!("file 0 1{}", upto(3_199)));
-    lines.say(&format!("file 0 1{}", " 1".repeat(8_187)));
-    lines.say(&format!("file 0 1{}", " 1".repeat(8_188)));
-    lines.say(&format!("file 0 1{}", upto(256)));
+    lines.file(0, 1, &run_without(1, 0, 3_199));
+    lines.say(&format!("file 0 1{}", " 2".repeat(8_187)));
+    lines.say(&format!("file 0 1{}", " 2".repeat(8_188)));
+    lines.file(0, 1, &run_without(1, 0, 256));
     lines.all(&[
         "register", "poke ledger 0 1", "poke ledger 1 4294967295", "ledger", "poke tables 0 1",
         "resize tables 5", "words tables", "words", "words register ledger", "register 1", "empty",
@@ -1939,6 +2177,122 @@ mod tests {
         ("write", &[1, 2, 3, 21]),
         ("read", &[1, 2, 3, 22, 23, 24]),
     ];
+
+    /// The words with twice the customers, and providers that are odd: each rule
+    /// says of them what it said, but no list holds its customer.
+    fn apart(words: &[u32]) -> Option<Vec<u32>> {
+        let mut words = words.to_vec();
+        let used = Records::used(&words).min(words.len() as u64) as usize;
+        let entries = 4 * (*words.first()?).min(2_000) as usize;
+        for (index, word) in words[..used].iter_mut().enumerate().skip(2) {
+            let provider = index >= 2 + entries;
+            if provider || index % 4 == 2 {
+                *word = word.checked_mul(2)? + u32::from(provider);
+            }
+        }
+        Some(words)
+    }
+
+    /// False for some words that hold great numbers.
+    fn only_own_customer(words: &[u32]) -> bool {
+        let well_formed = |words: &[u32]| {
+            Records::used(words) <= words.len() as u64
+                && words.len() <= Records::LENGTH
+                && Records::well_formed(&padded(words.to_vec(), Records::LENGTH))
+        };
+        !well_formed(words) && apart(words).is_some_and(|words| well_formed(&words))
+    }
+
+    #[test]
+    fn pokes_of_an_own_customer_are_no_other_fault() {
+        let file = file_after(&NEAR);
+        let words = &parts(&file)[0];
+        let pokes = own_customer_pokes(words);
+        assert_eq!(pokes.len(), 18);
+        for record in 0..4 {
+            for place in 0..3 {
+                let start = 2 + 4 * 4 + 3 * record;
+                let there = |(index, value): &(usize, u32)| {
+                    (*index == start + place && *value == words[2 + 4 * record])
+                        || (*index == 2 + 4 * record && *value == words[start + place])
+                };
+                assert!(pokes.iter().any(there), "record {record}, place {place}");
+            }
+        }
+        let mut model = Model::new();
+        let mut checked = 0;
+        random_stream(31, 6_000, |line, _| {
+            console::answer(&mut model, line.as_bytes());
+            let words = model.register.used_words();
+            if line.starts_with("clear") && words.len() < 300 {
+                for (index, value) in own_customer_pokes(&words) {
+                    let mut poked = words.clone();
+                    poked[index] = value;
+                    if apart(&poked).is_some() {
+                        assert!(only_own_customer(&poked), "{index} {value} {words:?}");
+                        checked += 1;
+                    }
+                }
+            }
+            Ok(())
+        })
+        .unwrap();
+        assert!(checked > 200, "{checked}");
+    }
+
+    /// Where a list holds its customer.
+    fn place(list: &[u32], customer: u32) -> Option<String> {
+        let at = list.iter().position(|number| *number == customer)?;
+        let place = match at {
+            0 if list.len() == 1 => "alone",
+            0 => "first",
+            _ if at + 1 == list.len() => "last",
+            _ => "between",
+        };
+        Some(format!("{place}{}", if list.len() == 256 { " of 256" } else { "" }))
+    }
+
+    /// Filings, pokes and reads with an own customer and no other fault.
+    #[test]
+    fn own_customers_are_drawn() {
+        let mut seen: BTreeMap<String, usize> = BTreeMap::new();
+        for seed in 1..=4 {
+            let mut model = Model::new();
+            random_stream(seed, 8_000, |line, answer| {
+                let before = model.register.well_formed();
+                console::answer(&mut model, line.as_bytes());
+                let words: Vec<&str> = line.split(' ').collect();
+                let kind = match (words[0], answer) {
+                    ("file", "refused 6") => {
+                        let list: Vec<u32> =
+                            words[2..].iter().map(|word| word.parse().unwrap()).collect();
+                        let (customer, list) = (list[0], &list[1..]);
+                        let other = list.len() > 256 || list != ascending(list.to_vec());
+                        place(list, customer).filter(|_| !other)
+                    }
+                    ("poke", _) if before => {
+                        only_own_customer(&model.register.words()).then(|| "poke".to_string())
+                    }
+                    ("read", "refused 2") => {
+                        let [register, _] = parts(&console::bytes(words[1]).unwrap());
+                        only_own_customer(&register).then(|| "read".to_string())
+                    }
+                    _ => None,
+                };
+                if let Some(kind) = kind {
+                    *seen.entry(kind).or_default() += 1;
+                }
+                Ok(())
+            })
+            .unwrap();
+        }
+        for kind in [
+            "alone", "first", "between", "last", "first of 256", "between of 256", "last of 256",
+            "poke", "read",
+        ] {
+            assert!(seen.get(kind).is_some_and(|count| *count >= 4), "{kind}: {seen:?}");
+        }
+    }
 
     /// How often each call gave each kind of answer.
     #[derive(Default)]
