@@ -2,8 +2,7 @@ pub mod Entries
 pub mod Holding
 pub mod Lists
 pub mod Members
-pub mod Halving
-pub mod Descending
+pub mod Counting
 pub mod Checking
 pub mod Looking
 pub mod Uniting
