@@ -2,7 +2,8 @@
 use crate::plain::{self, ROUTE};
 use crate::work::{self, attribute, numbers, Random, Work, ROUTES};
 use aspa_filter::{
-    AsNumber, Filed, Ledger, Refusal, Register, Role, MOST_PROVIDER_WORDS, MOST_RECORDS,
+    AsNumber, Filed, Ledger, Refusal, Register, Role, MOST_PROVIDERS, MOST_PROVIDER_WORDS,
+    MOST_RECORDS,
 };
 use std::fmt;
 use std::hash::{DefaultHasher, Hash, Hasher};
@@ -77,7 +78,7 @@ impl fmt::Display for What {
 }
 
 pub struct Cases {
-    /// The first are those of the main figure, the others those of the table of medians.
+    /// The first are those of the main figure, the others those of the table of medians, the longest lists last.
     pub tables: Vec<Tables>,
     pub calls: Vec<Call>,
     random: Random,
@@ -88,34 +89,39 @@ impl Cases {
         let mut random = Random(0x9E37_79B9_7F4A_7C15);
         let work = work::make(&mut random, &work::ALL, MOST_RECORDS, 8);
         let (register, stale) = work.tables();
-        let calls = calls(&work, &register).into_iter();
-        #[cfg(feature = "snapshots")]
-        let calls = calls.chain(crate::snapshots::calls(&register, &stale));
-        let mut cases = Cases {
-            calls: calls.collect(),
-            tables: vec![Tables {
-                name: "main".into(),
-                register,
-                stale,
-            }],
-            random: random.clone(),
-        };
+        let changes = random.clone();
+        let mut tables = vec![Tables {
+            name: "main".into(),
+            register,
+            stale,
+        }];
         let sorts = std::iter::once(&work::ALL).chain(&work::OTHERS);
         let sorts = sorts.map(|sort| (sort.name.to_string(), sort, MOST_RECORDS, 8));
-        let lengths = [1, 16, 64, 256].map(|providers| {
+        let lengths = [1, 16, 64, MOST_PROVIDERS].map(|providers| {
             let records = (MOST_PROVIDER_WORDS / providers).min(MOST_RECORDS);
             let name = format!("{records} records of {providers}");
             (name, &work::ALL, records, providers)
         });
         for (name, sort, records, providers) in sorts.chain(lengths) {
             let (register, stale) = work::make(&mut random, sort, records, providers).tables();
-            cases.tables.push(Tables {
+            tables.push(Tables {
                 name,
                 register,
                 stale,
             });
         }
-        cases
+        let long = &tables[tables.len() - 1].register;
+        let calls = calls(&work, &tables[0].register, long).into_iter();
+        #[cfg(feature = "snapshots")]
+        let calls = calls.chain(crate::snapshots::calls(
+            &tables[0].register,
+            &tables[0].stale,
+        ));
+        Cases {
+            calls: calls.collect(),
+            tables,
+            random: changes,
+        }
     }
 
     pub fn time(&self, what: What, round: usize) -> Timed {
@@ -200,7 +206,8 @@ impl Cases {
 /// How many damaged tables are compared.
 pub const CHANGED: usize = 4000;
 
-fn calls(work: &Work, register: &Register) -> Vec<Call> {
+/// Over the main register and over one of the longest lists.
+fn calls(work: &Work, register: &Register, long: &Register) -> Vec<Call> {
     fn call(name: &'static str, run: impl Fn(usize) -> Timed + 'static) -> Call {
         Call {
             name,
@@ -223,7 +230,7 @@ fn calls(work: &Work, register: &Register) -> Vec<Call> {
             Timed { nanoseconds, check }
         }
     };
-    let rejudge_none = {
+    let rejudge_none = |register: &Register| {
         let register = register.clone();
         move |_| {
             let mut none = Ledger::new();
@@ -273,8 +280,26 @@ fn calls(work: &Work, register: &Register) -> Vec<Call> {
             Timed { nanoseconds, check }
         }
     };
+    // Into the empty register, so that what it takes is of the list alone.
+    let file_long = {
+        let record = long.records().nth(16).expect("one of 32");
+        let (customer, list) = (record.customer, record.providers.to_vec());
+        assert_eq!(list.len(), MOST_PROVIDERS);
+        move |_| {
+            let mut register = Register::new();
+            let (nanoseconds, r) =
+                time(|| black_box(&mut register).file(0, customer, black_box(&list)));
+            assert_eq!(r, Ok(Filed::New));
+            let check = hash(register.words());
+            Timed { nanoseconds, check }
+        }
+    };
     vec![
-        call("re-judge of no route", rejudge_none),
+        call("re-judge of no route", rejudge_none(register)),
+        call(
+            "re-judge of no route, 32 records of 256",
+            rejudge_none(long),
+        ),
         call("judge, path of 5, role 1", judge(register, Role::Customer)),
         call("judge, path of 5, role 3", judge(register, Role::Provider)),
         call(
@@ -282,6 +307,7 @@ fn calls(work: &Work, register: &Register) -> Vec<Call> {
             judge(&Register::new(), Role::Provider),
         ),
         call("file at the front, up to a full register", file),
+        call("file a list of 256 into the empty register", file_long),
         call("withdraw at the front of a full register", withdraw),
         call("clear a full register of one source", clear),
     ]
