@@ -307,7 +307,7 @@ fn calls(work: &Work, register: &Register, long: &Register) -> Vec<Call> {
             judge(&Register::new(), Role::Provider),
         ),
         call("file at the front, up to a full register", file),
-        call("file a list of 256 into the empty register", file_long),
+        call("file a list of 256, empty register", file_long),
         call("withdraw at the front of a full register", withdraw),
         call("clear a full register of one source", clear),
     ]
