@@ -5,6 +5,7 @@ use aspa_filter::{
     AsNumber, Filed, Ledger, Refusal, Register, Role, MOST_PROVIDERS, MOST_PROVIDER_WORDS,
     MOST_RECORDS,
 };
+use std::cell::RefCell;
 use std::fmt;
 use std::hash::{DefaultHasher, Hash, Hasher};
 use std::hint::black_box;
@@ -206,7 +207,17 @@ impl Cases {
 /// How many damaged tables are compared.
 pub const CHANGED: usize = 4000;
 
-/// Over the main register and over one of the longest lists.
+/// The check of a register and of an empty ledger.
+fn check(register: &Register) -> Timed {
+    let mut none = Ledger::new();
+    let (nanoseconds, r) = time(|| black_box(&mut none).rejudge(black_box(register)));
+    assert_eq!(r, Ok(0));
+    let check = hash(none.words());
+    Timed { nanoseconds, check }
+}
+
+/// Over the main register and over one of the longest lists. A processor comes to know the branches of a register that is checked again
+/// and again; "new lists" are other ones in every run.
 fn calls(work: &Work, register: &Register, long: &Register) -> Vec<Call> {
     fn call(name: &'static str, run: impl Fn(usize) -> Timed + 'static) -> Call {
         Call {
@@ -232,13 +243,11 @@ fn calls(work: &Work, register: &Register, long: &Register) -> Vec<Call> {
     };
     let rejudge_none = |register: &Register| {
         let register = register.clone();
-        move |_| {
-            let mut none = Ledger::new();
-            let (nanoseconds, r) = time(|| black_box(&mut none).rejudge(black_box(&register)));
-            assert_eq!(r, Ok(0));
-            let check = hash(none.words());
-            Timed { nanoseconds, check }
-        }
+        move |_| check(&register)
+    };
+    let rejudge_none_anew = |register: &Register| {
+        let (register, random) = (register.clone(), RefCell::new(Random(1)));
+        move |_| check(&work::with_other_lists(&register, &mut random.borrow_mut()))
     };
     let (front, list) = (AsNumber(work.customers[0]), numbers(&work.lists[0]));
     let without = {
@@ -297,8 +306,16 @@ fn calls(work: &Work, register: &Register, long: &Register) -> Vec<Call> {
     vec![
         call("re-judge of no route", rejudge_none(register)),
         call(
+            "re-judge of no route, new lists",
+            rejudge_none_anew(register),
+        ),
+        call(
             "re-judge of no route, 32 records of 256",
             rejudge_none(long),
+        ),
+        call(
+            "re-judge of no route, 32 new lists of 256",
+            rejudge_none_anew(long),
         ),
         call("judge, path of 5, role 1", judge(register, Role::Customer)),
         call("judge, path of 5, role 3", judge(register, Role::Provider)),
