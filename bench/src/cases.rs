@@ -1,5 +1,5 @@
 //! What is timed. Every process makes the same cases, in the same order, from the same random numbers.
-use crate::plain::{self, ROUTE};
+use crate::plain::{self, RECORD, ROUTE};
 use crate::work::{self, attribute, numbers, Random, Work, ROUTES};
 use aspa_filter::{
     AsNumber, Filed, Ledger, Refusal, Register, Role, MOST_PROVIDERS, MOST_PROVIDER_WORDS,
@@ -192,6 +192,29 @@ impl Cases {
             refused += answer.is_err() as usize;
         }
         (refused, ends.finish())
+    }
+
+    /// Each list of the main register in turn with its own customer in it: refused by 2, by the library and by plain Rust. Apart from
+    /// `compare`, since libraries before that rule answer otherwise. Answers how many lists there are.
+    pub fn compare_own_customers(&self) -> usize {
+        let Tables {
+            register, stale, ..
+        } = &self.tables[0];
+        let mut start = 2 + RECORD * register.records().count();
+        for record in register.records() {
+            let (customer, list) = (record.customer, record.providers);
+            let at = list.partition_point(|number| *number < customer);
+            let mut words = register.words().to_vec();
+            words[start + at.min(list.len() - 1)] = customer.0;
+            start += list.len();
+            for (_, rejudge) in PLAIN {
+                let mut ledger = stale.words().to_vec();
+                assert_eq!(rejudge(&words, &mut ledger), Err(2), "plain Rust");
+            }
+            let answer = stale.clone().rejudge(&Register::from_words(words));
+            assert_eq!(answer, Err(Refusal::RegisterMalformed), "the library");
+        }
+        register.records().count()
     }
 
     /// The same of snapshots, written of changed tables and read when they are changed. Answers how many were refused.
