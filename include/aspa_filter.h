@@ -38,9 +38,9 @@ extern "C" {
 
 /* The version of this header and of the library that is installed with it. */
 #define ASPA_FILTER_VERSION_MAJOR 0
-#define ASPA_FILTER_VERSION_MINOR 3
+#define ASPA_FILTER_VERSION_MINOR 4
 #define ASPA_FILTER_VERSION_PATCH 0
-#define ASPA_FILTER_VERSION "0.3.0"
+#define ASPA_FILTER_VERSION "0.4.0"
 
 /* gcc and clang warn about a call whose result is not used. */
 #if defined(__GNUC__) || defined(__clang__)
@@ -132,30 +132,30 @@ extern "C" {
  * The table of refusals: the number of each row, its name and its sentence. ASPA_REFUSED_TABLE_LENGTH is 1, and so on.
  * Rows 12 to 16 come with a place in the attribute.
  */
-#define ASPA_REFUSALS(ROW)                                                                                    \
-    ROW(1, TABLE_LENGTH, "a lent table has the wrong length")                                                 \
-    ROW(2, REGISTER_MALFORMED, "the register breaks its word rules")                                          \
-    ROW(3, LEDGER_MALFORMED, "the ledger breaks its word rules")                                              \
-    ROW(4, SOURCE, "the source is above the greatest source")                                                 \
-    ROW(5, CUSTOMER, "the customer is 0")                                                                     \
-    ROW(6, PROVIDERS, "the provider list is empty, too long or not strictly ascending")                       \
-    ROW(7, NO_RECORD, "the source has no record for the customer")                                            \
-    ROW(8, REGISTER_FULL, "the register has no room for the list")                                            \
-    ROW(9, ROLE, "the role is outside 1 to 6")                                                                \
-    ROW(10, NEIGHBOUR, "the neighbour is 0")                                                                  \
-    ROW(11, ATTRIBUTE_LENGTH, "the attribute has too many bytes")                                             \
-    ROW(12, CUT_SHORT, "a segment is cut short")                                                              \
-    ROW(13, SEGMENT_TYPE, "a segment's type is 0 or above 4")                                                 \
-    ROW(14, CONFEDERATION, "a segment is of a confederation (type 3 or 4)")                                   \
-    ROW(15, SEGMENT_EMPTY, "a segment has no numbers")                                                        \
-    ROW(16, AS_ZERO, "an AS number is 0")                                                                     \
-    ROW(17, PATH_LENGTH, "the merged path has too many numbers")                                              \
-    ROW(18, ROUTE_TAKEN, "the route number is taken")                                                         \
-    ROW(19, NO_ROUTE, "the ledger has no such route")                                                         \
-    ROW(20, LEDGER_FULL, "the ledger has no room for the route")                                              \
-    ROW(21, OUTPUT_LENGTH, "the output is too short for the file")                                            \
-    ROW(22, EDITION, "the file's edition is unknown")                                                         \
-    ROW(23, CONTENTS, "the file's contents are wrong")                                                        \
+#define ASPA_REFUSALS(ROW)                                                                                         \
+    ROW(1, TABLE_LENGTH, "a lent table has the wrong length")                                                      \
+    ROW(2, REGISTER_MALFORMED, "the register breaks its word rules")                                               \
+    ROW(3, LEDGER_MALFORMED, "the ledger breaks its word rules")                                                   \
+    ROW(4, SOURCE, "the source is above the greatest source")                                                      \
+    ROW(5, CUSTOMER, "the customer is 0")                                                                          \
+    ROW(6, PROVIDERS, "the provider list is empty, too long or not strictly ascending, or holds its own customer") \
+    ROW(7, NO_RECORD, "the source has no record for the customer")                                                 \
+    ROW(8, REGISTER_FULL, "the register has no room for the list")                                                 \
+    ROW(9, ROLE, "the role is outside 1 to 6")                                                                     \
+    ROW(10, NEIGHBOUR, "the neighbour is 0")                                                                       \
+    ROW(11, ATTRIBUTE_LENGTH, "the attribute has too many bytes")                                                  \
+    ROW(12, CUT_SHORT, "a segment is cut short")                                                                   \
+    ROW(13, SEGMENT_TYPE, "a segment's type is 0 or above 4")                                                      \
+    ROW(14, CONFEDERATION, "a segment is of a confederation (type 3 or 4)")                                        \
+    ROW(15, SEGMENT_EMPTY, "a segment has no numbers")                                                             \
+    ROW(16, AS_ZERO, "an AS number is 0")                                                                          \
+    ROW(17, PATH_LENGTH, "the merged path has too many numbers")                                                   \
+    ROW(18, ROUTE_TAKEN, "the route number is taken")                                                              \
+    ROW(19, NO_ROUTE, "the ledger has no such route")                                                              \
+    ROW(20, LEDGER_FULL, "the ledger has no room for the route")                                                   \
+    ROW(21, OUTPUT_LENGTH, "the output is too short for the file")                                                 \
+    ROW(22, EDITION, "the file's edition is unknown")                                                              \
+    ROW(23, CONTENTS, "the file's contents are wrong")                                                             \
     ROW(24, SNAPSHOT_LENGTH, "the file is cut short, or longer than its contents say")
 
 /* What a call returns. */
@@ -177,7 +177,9 @@ enum {
 
 /*
  * Files the list of providers of a customer, as one source attests it, and replaces only what that source filed for
- * that customer before. The list ascends strictly; 0 in it matches nobody. Rows 1, 2, 4, 5, 6, 8.
+ * that customer before. The list ascends strictly and does not hold the customer itself; 0 in it matches nobody. Rows
+ * 1, 2, 4, 5, 6, 8. A register in which a list holds its own record's customer is malformed, in a snapshot too; before
+ * 0.4.0 it was not.
  *   out[0]: ASPA_NEW, or ASPA_REPLACED. On a refusal ASPA_NOT_FILED.
  */
 ASPA_USE_RESULT

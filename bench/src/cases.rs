@@ -1,9 +1,11 @@
 //! What is timed. Every process makes the same cases, in the same order, from the same random numbers.
-use crate::plain::{self, ROUTE};
+use crate::plain::{self, RECORD, ROUTE};
 use crate::work::{self, attribute, numbers, Random, Work, ROUTES};
 use aspa_filter::{
-    AsNumber, Filed, Ledger, Refusal, Register, Role, MOST_PROVIDER_WORDS, MOST_RECORDS,
+    AsNumber, Filed, Ledger, Refusal, Register, Role, MOST_PROVIDERS, MOST_PROVIDER_WORDS,
+    MOST_RECORDS,
 };
+use std::cell::RefCell;
 use std::fmt;
 use std::hash::{DefaultHasher, Hash, Hasher};
 use std::hint::black_box;
@@ -77,7 +79,7 @@ impl fmt::Display for What {
 }
 
 pub struct Cases {
-    /// The first are those of the main figure, the others those of the table of medians.
+    /// The first are those of the main figure, the others those of the table of medians, the longest lists last.
     pub tables: Vec<Tables>,
     pub calls: Vec<Call>,
     random: Random,
@@ -88,34 +90,39 @@ impl Cases {
         let mut random = Random(0x9E37_79B9_7F4A_7C15);
         let work = work::make(&mut random, &work::ALL, MOST_RECORDS, 8);
         let (register, stale) = work.tables();
-        let calls = calls(&work, &register).into_iter();
-        #[cfg(feature = "snapshots")]
-        let calls = calls.chain(crate::snapshots::calls(&register, &stale));
-        let mut cases = Cases {
-            calls: calls.collect(),
-            tables: vec![Tables {
-                name: "main".into(),
-                register,
-                stale,
-            }],
-            random: random.clone(),
-        };
+        let changes = random.clone();
+        let mut tables = vec![Tables {
+            name: "main".into(),
+            register,
+            stale,
+        }];
         let sorts = std::iter::once(&work::ALL).chain(&work::OTHERS);
         let sorts = sorts.map(|sort| (sort.name.to_string(), sort, MOST_RECORDS, 8));
-        let lengths = [1, 16, 64, 256].map(|providers| {
+        let lengths = [1, 16, 64, MOST_PROVIDERS].map(|providers| {
             let records = (MOST_PROVIDER_WORDS / providers).min(MOST_RECORDS);
             let name = format!("{records} records of {providers}");
             (name, &work::ALL, records, providers)
         });
         for (name, sort, records, providers) in sorts.chain(lengths) {
             let (register, stale) = work::make(&mut random, sort, records, providers).tables();
-            cases.tables.push(Tables {
+            tables.push(Tables {
                 name,
                 register,
                 stale,
             });
         }
-        cases
+        let long = &tables[tables.len() - 1].register;
+        let calls = calls(&work, &tables[0].register, long).into_iter();
+        #[cfg(feature = "snapshots")]
+        let calls = calls.chain(crate::snapshots::calls(
+            &tables[0].register,
+            &tables[0].stale,
+        ));
+        Cases {
+            calls: calls.collect(),
+            tables,
+            random: changes,
+        }
     }
 
     pub fn time(&self, what: What, round: usize) -> Timed {
@@ -187,6 +194,29 @@ impl Cases {
         (refused, ends.finish())
     }
 
+    /// Each list of the main register in turn with its own customer in it: refused by 2, by the library and by plain Rust. Apart from
+    /// `compare`, since libraries before that rule answer otherwise. Answers how many lists there are.
+    pub fn compare_own_customers(&self) -> usize {
+        let Tables {
+            register, stale, ..
+        } = &self.tables[0];
+        let mut start = 2 + RECORD * register.records().count();
+        for record in register.records() {
+            let (customer, list) = (record.customer, record.providers);
+            let at = list.partition_point(|number| *number < customer);
+            let mut words = register.words().to_vec();
+            words[start + at.min(list.len() - 1)] = customer.0;
+            start += list.len();
+            for (_, rejudge) in PLAIN {
+                let mut ledger = stale.words().to_vec();
+                assert_eq!(rejudge(&words, &mut ledger), Err(2), "plain Rust");
+            }
+            let answer = stale.clone().rejudge(&Register::from_words(words));
+            assert_eq!(answer, Err(Refusal::RegisterMalformed), "the library");
+        }
+        register.records().count()
+    }
+
     /// The same of snapshots, written of changed tables and read when they are changed. Answers how many were refused.
     #[cfg(feature = "snapshots")]
     pub fn compare_snapshots(&self) -> usize {
@@ -200,7 +230,18 @@ impl Cases {
 /// How many damaged tables are compared.
 pub const CHANGED: usize = 4000;
 
-fn calls(work: &Work, register: &Register) -> Vec<Call> {
+/// The check of a register and of an empty ledger.
+fn check(register: &Register) -> Timed {
+    let mut none = Ledger::new();
+    let (nanoseconds, r) = time(|| black_box(&mut none).rejudge(black_box(register)));
+    assert_eq!(r, Ok(0));
+    let check = hash(none.words());
+    Timed { nanoseconds, check }
+}
+
+/// Over the main register and over one of the longest lists. A processor comes to know the branches of a register that is checked again
+/// and again; "new lists" are other ones in every run.
+fn calls(work: &Work, register: &Register, long: &Register) -> Vec<Call> {
     fn call(name: &'static str, run: impl Fn(usize) -> Timed + 'static) -> Call {
         Call {
             name,
@@ -223,15 +264,13 @@ fn calls(work: &Work, register: &Register) -> Vec<Call> {
             Timed { nanoseconds, check }
         }
     };
-    let rejudge_none = {
+    let rejudge_none = |register: &Register| {
         let register = register.clone();
-        move |_| {
-            let mut none = Ledger::new();
-            let (nanoseconds, r) = time(|| black_box(&mut none).rejudge(black_box(&register)));
-            assert_eq!(r, Ok(0));
-            let check = hash(none.words());
-            Timed { nanoseconds, check }
-        }
+        move |_| check(&register)
+    };
+    let rejudge_none_anew = |register: &Register| {
+        let (register, random) = (register.clone(), RefCell::new(Random(1)));
+        move |_| check(&work::with_other_lists(&register, &mut random.borrow_mut()))
     };
     let (front, list) = (AsNumber(work.customers[0]), numbers(&work.lists[0]));
     let without = {
@@ -273,8 +312,34 @@ fn calls(work: &Work, register: &Register) -> Vec<Call> {
             Timed { nanoseconds, check }
         }
     };
+    // Into the empty register, so that what it takes is of the list alone.
+    let file_long = {
+        let record = long.records().nth(16).expect("one of 32");
+        let (customer, list) = (record.customer, record.providers.to_vec());
+        assert_eq!(list.len(), MOST_PROVIDERS);
+        move |_| {
+            let mut register = Register::new();
+            let (nanoseconds, r) =
+                time(|| black_box(&mut register).file(0, customer, black_box(&list)));
+            assert_eq!(r, Ok(Filed::New));
+            let check = hash(register.words());
+            Timed { nanoseconds, check }
+        }
+    };
     vec![
-        call("re-judge of no route", rejudge_none),
+        call("re-judge of no route", rejudge_none(register)),
+        call(
+            "re-judge of no route, new lists",
+            rejudge_none_anew(register),
+        ),
+        call(
+            "re-judge of no route, 32 records of 256",
+            rejudge_none(long),
+        ),
+        call(
+            "re-judge of no route, 32 new lists of 256",
+            rejudge_none_anew(long),
+        ),
         call("judge, path of 5, role 1", judge(register, Role::Customer)),
         call("judge, path of 5, role 3", judge(register, Role::Provider)),
         call(
@@ -282,6 +347,7 @@ fn calls(work: &Work, register: &Register) -> Vec<Call> {
             judge(&Register::new(), Role::Provider),
         ),
         call("file at the front, up to a full register", file),
+        call("file a list of 256, empty register", file_long),
         call("withdraw at the front of a full register", withdraw),
         call("clear a full register of one source", clear),
     ]

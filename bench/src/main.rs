@@ -24,7 +24,7 @@ fn spread(samples: &mut [f64]) -> [f64; 3] {
 
 fn print(name: &str, unit: &str, samples: &mut [f64]) {
     let [low, median, high] = spread(samples);
-    println!("{name:<56} {median:>9.3} {unit:<3} (10th {low:.3}, 90th {high:.3})");
+    println!("{name:<60} {median:>9.3} {unit:<3} (10th {low:.3}, 90th {high:.3})");
 }
 
 /// The microseconds of each of so many, one vector for each, interleaved run by run in every order in turn. In a round all must tell the
@@ -155,6 +155,10 @@ fn main() {
     });
     let ways: Vec<Way> = proved.chain(plain).collect();
     println!("same words and same answers, also on {CHANGED} changed tables ({refused} refused)");
+    println!(
+        "no register with a list that holds its own customer is taken ({} lists)",
+        cases.compare_own_customers()
+    );
     #[cfg(feature = "snapshots")]
     println!(
         "same snapshots, also of {CHANGED} changed tables and of as many changed ones ({} refused)",

@@ -191,6 +191,24 @@ pub fn make(random: &mut Random, numbers: &Numbers, records: usize, providers: u
     }
 }
 
+/// The same records with other lists. Their numbers are drawn like the customers, so that a customer's place among them can be any.
+pub fn with_other_lists(register: &Register, random: &mut Random) -> Register {
+    let mut words = register.words().to_vec();
+    let records = words[0] as usize;
+    let (slots, bodies) = words[2..].split_at_mut(4 * records);
+    for slot in slots.chunks_exact(4) {
+        let list = &mut bodies[slot[2] as usize..][..slot[3] as usize];
+        loop {
+            list.fill_with(|| ALL.draw(random));
+            list.sort_unstable();
+            if list.is_sorted_by(|a, b| a < b) && !list.contains(&slot[0]) {
+                break;
+            }
+        }
+    }
+    Register::from_words(words)
+}
+
 fn role_of(route: usize) -> Role {
     if route.is_multiple_of(2) {
         Role::Customer

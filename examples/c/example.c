@@ -139,6 +139,7 @@ static void save_and_restore(void) {
 
 int main(void) {
     static const uint32_t of_10[] = {20, 30}, of_20[] = {40}, of_20_too[] = {50}, of_40[] = {0}, of_50[] = {40};
+    static const uint32_t of_60[] = {50, 60};
     static const uint32_t up[] = {50, 20, 10}, peak[] = {20, 10, 30}, over[] = {50, 40, 20, 10}, many[256] = {20};
     static const uint8_t cut[] = {2};
 
@@ -148,6 +149,8 @@ int main(void) {
     file(0, 40, of_40, 1);
     file(0, 50, of_50, 1);
     file(0, 60, NULL, 0);
+    /* Nobody is a provider of its own. */
+    file(0, 60, of_60, 2);
 
     judge(ASPA_ROLE_CUSTOMER, up, 3);
     judge(ASPA_ROLE_PROVIDER, peak, 3);

@@ -314,8 +314,9 @@ static void register_calls(void) {
     static uint32_t many[ASPA_MOST_PROVIDERS + 1];
     uint32_t i;
     begin();
+    /* Not the customer 10, so that each list has the one fault. */
     for (i = 0; i <= ASPA_MOST_PROVIDERS; i++)
-        many[i] = i;
+        many[i] = 11 + i;
     REFUSED_FILING(aspa_file(reg, R, ASPA_GREATEST_SOURCE + 1, 10, provider, 1, fresh()), ASPA_REFUSED_SOURCE);
     REFUSED(aspa_withdraw(reg, R, ASPA_GREATEST_SOURCE + 1, 10), ASPA_REFUSED_SOURCE);
     REFUSED_COUNT(aspa_clear(reg, R, UINT32_MAX, fresh()), ASPA_REFUSED_SOURCE);
@@ -334,10 +335,114 @@ static void register_calls(void) {
     CHECK(out[0] == 0);
     CHECK(aspa_clear(reg, R, 0, fresh()) == ASPA_OK);
     CHECK(out[0] == 1);
-    for (i = 1; i <= ASPA_MOST_RECORDS; i++)
+    for (i = 100; i < 100 + ASPA_MOST_RECORDS; i++)
         CHECK(aspa_file(reg, R, i % (ASPA_GREATEST_SOURCE + 1), i, provider, 1, fresh()) == ASPA_OK);
     remember();
     REFUSED_FILING(aspa_file(reg, R, 0, i, provider, 1, fresh()), ASPA_REFUSED_REGISTER_FULL);
+    /* The list is judged before the room for it. */
+    REFUSED_FILING(aspa_file(reg, R, 0, i, &i, 1, fresh()), ASPA_REFUSED_PROVIDERS);
+}
+
+/* So many numbers, two apart, with the customer at this position. Its neighbours by 1 are not in the list. */
+static void around(uint32_t *list, size_t length, size_t position, uint32_t customer) {
+    size_t i;
+    for (i = 0; i < length; i++)
+        list[i] = customer + 2 * (uint32_t)i - 2 * (uint32_t)position;
+}
+
+/* A list that holds its own customer is not filed, wherever in it that stands. */
+static void own_customer_filed(void) {
+    static const size_t lengths[] = {1, 2, 3, ASPA_MOST_PROVIDERS};
+    static const uint32_t zero[] = {0, 1}, top[] = {7, UINT32_MAX}, swapped[] = {20, 10};
+    uint32_t list[ASPA_MOST_PROVIDERS];
+    size_t i, position;
+    for (i = 0; i < sizeof lengths / sizeof *lengths; i++)
+        for (position = 0; position < lengths[i]; position++) {
+            size_t length = lengths[i];
+            begin();
+            around(list, length, position, 1000);
+            REFUSED_FILING(aspa_file(reg, R, 0, 1000, list, length, fresh()), ASPA_REFUSED_PROVIDERS);
+            /* The same list is good for others, and without the customer for itself. */
+            CHECK(aspa_file(reg, R, 0, 999, list, length, fresh()) == ASPA_OK);
+            CHECK(aspa_file(reg, R, 0, 1001, list, length, fresh()) == ASPA_OK);
+            if (length > 1) {
+                memmove(list + position, list + position + 1, (length - 1 - position) * sizeof *list);
+                CHECK(aspa_file(reg, R, 0, 1000, list, length - 1, fresh()) == ASPA_OK);
+                CHECK(out[0] == ASPA_NEW);
+            }
+        }
+    begin();
+    /* In place of an earlier list, from another source, and at both ends of the numbers. */
+    REFUSED_FILING(aspa_file(reg, R, 0, 10, swapped + 1, 1, fresh()), ASPA_REFUSED_PROVIDERS);
+    REFUSED_FILING(aspa_file(reg, R, 5, 20, provider, 1, fresh()), ASPA_REFUSED_PROVIDERS);
+    REFUSED_FILING(aspa_file(reg, R, 5, 1, zero, 2, fresh()), ASPA_REFUSED_PROVIDERS);
+    REFUSED_FILING(aspa_file(reg, R, 5, UINT32_MAX, top, 2, fresh()), ASPA_REFUSED_PROVIDERS);
+    REFUSED_FILING(aspa_file(reg, R, 5, 20, swapped, 2, fresh()), ASPA_REFUSED_PROVIDERS);
+    /* The rows before it. */
+    REFUSED_FILING(aspa_file(reg, R, ASPA_GREATEST_SOURCE + 1, 20, provider, 1, fresh()), ASPA_REFUSED_SOURCE);
+    REFUSED_FILING(aspa_file(reg, R, 0, 0, zero, 1, fresh()), ASPA_REFUSED_CUSTOMER);
+    REFUSED_FILING(aspa_file(reg, R, 0, 0, zero, 2, fresh()), ASPA_REFUSED_CUSTOMER);
+    /* 0 in a list is nobody. */
+    CHECK(aspa_file(reg, R, 5, 1, zero, 1, fresh()) == ASPA_OK);
+}
+
+/* Three records of three providers. The number at this position of each list is one above the customer; gives their words. */
+static void three_lists(size_t position, size_t words[3]) {
+    uint32_t i, list[3];
+    memset(reg, 0, sizeof reg_before);
+    for (i = 0; i < 3; i++) {
+        around(list, 3, position, 101 + 100 * i);
+        CHECK(aspa_file(reg, R, i, 100 + 100 * i, list, 3, fresh()) == ASPA_OK);
+        words[i] = ASPA_COUNT_WORDS + 3 * ASPA_RECORD_WORDS + 3 * i + position;
+    }
+}
+
+/* A register whose one fault is a list that holds its own customer is refused by every call, and so is a file of it. */
+static void own_customer_held(void) {
+    static const uint32_t others[3][2] = {{200, 300}, {100, 300}, {100, 200}};
+    uint8_t file[ASPA_CONTENTS_BYTES + 4 * (ASPA_COUNT_WORDS + 3 * ASPA_RECORD_WORDS + 9) + 4 * WORDS_OF_BEGIN];
+    size_t position, words[3];
+    uint32_t i, length;
+    /* One list of one number: the provider becomes the customer, or the customer the provider. */
+    begin();
+    reg[ASPA_COUNT_WORDS + ASPA_RECORD_WORDS] = 10;
+    remember();
+    register_refused(R, ASPA_REFUSED_REGISTER_MALFORMED);
+    /* The register is judged before the list that is to be filed. */
+    REFUSED_FILING(aspa_file(reg, R, 0, 20, provider, 1, fresh()), ASPA_REFUSED_REGISTER_MALFORMED);
+    /* Who is not lent the register does not look at it. */
+    CHECK(aspa_drop(ledger, L, 7) == ASPA_OK);
+    begin();
+    reg[ASPA_COUNT_WORDS + ASPA_RECORD_CUSTOMER] = 20;
+    remember();
+    register_refused(R, ASPA_REFUSED_REGISTER_MALFORMED);
+    /* Each of three records, each position. */
+    for (position = 0; position < 3; position++)
+        for (i = 0; i < 3; i++) {
+            begin();
+            three_lists(position, words);
+            CHECK(aspa_write(reg, R, ledger, L, file, sizeof file, fresh()) == ASPA_OK);
+            length = out[0];
+            remember();
+            put(file, ASPA_CONTENTS_BYTES / 4 + words[i], 100 + 100 * i);
+            not_read(file, length, R, L, ASPA_REFUSED_REGISTER_MALFORMED, __LINE__);
+            reg[words[i]] = 100 + 100 * i;
+            remember();
+            register_refused(R, ASPA_REFUSED_REGISTER_MALFORMED);
+            /* With the number that stood there before, it is a register again. */
+            reg[words[i]]++;
+            CHECK(aspa_withdraw(reg, R, 0, 100) == ASPA_OK);
+        }
+    /* A list may hold every customer but its own: here each of three holds the two others. */
+    begin();
+    memset(reg, 0, sizeof reg_before);
+    for (i = 0; i < 3; i++)
+        CHECK(aspa_file(reg, R, 0, 100 + 100 * i, others[i], 2, fresh()) == ASPA_OK);
+    CHECK(aspa_judge_route(reg, R, 1, 20, path, sizeof path).refusal == ASPA_OK);
+    CHECK(aspa_rejudge(reg, R, ledger, L, fresh()) == ASPA_OK);
+    CHECK(aspa_write(reg, R, ledger, L, file, sizeof file, fresh()) == ASPA_OK);
+    CHECK(read_exactly(file, out[0], R, L, __LINE__) == ASPA_OK);
+    CHECK(aspa_clear(reg, R, 0, fresh()) == ASPA_OK && out[0] == 3);
 }
 
 static void routes(void) {
@@ -504,6 +609,9 @@ static void snapshots(void) {
     DAMAGED(7, 0, ASPA_REFUSED_REGISTER_MALFORMED);
     DAMAGED(8, ASPA_GREATEST_SOURCE + 1, ASPA_REFUSED_REGISTER_MALFORMED);
     DAMAGED(9, 1, ASPA_REFUSED_REGISTER_MALFORMED);
+    /* The list holds its own customer. */
+    DAMAGED(7, 20, ASPA_REFUSED_REGISTER_MALFORMED);
+    DAMAGED(11, 10, ASPA_REFUSED_REGISTER_MALFORMED);
     DAMAGED(15, 7, ASPA_REFUSED_LEDGER_MALFORMED);
     DAMAGED(18, ASPA_NO_VERDICT, ASPA_REFUSED_LEDGER_MALFORMED);
     DAMAGED(24, 0, ASPA_REFUSED_LEDGER_MALFORMED);
@@ -519,6 +627,8 @@ static void snapshots(void) {
     not_read(file, BYTES_OF_BEGIN + 4, R, L, ASPA_REFUSED_LEDGER_MALFORMED, __LINE__);
     /* Both tables are damaged: the register's row goes first. */
     put(file, 7, 0);
+    not_read(file, BYTES_OF_BEGIN + 4, R, L, ASPA_REFUSED_REGISTER_MALFORMED, __LINE__);
+    put(file, 7, 20);
     not_read(file, BYTES_OF_BEGIN + 4, R, L, ASPA_REFUSED_REGISTER_MALFORMED, __LINE__);
     every_bit();
     /* The tables of `begin`, empty ones, and full ones. */
@@ -622,6 +732,8 @@ int main(void) {
     wrong_lengths();
     malformed();
     register_calls();
+    own_customer_filed();
+    own_customer_held();
     routes();
     snapshots();
     null_pointers();

@@ -34,7 +34,7 @@ pub enum Refusal {
     Source,
     /// 5: the customer is 0.
     Customer,
-    /// 6: the list is empty, longer than [`MOST_PROVIDERS`], or does not ascend strictly.
+    /// 6: the list is empty, longer than [`MOST_PROVIDERS`] or not strictly ascending, or holds its own customer.
     Providers,
     /// 7: this source has no record for this customer to withdraw.
     NoRecord,
@@ -200,7 +200,7 @@ impl fmt::Display for Refusal {
             Refusal::Providers => write!(
                 f,
                 "the provider list is empty, longer than {MOST_PROVIDERS} \
-                 or not strictly ascending"
+                 or not strictly ascending, or holds its own customer"
             ),
             Refusal::NoRecord => f.write_str("there is no such record"),
             Refusal::RegisterFull => write!(

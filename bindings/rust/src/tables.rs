@@ -55,7 +55,7 @@ impl Register {
     }
 
     /// A register of any words. Every call tests them first: a wrong length is refused by [`Refusal::TableLength`], words that break the
-    /// rules by [`Refusal::RegisterMalformed`].
+    /// rules by [`Refusal::RegisterMalformed`]. Since version 0.4.0 a list that holds its own record's customer breaks them.
     pub fn from_words(words: impl Into<Box<[u32]>>) -> Register {
         Register(words.into())
     }
@@ -66,8 +66,8 @@ impl Register {
     }
 
     /// Files the providers of a customer as one source attests them. What this source filed for this customer before is replaced, and
-    /// nothing else. Sources are 0 to [`GREATEST_SOURCE`]; the list ascends strictly and has 1 to [`MOST_PROVIDERS`] numbers. 0 in it
-    /// matches nobody: a list of 0 alone says that the customer has no providers.
+    /// nothing else. Sources are 0 to [`GREATEST_SOURCE`]; the list ascends strictly, has 1 to [`MOST_PROVIDERS`] numbers and does not
+    /// hold the customer itself. 0 in it matches nobody: a list of 0 alone says that the customer has no providers.
     ///
     /// # Errors
     ///

@@ -285,6 +285,18 @@ impl History<'_> {
     }
 
     fn count(&mut self, call: &Call, answer: Said) {
+        let own = match (call, &answer) {
+            (Call::File(_, customer, list), Said::Refused(6, _)) if list.contains(customer) => {
+                Some("own customer filed")
+            }
+            (Call::Read(file), Said::Refused(2, _)) if holds_own(&file_register(file)) => {
+                Some("own customer read")
+            }
+            _ => None,
+        };
+        if let Some(key) = own {
+            *self.tally.entry(key.into()).or_default() += 1;
+        }
         let key = match answer {
             Said::Refused(number, _) => format!("refused by {number}"),
             Said::Filed(filed) => format!("{filed:?}"),
@@ -392,12 +404,22 @@ impl History<'_> {
             (true, true),
         ]);
         if ledger {
-            let words = alter(&mut self.random, &mut self.model.ledger);
-            self.tables.ledger = Ledger::from_words(words(self.tables.ledger.words()));
+            let change = Change::draw(&mut self.random, &self.model.ledger);
+            let words = change.make(&mut self.model.ledger, self.tables.ledger.words());
+            self.tables.ledger = Ledger::from_words(words);
         }
         if register {
-            let words = alter(&mut self.random, &mut self.model.register);
-            self.tables.register = Register::from_words(words(self.tables.register.words()));
+            let own = own_customers(&self.tables.register);
+            let change = if !own.is_empty() && self.random.percent(20) {
+                Change::Poke(self.random.pick(&own))
+            } else {
+                Change::draw(&mut self.random, &self.model.register)
+            };
+            let words = change.make(&mut self.model.register, self.tables.register.words());
+            self.tables.register = Register::from_words(words);
+            if holds_own(&self.tables.register) {
+                *self.tally.entry("own customer held".into()).or_default() += 1;
+            }
         }
         self.compare_tables();
         let allowed = self.model.register.well_formed() && self.model.ledger.well_formed();
@@ -428,7 +450,17 @@ impl History<'_> {
 
     fn some_call(&mut self, kind: usize) -> Call {
         match kind {
-            0 => Call::File(self.source(), self.customer(), self.list()),
+            0 => {
+                let (source, mut customer) = (self.source(), self.customer());
+                let list = if self.random.percent(4) {
+                    // Below a greater customer there is room for a long list.
+                    customer = self.random.pick(&[customer, customer, 256, 1000]);
+                    self.list_with(customer)
+                } else {
+                    self.list(customer)
+                };
+                Call::File(source, customer, list)
+            }
             1 => Call::Withdraw(self.source(), self.customer()),
             2 => Call::Clear(self.source()),
             3 => Call::Judge(self.route()),
@@ -484,7 +516,7 @@ impl History<'_> {
     fn changed(&mut self, mut file: Vec<u8>) -> Vec<u8> {
         let any = self.random.draw() as u32;
         let near = |old: u32| [old + 1, old - 1, old + 4, old - 4];
-        match self.random.below(8) {
+        match self.random.below(9) {
             // The edition, and the other contents.
             0 => snapshot::with(&file, &[(0, self.random.pick(&[0, 2, 3, 1 << 24, any]))]),
             1 | 2 => {
@@ -520,6 +552,15 @@ impl History<'_> {
                     .random
                     .pick(&[old ^ 1, old ^ (1 << 31), 0, 1, 2, 65, any]);
                 snapshot::with(&file, &[(index, value)])
+            }
+            // A list with its own customer, if it has a list.
+            7 => {
+                let own = own_customers(&file_register(&file));
+                if own.is_empty() {
+                    return file;
+                }
+                let (index, customer) = self.random.pick(&own);
+                snapshot::with(&file, &[(snapshot::CONTENTS / 4 + index, customer)])
             }
             // A table with a word more or less, and contents that say so.
             _ => {
@@ -569,17 +610,34 @@ impl History<'_> {
         }
     }
 
-    fn list(&mut self) -> Vec<u32> {
+    /// A provider of the customer, which is no provider of its own.
+    fn provider(&mut self, customer: u32) -> u32 {
+        loop {
+            let number = self.number();
+            if number != customer {
+                return number;
+            }
+        }
+    }
+
+    /// Ascending numbers, with the customer first, last or between.
+    fn list_with(&mut self, customer: u32) -> Vec<u32> {
+        let length = self.random.pick(&[1, 2, 3, 5, 255, 256, 256]);
+        let before = self.random.pick(&[0, length / 2, length - 1]);
+        let first = customer.saturating_sub(before as u32);
+        (first..=u32::MAX).take(length).collect()
+    }
+
+    /// A list without the customer.
+    fn list(&mut self, customer: u32) -> Vec<u32> {
         if self.random.percent(self.shape.long_lists) {
             let length = self.random.pick(&[200, 255, 256, 256, 256, 257]);
-            let (first, step) = (
-                self.random.below(3) as u32,
-                self.random.between(1, 2) as u32,
-            );
-            return (0..length).map(|i| first + step * i).collect();
+            let (first, step) = (self.random.below(3) as u32, self.random.between(1, 2));
+            let numbers = (first..).step_by(step).filter(|n| *n != customer);
+            return numbers.take(length).collect();
         }
         let length = self.random.between(1, 5);
-        let mut list: Vec<u32> = (0..length).map(|_| self.number()).collect();
+        let mut list: Vec<u32> = (0..length).map(|_| self.provider(customer)).collect();
         match self.random.below(100) {
             0..=1 => list.clear(),
             2..=4 => list.push(list[0]),
@@ -722,16 +780,19 @@ fn segment(kind: u8, numbers: &[u32]) -> Vec<u8> {
     bytes
 }
 
-/// Alters one word of a table or its length; gives the same change for the binding's words.
-fn alter<T: Form>(random: &mut Random, table: &mut Table<T>) -> impl Fn(&[u32]) -> Vec<u32> {
-    let (length, used) = (table.length(), table.used_words().len());
-    let mut resized = length;
-    let mut poked = None;
-    if random.percent(20) {
-        let any = random.below(length);
-        resized = random.pick(&[0, 1, 2, any, length - 1, length + 1]);
-        table.resize(resized);
-    } else {
+/// One word of a table altered, or its length.
+enum Change {
+    Resize(usize),
+    Poke((usize, u32)),
+}
+
+impl Change {
+    fn draw<T: Form>(random: &mut Random, table: &Table<T>) -> Change {
+        let (length, used) = (table.length(), table.used_words().len());
+        if random.percent(20) {
+            let any = random.below(length);
+            return Change::Resize(random.pick(&[0, 1, 2, any, length - 1, length + 1]));
+        }
         let index = match random.below(10) {
             0 | 1 => random.below(2),
             2..=4 => 2 + random.below((T::ENTRY * table.words()[0] as usize).max(1)),
@@ -746,21 +807,53 @@ fn alter<T: Form>(random: &mut Random, table: &mut Table<T>) -> impl Fn(&[u32]) 
             0 => random.pick(&near),
             _ => random.pick(&[0, 1, 2, 3, 4, 6, 7, 8, 64, 65, 257, 8193, u32::MAX, any]),
         };
-        assert!(table.poke(index, value));
-        poked = Some((index, value));
+        Change::Poke((index, value))
     }
-    move |words| {
+
+    /// Makes it in the model's table; gives the binding's words with it.
+    fn make<T: Form>(self, table: &mut Table<T>, words: &[u32]) -> Vec<u32> {
         let mut words = words.to_vec();
-        words.resize(resized, 0);
-        if let Some((index, value)) = poked {
-            words[index] = value;
+        match self {
+            Change::Resize(length) => {
+                table.resize(length);
+                words.resize(length, 0);
+            }
+            Change::Poke((index, value)) => {
+                assert!(table.poke(index, value));
+                words[index] = value;
+            }
         }
         words
     }
 }
 
+/// Of a well-formed register: each word of a list that can become the list's own customer with no other fault.
+fn own_customers(register: &Register) -> Vec<(usize, u32)> {
+    let mut start = 2 + 4 * register.records().count();
+    let mut pokes = vec![];
+    for record in register.records() {
+        let (customer, list) = (record.customer, record.providers);
+        // It takes the place of the number before it or of the one behind it.
+        let at = list.partition_point(|number| *number < customer);
+        let places = at.saturating_sub(1)..list.len().min(at + 1);
+        pokes.extend(places.map(|i| (start + i, customer.0)));
+        start += list.len();
+    }
+    pokes
+}
+
+/// The register's words in a snapshot whose contents are right.
+fn file_register(file: &[u8]) -> Register {
+    Register::from_words(&snapshot::parts(file)[0][..])
+}
+
+fn holds_own(register: &Register) -> bool {
+    let mut records = register.records();
+    records.any(|record| record.providers.contains(&record.customer))
+}
+
 /// What every shape must reach, with the refusals below.
-const REACHED: [&str; 18] = [
+const REACHED: [&str; 21] = [
     "New",
     "Replaced",
     "cleared",
@@ -779,6 +872,9 @@ const REACHED: [&str; 18] = [
     "damaged",
     "written",
     "read",
+    "own customer filed",
+    "own customer held",
+    "own customer read",
 ];
 
 /// `full` are the refusals of a full table that this shape must reach.
@@ -902,7 +998,7 @@ fn many_records() {
         routes: 60,
         long_lists: 0,
         long_paths: 2,
-        weights: [740, 20, 1, 80, 80, 60, 19, 20, 20],
+        weights: [800, 20, 1, 80, 80, 60, 19, 20, 10],
     };
     histories(200, shape, &[8]);
 }

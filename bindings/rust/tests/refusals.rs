@@ -18,7 +18,7 @@ const TEXTS: [&str; 24] = [
     "refused by 3: the ledger is malformed",
     "refused by 4: the source is above 7",
     "refused by 5: the customer is 0",
-    "refused by 6: the provider list is empty, longer than 256 or not strictly ascending",
+    "refused by 6: the provider list is empty, longer than 256 or not strictly ascending, or holds its own customer",
     "refused by 7: there is no such record",
     "refused by 8: the register would hold more than 1024 records or 8192 provider numbers",
     "refused by 9: the role is not 1 to 6",
@@ -84,10 +84,10 @@ fn full() -> Tables {
     Tables { register, ledger }
 }
 
-/// As many provider numbers, and path numbers, as there may be, but few entries.
+/// As many provider numbers, and path numbers, as there may be, but few entries. The customers are 1001 to 1032.
 fn full_bodies() -> Tables {
     let (mut register, mut ledger) = (Register::new(), Ledger::new());
-    for customer in 1..=32 {
+    for customer in 1001..=1032 {
         let providers = numbers(MOST_PROVIDERS);
         register.file(1, AsNumber(customer), &providers).unwrap();
     }
@@ -277,15 +277,16 @@ fn every_row() {
     seen.all(&some, Refusal::Customer, calls);
     let calls = vec![
         file(0, 1, vec![]),
-        file(0, 1, numbers(MOST_PROVIDERS + 1)),
+        file(0, 1000, numbers(MOST_PROVIDERS + 1)),
         file(0, 1, [2, 2].map(AsNumber).to_vec()),
         file(0, 1, [3, 2].map(AsNumber).to_vec()),
+        file(0, 1, numbers(1)),
     ];
     seen.all(&some, Refusal::Providers, calls);
     let calls = vec![withdraw(1, 10), withdraw(0, 11)];
     seen.all(&some, Refusal::NoRecord, calls);
-    seen.all(&full(), Refusal::RegisterFull, vec![file(0, 1, numbers(1))]);
-    let calls = vec![file(0, 1, numbers(1)), file(0, 33, numbers(1))];
+    seen.all(&full(), Refusal::RegisterFull, vec![file(0, 9, numbers(1))]);
+    let calls = vec![file(0, 1001, numbers(1)), file(0, 1033, numbers(1))];
     seen.all(&full_bodies(), Refusal::RegisterFull, calls);
 
     // A Role is always one: its row is what a number that is no role's becomes.
@@ -397,13 +398,133 @@ fn every_row() {
     assert!(seen.0.into_iter().eq(1..=24), "every row");
 }
 
+/// So many numbers, two apart, with this one at this position. The numbers beside it are not in the list.
+fn around(number: u32, length: usize, position: usize) -> Vec<AsNumber> {
+    let numbers = (0..length as u32).map(|i| number + 2 * i - 2 * position as u32);
+    numbers.map(AsNumber).collect()
+}
+
+/// Lists that hold their own customer, at each position. Without it, or of a customer beside it, they are filed.
+#[test]
+fn own_customer_filed() {
+    let (mut seen, some) = (Seen::default(), some());
+    for length in [1, 2, 3, MOST_PROVIDERS] {
+        for position in 0..length {
+            let mut list = around(1000, length, position);
+            let calls = vec![file(0, 1000, list.clone())];
+            seen.all(&some, Refusal::Providers, calls);
+            let mut tables = some.clone();
+            for other in [999, 1001] {
+                assert_eq!(file(0, other, list.clone())(&mut tables), Ok(()));
+            }
+            list.remove(position);
+            if !list.is_empty() {
+                assert_eq!(file(0, 1000, list.clone())(&mut tables), Ok(()));
+                let filed = tables.register.records().nth(3).unwrap();
+                assert_eq!(filed.providers, list);
+            }
+        }
+    }
+    // In place of an earlier list, from another source, and at both ends of the numbers.
+    let list = |numbers: &[u32]| numbers.iter().copied().map(AsNumber).collect::<Vec<_>>();
+    let calls = vec![
+        file(0, 10, list(&[10])),
+        file(5, 10, list(&[10, 20])),
+        file(5, 1, list(&[0, 1])),
+        file(5, u32::MAX, list(&[7, u32::MAX])),
+    ];
+    seen.all(&some, Refusal::Providers, calls);
+    // The rows before: the source, and the customer 0, whose list of 0 holds it.
+    let calls = vec![file(8, 10, list(&[10])), file(8, 0, list(&[0]))];
+    seen.all(&some, Refusal::Source, calls);
+    let calls = vec![file(0, 0, list(&[0])), file(7, 0, list(&[0, 1]))];
+    seen.all(&some, Refusal::Customer, calls);
+    // The row behind: there is no room either.
+    let calls = || vec![file(0, 9, list(&[9])), file(0, 1033, list(&[1033]))];
+    seen.all(&full(), Refusal::Providers, calls());
+    seen.all(&full_bodies(), Refusal::Providers, calls());
+}
+
+/// Three records of three providers, in which the number at this position is one above the customer: the customer in its place is the
+/// register's one fault. Gives the tables, and each of those words with its customer.
+fn nearly_own(position: usize) -> (Tables, [(usize, u32); 3]) {
+    let mut tables = some();
+    tables.register = Register::new();
+    let words = [0, 1, 2].map(|i| {
+        let customer = 100 + 100 * i;
+        let list = around(customer + 1, 3, position);
+        assert_eq!(file(i, customer, list)(&mut tables), Ok(()));
+        (2 + 3 * 4 + 3 * i as usize + position, customer)
+    });
+    (tables, words)
+}
+
+/// Registers whose one fault is such a list, in words and in a snapshot.
+#[test]
+fn own_customer_held() {
+    let mut seen = Seen::default();
+    let malformed = Refusal::RegisterMalformed;
+    for position in 0..3 {
+        let (good, words) = nearly_own(position);
+        for (index, customer) in words {
+            let mut held = good.register.words().to_vec();
+            held[index] = customer;
+            let tables = Tables {
+                register: Register::from_words(held),
+                ledger: good.ledger.clone(),
+            };
+            seen.all(&tables, malformed, on_register());
+            // The register goes before the list, and before the ledger.
+            seen.all(&tables, malformed, vec![file(0, 1, numbers(1))]);
+            let mut both = tables.clone();
+            both.ledger = Ledger::from_words(vec![u32::MAX; LEDGER_WORDS]);
+            seen.all(&both, malformed, vec![keep(2, 20, path()), rejudge()]);
+
+            let mut file = snapshot(&good);
+            file[20 + 4 * index..][..4].copy_from_slice(&customer.to_be_bytes());
+            seen.all(&some(), malformed, vec![read(file.clone())]);
+            seen.all(&tables, malformed, vec![read(file)]);
+            // Reading does not look at the words that were there, nor dropping at the register.
+            let mut after = tables.clone();
+            assert_eq!(drop_route(1)(&mut after), Ok(()));
+            assert_eq!(read(snapshot(&good))(&mut after), Ok(()));
+            assert!(after == good);
+        }
+    }
+    // The customer changes and not the list: 10 is filed with 20, and then becomes 20.
+    let tables = with_words(|r, _| r[2] = 20);
+    seen.all(&tables, malformed, on_register());
+}
+
+/// Each list is held against its own customer alone.
+#[test]
+fn other_customers_held() {
+    let mut tables = some();
+    tables.register = Register::new();
+    for (source, customer, provider) in [(0, 40, 50), (0, 50, 40), (3, 40, 60), (3, 60, 40)] {
+        let list = vec![AsNumber(provider)];
+        assert_eq!(file(source, customer, list)(&mut tables), Ok(()));
+    }
+    for call in on_register() {
+        let told = call(&mut tables.clone());
+        // The one that withdraws a record which is not there, and the one that writes into no bytes.
+        assert!(matches!(
+            told,
+            Ok(()) | Err(Refusal::NoRecord | Refusal::OutputLength)
+        ));
+    }
+    let mut after = some();
+    assert_eq!(read(snapshot(&tables))(&mut after), Ok(()));
+    assert!(after == tables);
+}
+
 /// What full tables still take.
 #[test]
 fn room() {
     let mut tables = full_bodies();
     // A shorter list and a route with a ground need no body words.
-    assert_eq!(file(1, 1, numbers(255))(&mut tables), Ok(()));
-    assert_eq!(file(0, 1, numbers(1))(&mut tables), Ok(()));
+    assert_eq!(file(1, 1001, numbers(255))(&mut tables), Ok(()));
+    assert_eq!(file(0, 1001, numbers(1))(&mut tables), Ok(()));
     assert_eq!(keep(200, 20, vec![])(&mut tables), Ok(()));
     assert_eq!(drop_route(7)(&mut tables), Ok(()));
     assert_eq!(keep(7, 20, path())(&mut tables), Ok(()));

@@ -137,7 +137,7 @@ fn bytes_of_a_snapshot() {
 fn round_trips() {
     let mut long = Tables::new();
     let providers: Vec<AsNumber> = (1..=MOST_PROVIDERS as u32).map(AsNumber).collect();
-    for customer in 1..=32 {
+    for customer in 1001..=1032 {
         let customer = AsNumber(customer);
         long.register.file(7, customer, &providers).unwrap();
     }
@@ -203,6 +203,33 @@ fn damaged_lengths() {
     }
     assert_eq!(tables.read(&[0x5A; 5000]), Err(Refusal::Edition));
     assert!(tables == other());
+}
+
+/// A list that holds its own customer, by a change of either, in a file as in bytes.
+#[test]
+fn own_customer() {
+    let directory = Directory::new("own-customer");
+    for (index, value) in [(7, 20), (11, 10)] {
+        let mut words = SMALL;
+        words[index] = value;
+        let damaged = bytes(&words);
+        for before in [Tables::new(), small(), full(), other()] {
+            let mut tables = before.clone();
+            let read = tables.read(&damaged);
+            assert_eq!(read, Err(Refusal::RegisterMalformed));
+            assert!(tables == before, "both tables stay");
+        }
+        let read = Tables::read_from(&damaged[..]);
+        assert_eq!(refusal(read), Refusal::RegisterMalformed);
+        fs::write(directory.file(), &damaged).unwrap();
+        let loaded = Tables::load(directory.file());
+        assert_eq!(refusal(loaded), Refusal::RegisterMalformed);
+        // One more, and it is another's number.
+        words[index] += 1;
+        let mut tables = other();
+        assert_eq!(tables.read(&bytes(&words)), Ok(()));
+        assert_eq!(written(&tables), bytes(&words));
+    }
 }
 
 /// A stored verdict that is not true is read as it stands, and a re-judging puts it right.

@@ -133,6 +133,11 @@ fn vector_o() {
     );
     // Within one segment the run is merged.
     assert_eq!(judge(&d, 1, &[20, 20, 10]), valid(None));
+    // No record makes the hop from 20 to itself a good one.
+    let mut register = d.clone();
+    let filed = register.file(5, AsNumber(20), &numbers(&[20]));
+    assert_eq!(refused(filed), (6, None));
+    assert_eq!(register, d);
 }
 
 #[test]
@@ -234,12 +239,16 @@ fn refused_filings_change_nothing() {
         refused(register.file(0, AsNumber(1), &numbers(&[2, 2]))),
         (6, None)
     );
+    assert_eq!(
+        refused(register.file(0, AsNumber(10), &numbers(&[10, 20]))),
+        (6, None)
+    );
     assert_eq!(refused(register.clear(8)), (4, None));
     assert_eq!(register, before);
 
     let mut full = Register::new();
     for x in 1..=MOST_RECORDS as u32 {
-        full.file(0, AsNumber(x), &numbers(&[x])).unwrap();
+        full.file(0, AsNumber(x), &numbers(&[x + 1])).unwrap();
     }
     let before = full.clone();
     assert_eq!(
