@@ -2,7 +2,8 @@ pub mod Entries
 pub mod Holding
 pub mod Lists
 pub mod Members
-pub mod Counting
+pub mod Halving
+pub mod Descending
 pub mod Checking
 pub mod Looking
 pub mod Uniting

@@ -3,33 +3,22 @@ use Prim.Native.Nat.{ℕ, _+_, _*_, _≤_}
 use mathlib.Core.Path.{_≡_}
 use mathlib.Core.Bool.{true, cond}
 use mathlib.Core.List.{List, [], _∷_}
-use lib.Dec.{ltb, eqb}
+use lib.Dec.{ltb}
 use lib.ListN.{length, take, drop}
-use Rattle.register.specs.Register.{mostRecords, mostProviders, registerWords, lastSource, recordsOf, listOk, registerOk, positionOf}
+use Rattle.register.specs.Register.{mostRecords, registerWords, lastSource, recordsOf, listOk, registerOk, positionOf}
 
--- 1 for a number that does not stand above the one before it.
-unfoldable pub fallAt : ℕ → ℕ → ℕ
-fallAt x y = cond (ltb x y) 0 1
+-- How often a number of a list does not stand above the one before it.
+unfoldable pub descentsFrom : ℕ → List ℕ → ℕ
+descentsFrom x [] = 0
+descentsFrom x (y ∷ l) = cond (ltb x y) (descentsFrom y l) (descentsFrom y l + 1)
 
--- How many faults numbers have behind another: each that does not stand above the one before it has one, and each that is the customer.
-unfoldable pub faultsFrom : ℕ → ℕ → List ℕ → ℕ
-faultsFrom customer x [] = 0
-faultsFrom customer x (y ∷ l) = fallAt x y + (cond (eqb y customer) 1 0 + faultsFrom customer y l)
-
-unfoldable pub faultsIn : ℕ → List ℕ → ℕ
-faultsIn customer [] = 0
-faultsIn customer (x ∷ l) = faultsFrom customer x l
+unfoldable pub descentsIn : List ℕ → ℕ
+descentsIn [] = 0
+descentsIn (x ∷ l) = descentsFrom x l
 
 -- The list of `count` numbers that begins at a word.
 abbrev pub listAt : List ℕ → ℕ → ℕ → List ℕ
 listAt ws from count = take count (drop from ws)
-
--- It lies within the words, with a word before it, and is neither empty nor too long.
-pub record ListAt (ws : List ℕ) (from count : ℕ) : Type 0 where
-  pub before : 1 ≤ from
-  pub some : 1 ≤ count
-  pub few : count ≤ mostProviders
-  pub inside : from + count ≤ length ws
 
 -- A pair's position in a well-formed register is one of low to high.
 pub record Within (ws : List ℕ) (customer source low high : ℕ) : Type 0 where

@@ -95,13 +95,9 @@ unfoldable pub rises : List ℕ → Bool
 rises [] = true
 rises (x ∷ l) = risesFrom x l
 
--- It does, and a customer is not in it.
-abbrev pub isFree : ℕ → List ℕ → Bool
-isFree customer l = rises l && not (isIn customer l)
-
--- A list that may be filed for a customer (row 6): one number or more, not too many, ascending, and free of the customer.
+-- A list that may be filed for a customer (row 6): one number or more, not too many, ascending, and the customer not among them.
 unfoldable pub listOk : ℕ → List ℕ → Bool
-listOk customer l = leb 1 (length l) && (leb (length l) mostProviders && isFree customer l)
+listOk customer l = leb 1 (length l) && (leb (length l) mostProviders && (rises l && not (isIn customer l)))
 
 unfoldable pub recordOk : Record → Bool
 recordOk r = leb 1 (r .customer) && (leb (r .source) lastSource && listOk (r .customer) (r .providers))

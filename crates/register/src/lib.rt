@@ -7,16 +7,16 @@ use types::Refusal;
 use types::Removal;
 ghost use mathlib.Core.Path.{_≡_};
 ghost use mathlib.Core.Bool.{true, false, cond, _&&_};
-ghost use Prim.Native.Nat.{_^_, _≤_, _<_};
-ghost use lib.ListN.{length};
+ghost use Prim.Native.Nat.{_+_, _^_, _≤_, _<_};
+ghost use lib.ListN.{length, getD, take};
 ghost use Rattle.table.specs.Table.{Sound};
 ghost use Rattle.types.specs.Rows.{effect};
 ghost use Rattle.keyed.specs.Keyed.{samePair, beforePair, ascends, every};
 ghost use Rattle.types.specs.declared.Hop.the-variants.{NoAttestation, ProviderPlus, NotProviderPlus};
 ghost use Rattle.rules.specs.Records.{isIn, hopOf};
-ghost use Rattle.register.specs.Register.{recordHead, recordTail, recordsOf, recordAt, keyOf, isFree, listOk, recordOk};
+ghost use Rattle.register.specs.Register.{recordHead, recordTail, mostListed, recordsOf, recordAt, keyOf, rises, listOk, recordOk};
 ghost use Rattle.register.specs.Register.{registerOk, positionOf};
-ghost use Rattle.register.specs.Helpers.{fallAt, faultsIn, listAt, ListAt, Within, Passed};
+ghost use Rattle.register.specs.Helpers.{descentsIn, listAt, Within, Passed};
 ghost use Rattle.register.specs.Calls.{holdsRecord, fileEffect, withdrawEffect, clearEffect};
 
 pub mod hints;
@@ -32,10 +32,6 @@ const MOST_LISTED: usize = 8192;
 const MOST_PROVIDERS: usize = 256;
 
 const LAST_SOURCE: u32 = 7;
-
-// A stored list of so many numbers or more is checked several numbers at a time, a shorter one number by number: each way is the
-// faster one there.
-const LONG: usize = 8;
 
 // ---- layout
 
@@ -60,31 +56,42 @@ const NO_TAIL: [u32; TAIL] = [0u32; TAIL];
 
 // ---- the check
 
-// A list ascends strictly and does not hold a customer.
-fn is_free(list: &[u32], customer: AsNumber) -> bool
-    ensures { λ r. ⌜ r ≡ isFree (customer .0) (now (list .entry)) ⌝ }
+// A list ascends strictly.
+fn is_rising(list: &[u32]) -> bool
+    ensures { λ r. ⌜ r ≡ rises (now (list .entry)) ⌝ }
 {
     if list.len() == 0 {
         return true;
     }
-    let c = customer.0;
     let mut x = list[0];
-    if x == c {
-        return false;
-    }
     let mut i: usize = 1;
     while i < list.len() {
         let y = list[i];
         if y <= x {
             return false;
         }
-        if y == c {
-            return false;
-        }
         x = y;
         i += 1;
     }
     true
+}
+
+// Whether an ascending list holds a number, by halves: at most nine looks at a list of 256. Of any other list it may say either.
+fn holds(list: &[u32], number: AsNumber) -> bool
+    requires { ⌜ 1 ≤ length (now list) ⌝ }
+    ensures { λ r. ⌜ (rises (now (list .entry)) ≡ true → r ≡ isIn (number .0) (now (list .entry))) ⌝ }
+{
+    let x = number.0;
+    let mut from: usize = 0;
+    let mut many = list.len();
+    while 1 < many {
+        let half = many / 2;
+        many -= half;
+        if list[from + half] <= x {
+            from += half;
+        }
+    }
+    list[from] == x
 }
 
 // A list that may be filed for a customer.
@@ -97,7 +104,10 @@ fn is_list(customer: AsNumber, list: &[u32]) -> bool
     if MOST_PROVIDERS < list.len() {
         return false;
     }
-    is_free(list, customer)
+    if !is_rising(list) {
+        return false;
+    }
+    !holds(list, customer)
 }
 
 // The pair (c1, s1) stands before the pair (c2, s2).
@@ -115,29 +125,16 @@ fn is_before(c1: AsNumber, s1: u32, c2: AsNumber, s2: u32) -> bool
     false
 }
 
-// 1 for a number that does not stand above the one before it, 0 for any other.
-fn fall(before: u32, number: u32) -> u32
-    ensures { λ r. ⌜ r ≡ fallAt before number ⌝ }
+// How often a number does not stand above the one before it. The loop has no early exit, so that the compiler takes several words at
+// a time.
+fn descents(list: &[u32]) -> u32
+    requires { ⌜ length (now list) < 2 ^ 32 ⌝ }
+    ensures { λ r. ⌜ (r ≡ descentsIn (now (list .entry))) × (r ≤ length (now (list .entry))) ⌝ }
 {
-    if number <= before {
-        return 1;
-    }
-    0
-}
-
-// How many faults the numbers behind the first word have: each that does not stand above the one before it has one, and each that is
-// the customer. The loop has no early exit, so that the compiler takes several words at a time.
-fn faults(words: &[u32], customer: AsNumber) -> u32
-    requires { ⌜ length (now words) < 2 ^ 31 ⌝ }
-    ensures { λ r. ⌜ r ≡ faultsIn (customer .0) (now (words .entry)) ⌝ }
-{
-    let c = customer.0;
     let mut many: u32 = 0;
     let mut i: usize = 1;
-    while i < words.len() {
-        let y = words[i];
-        many += fall(words[i - 1], y);
-        if y == c {
+    while i < list.len() {
+        if list[i] <= list[i - 1] {
             many += 1;
         }
         i += 1;
@@ -145,29 +142,48 @@ fn faults(words: &[u32], customer: AsNumber) -> u32
     many
 }
 
-// The list of `count` numbers from a word on ascends strictly and does not hold its customer. A short list is left at its first fault.
-// In any other all faults are counted, from the word before the list on, so that eight numbers make one turn; what that word adds is
-// taken out again.
-fn is_free_at(reg: &[u32], from: usize, count: usize, customer: AsNumber) -> bool
-    requires { ⌜ ListAt (now reg) from count ⌝ }
-    ensures { λ r. ⌜ r ≡ isFree (customer .0) (listAt (now (reg .entry)) from count) ⌝ }
+// Whether one of the first eight words is a number: compared at once, without a branch.
+fn is_among_eight(words: &[u32], number: AsNumber) -> bool
+    requires { ⌜ 8 ≤ length (now words) ⌝ }
+    ensures { λ r. ⌜ r ≡ isIn (number .0) (take 8 (now (words .entry))) ⌝ }
 {
-    if count < LONG {
-        return is_free(&reg[from..from + count], customer);
-    }
-    let first = fall(reg[from - 1], reg[from]);
-    faults(&reg[from - 1..from + count], customer) == first
+    let x = number.0;
+    (words[0] == x)
+        | ((words[1] == x)
+            | ((words[2] == x)
+                | ((words[3] == x)
+                    | ((words[4] == x) | ((words[5] == x) | ((words[6] == x) | (words[7] == x)))))))
 }
 
-// Each record's own rules, and their order.
+// The same as `holds` of the list of `count` numbers that begins at a word. Most lists are short, and their lengths and numbers no
+// processor foresees: so eight words are compared at once, though some may belong to other lists, and only if one of them is the
+// number the list is searched.
+fn holds_at(reg: &[u32], from: usize, count: usize, number: AsNumber) -> bool
+    requires { ⌜ (1 ≤ count) × (from + count ≤ length (now reg)) ⌝ }
+    ensures { λ r. ⌜ (rises (listAt (now (reg .entry)) from count) ≡ true → r ≡ isIn (number .0) (listAt (now (reg .entry)) from count)) ⌝ }
+{
+    if count <= 8 {
+        if from + 8 <= reg.len() {
+            if !is_among_eight(&reg[from..from + 8], number) {
+                return false;
+            }
+        }
+    }
+    holds(&reg[from..from + count], number)
+}
+
+// Each record's own rules, and their order. The lists are read in one go: each of them ascends if no two numbers descend but where
+// one list ends and the next begins. If one does not, it does not matter what `holds_at` said of it.
 fn are_records(reg: &[u32]) -> bool
-    requires { ⌜ Sound recordHead recordTail (now reg) ⌝ }
+    requires { ⌜ Sound recordHead recordTail (now reg) × (getD (now reg) 1 0 ≤ mostListed) ⌝ }
     ensures { λ r. ⌜ r ≡ (every recordOk (recordsOf (now (reg .entry))) && ascends keyOf samePair beforePair (recordsOf (now (reg .entry)))) ⌝ }
 {
     let n = table::word(reg, 0);
+    let bodies = table::COUNTERS + n * WIDTH;
     let mut customer: u32 = 0;
     let mut source: u32 = 0;
-    let mut from = table::COUNTERS + n * WIDTH;
+    let mut between: u32 = 0;
+    let mut from = bodies;
     let mut i: usize = 0;
     while i < n {
         let at = table::COUNTERS + i * WIDTH;
@@ -180,15 +196,20 @@ fn are_records(reg: &[u32]) -> bool
         if !is_before(AsNumber(customer), source, AsNumber(c), s) {
             return false;
         }
-        if !is_free_at(reg, from, count, AsNumber(c)) {
+        if holds_at(reg, from, count, AsNumber(c)) {
             return false;
+        }
+        if bodies < from {
+            if reg[from] <= reg[from - 1] {
+                between += 1;
+            }
         }
         customer = c;
         source = s;
         from += count;
         i += 1;
     }
-    true
+    descents(&reg[bodies..from]) == between
 }
 
 // The words are a well-formed register, whatever they are.

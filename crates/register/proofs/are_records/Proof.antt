@@ -1,30 +1,35 @@
 -- `register::are_records` meets its contract. Assumes nothing.
-use borrow.Author.Needs.{needs}
 use borrow.Author.Tests.{not-true, not-false}
-use mathlib.Core.Path.{sym, _∙_}
+use borrow.Author.Needs.{needs}
+use mathlib.Core.Path.{sym, _∙_, ap}
+use mathlib.Core.Logic.{⊎-elim}
 use Prim.Native.Nat.{_-_}
 use native.Mathlib.Omega.{arith}
-use Rattle.register.proofs.Checking.{Checked, checks, all-checked, slot-inside, list-inside, no-record, no-order, list-here, no-list, checks-on}
+use lib.Dec.{eqb}
+use lib.ListN.{length-take, length-drop}
+use Rattle.register.proofs.Descending.{no-fall, one-fall}
+use Rattle.register.proofs.Checking.{Checked, checks, lists-few, lists-inside, all-checked, slot-inside, list-inside, no-record, list-some, first-inside}
+use Rattle.register.proofs.Checking.{no-order, no-own, checks-first, checks-next}
 use Rattle.register.proofs.are_records.Statement.{statement}
 use Rattle.register.proofs.are_records.Tie as tie
 
 abbrev Inv-loop : tie.InvT-loop
-Inv-loop reg n customer₀ source₀ from₀ i₀ customer source from i = Checked reg n customer source from i
+Inv-loop reg n bodies customer₀ source₀ between₀ from₀ i₀ customer source between from i = Checked reg n customer source between from i
 
 abbrev μ-loop : tie.MeasureT-loop
-μ-loop reg n customer₀ source₀ from₀ i₀ customer source from i = n - i
+μ-loop reg n bodies customer₀ source₀ between₀ from₀ i₀ customer source between from i = n - i
 
 word-requires : tie.Need-word-requires Inv-loop μ-loop
 word-requires c κs = search needs
 
-mul-from : tie.Need-mul-from Inv-loop μ-loop
-mul-from c = search needs
+mul-bodies : tie.Need-mul-bodies Inv-loop μ-loop
+mul-bodies c = search needs
 
-add-from : tie.Need-add-from Inv-loop μ-loop
-add-from c = search needs
+add-bodies : tie.Need-add-bodies Inv-loop μ-loop
+add-bodies c = search needs
 
 loop-holds : tie.Need-loop-holds Inv-loop μ-loop
-loop-holds c = checks (c .before .before .pre) (c .word .ensures .0)
+loop-holds c = checks (c .before .before .pre .0) (c .word .ensures .0)
 
 mul-at : tie.Need-mul-at Inv-loop μ-loop
 mul-at c = omega (arith, slot-inside (c .before .loop .inv) (c .loop-test .taken))
@@ -69,23 +74,52 @@ returns-2 c =
     no-order (t .before .loop .inv) (t .loop-test .taken) (w .word2 .ensures .0) (c .before .before .if1 .left)
     (sym (c .before .is-before .ensures) ∙ not-true _ (c .if2 .taken))
 
-is-free-at-requires : tie.Need-is-free-at-requires Inv-loop μ-loop
-is-free-at-requires c κs =
+holds-at-requires : tie.Need-holds-at-requires Inv-loop μ-loop
+holds-at-requires c κs =
     let w = c .before .before .before in
     let t = w .before .before .before in
-    list-here (t .before .loop .inv) (t .loop-test .taken) (w .word2 .ensures .0) (c .before .before .if1 .left)
+    (list-some (t .before .loop .inv) (t .loop-test .taken) (w .word2 .ensures .0) (c .before .before .if1 .left), list-inside (t .before .loop .inv) (t .loop-test .taken) (w .word2 .ensures .0))
 
 returns-3 : tie.Need-returns-3 Inv-loop μ-loop
 returns-3 c =
     let w = c .before .before .before .before .before in
     let t = w .before .before .before in
-    no-list (t .before .loop .inv) (t .loop-test .taken) (w .word2 .ensures .0) (c .before .before .before .before .if1 .left)
-    (sym (c .before .before .before .is-before .ensures) ∙ not-false _ (c .before .before .if2 .left))
-    (sym (c .before .is-free-at .ensures) ∙ not-true _ (c .if3 .taken))
+    no-own (t .before .loop .inv) (t .loop-test .taken) (w .word2 .ensures .0) (c .before .before .before .before .if1 .left)
+    (sym (c .before .before .before .is-before .ensures) ∙ not-false _ (c .before .before .if2 .left)) (c .before .holds-at .ensures) (c .if3 .taken)
 
-add-from-2 : tie.Need-add-from-2 Inv-loop μ-loop
-add-from-2 c =
-    let w = c .before .before .before .before .before in
+mul-if5 : tie.Need-mul-if5 Inv-loop μ-loop
+mul-if5 c =
+    let w = c .before .before .before .before .before .before in
+    let t = w .before .before .before in
+    omega (arith, first-inside (t .before .loop .inv) (t .loop-test .taken) (w .word2 .ensures .0) (c .before .before .before .before .before .if1 .left))
+
+shared-slice-read-if5 : tie.Need-shared-slice-read-if5 Inv-loop μ-loop
+shared-slice-read-if5 c =
+    let w = c .before .before .before .before .before .before .before in
+    let t = w .before .before .before in
+    first-inside (t .before .loop .inv) (t .loop-test .taken) (w .word2 .ensures .0) (c .before .before .before .before .before .before .if1 .left)
+
+sub-if5 : tie.Need-sub-if5 Inv-loop μ-loop
+sub-if5 c = search needs
+
+mul-if5-2 : tie.Need-mul-if5-2 Inv-loop μ-loop
+mul-if5-2 c =
+    let w = c .before .before .before .before .before .before .before in
+    let t = w .before .before .before in
+    omega (arith, first-inside (t .before .loop .inv) (t .loop-test .taken) (w .word2 .ensures .0) (c .before .before .before .before .before .before .if1 .left))
+
+shared-slice-read-if5-2 : tie.Need-shared-slice-read-if5-2 Inv-loop μ-loop
+shared-slice-read-if5-2 c =
+    let w = c .before .before .before .before .before .before .before .before in
+    let t = w .before .before .before in
+    omega (arith, first-inside (t .before .loop .inv) (t .loop-test .taken) (w .word2 .ensures .0) (c .before .before .before .before .before .before .before .if1 .left))
+
+add-between : tie.Need-add-between Inv-loop μ-loop
+add-between c = search needs
+
+add-from : tie.Need-add-from Inv-loop μ-loop
+add-from c =
+    let w = c .before .before .before .before .before .before in
     let t = w .before .before .before in
     omega (arith, list-inside (t .before .loop .inv) (t .loop-test .taken) (w .word2 .ensures .0))
 
@@ -97,14 +131,39 @@ loop-less c = search needs
 
 loop-again : tie.Need-loop-again Inv-loop μ-loop
 loop-again c =
-    let w = c .before .before .before .before .before in
+    let w = c .before .before .before .before .before .before in
     let t = w .before .before .before in
-    checks-on (t .before .loop .inv) (t .loop-test .taken) (w .word2 .ensures .0) (c .before .before .before .before .if1 .left)
-    (sym (c .before .before .before .is-before .ensures) ∙ not-false _ (c .before .before .if2 .left))
-    (sym (c .before .is-free-at .ensures) ∙ not-false _ (c .if3 .left))
+    let g = t .before .loop .inv in
+    let h = t .loop-test .taken in
+    let e = w .word2 .ensures .0 in
+    let k = c .before .before .before .before .before .if1 .left in
+    let q = sym (c .before .before .before .before .is-before .ensures) ∙ not-false _ (c .before .before .before .if2 .left) in
+    let f = c .before .before .holds-at .ensures in
+    let o = c .before .if3 .left in
+    ⊎-elim (λ a. checks-next g h e k q f o (a .0 .taken) (omega (arith, a .4, one-fall (a .3 .taken))))
+    (⊎-elim (λ a. checks-next g h e k q f o (a .0 .taken) (omega (arith, a .4, no-fall (a .3 .left))))
+    (λ a. checks-first g h e k q f o (a .0 .left) (a .1)))
+    (c .if4 .came)
+
+mul-descents : tie.Need-mul-descents Inv-loop μ-loop
+mul-descents c = omega (arith, lists-inside (c .before .loop .inv))
+
+sub-descents : tie.Need-sub-descents Inv-loop μ-loop
+sub-descents c = search needs
+
+part-descents-start : tie.Need-part-descents-start Inv-loop μ-loop
+part-descents-start c = search needs
+
+part-descents-end : tie.Need-part-descents-end Inv-loop μ-loop
+part-descents-end c = omega (arith, lists-inside (c .before .loop .inv))
+
+descents-requires : tie.Need-descents-requires Inv-loop μ-loop
+descents-requires c κs = simp (length-take, length-drop) (omega (arith, lists-few (c .before .before .loop .inv)))
 
 returns-4 : tie.Need-returns-4 Inv-loop μ-loop
-returns-4 c = all-checked (c .before .loop .inv) (c .loop-test .left)
+returns-4 c =
+    let l = c .before .before in
+    ap (λ d. eqb d (l .before .loop .between)) (c .descents .ensures .0) ∙ all-checked (l .before .loop .inv) (l .loop-test .left)
 
 pub are-records-spec : {M : Type 1} → statement M
 are-records-spec =
@@ -113,8 +172,8 @@ are-records-spec =
     Inv-loop
     μ-loop
     word-requires
-    mul-from
-    add-from
+    mul-bodies
+    add-bodies
     loop-holds
     mul-at
     add-at
@@ -128,10 +187,21 @@ are-records-spec =
     returns
     is-before-requires
     returns-2
-    is-free-at-requires
+    holds-at-requires
     returns-3
-    add-from-2
+    mul-if5
+    shared-slice-read-if5
+    sub-if5
+    mul-if5-2
+    shared-slice-read-if5-2
+    add-between
+    add-from
     add-i
     loop-less
     loop-again
+    mul-descents
+    sub-descents
+    part-descents-start
+    part-descents-end
+    descents-requires
     returns-4)

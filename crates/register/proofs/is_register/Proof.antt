@@ -36,7 +36,7 @@ returns-3 c =
 are-records-requires : tie.Need-are-records-requires
 are-records-requires c κs =
     let w = c .before .before .before .before in
-    passes-sound recordHead recordTail _ (sym (w .before .well-formed .ensures) ∙ not-false _ (w .if1 .left))
+    (passes-sound recordHead recordTail _ (sym (w .before .well-formed .ensures) ∙ not-false _ (w .if1 .left)), omega arith)
 
 returns-4 : tie.Need-returns-4
 returns-4 c =
