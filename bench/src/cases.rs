@@ -268,9 +268,12 @@ fn calls(work: &Work, register: &Register, long: &Register) -> Vec<Call> {
         let register = register.clone();
         move |_| check(&register)
     };
-    let rejudge_none_anew = |register: &Register| {
+    let rejudge_none_anew = |register: &Register, most: Option<usize>| {
         let (register, random) = (register.clone(), RefCell::new(Random(1)));
-        move |_| check(&work::with_other_lists(&register, &mut random.borrow_mut()))
+        move |_| {
+            let random = &mut random.borrow_mut();
+            check(&work::with_other_lists(&register, random, most))
+        }
     };
     let (front, list) = (AsNumber(work.customers[0]), numbers(&work.lists[0]));
     let without = {
@@ -330,7 +333,15 @@ fn calls(work: &Work, register: &Register, long: &Register) -> Vec<Call> {
         call("re-judge of no route", rejudge_none(register)),
         call(
             "re-judge of no route, new lists",
-            rejudge_none_anew(register),
+            rejudge_none_anew(register, None),
+        ),
+        call(
+            "re-judge of no route, new lists of 1 to 4",
+            rejudge_none_anew(register, Some(4)),
+        ),
+        call(
+            "re-judge of no route, new lists of 1 to 14",
+            rejudge_none_anew(register, Some(14)),
         ),
         call(
             "re-judge of no route, 32 records of 256",
@@ -338,7 +349,7 @@ fn calls(work: &Work, register: &Register, long: &Register) -> Vec<Call> {
         ),
         call(
             "re-judge of no route, 32 new lists of 256",
-            rejudge_none_anew(long),
+            rejudge_none_anew(long, None),
         ),
         call("judge, path of 5, role 1", judge(register, Role::Customer)),
         call("judge, path of 5, role 3", judge(register, Role::Provider)),

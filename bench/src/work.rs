@@ -191,21 +191,28 @@ pub fn make(random: &mut Random, numbers: &Numbers, records: usize, providers: u
     }
 }
 
-/// The same records with other lists. Their numbers are drawn like the customers, so that a customer's place among them can be any.
-pub fn with_other_lists(register: &Register, random: &mut Random) -> Register {
-    let mut words = register.words().to_vec();
-    let records = words[0] as usize;
-    let (slots, bodies) = words[2..].split_at_mut(4 * records);
-    for slot in slots.chunks_exact(4) {
-        let list = &mut bodies[slot[2] as usize..][..slot[3] as usize];
+/// The same customers with other lists, as long as they were or of 1 to `most` numbers each. Their numbers are drawn like the customers,
+/// so that a customer's place among them can be any.
+pub fn with_other_lists(register: &Register, random: &mut Random, most: Option<usize>) -> Register {
+    let (mut slots, mut bodies): (Vec<u32>, Vec<u32>) = (Vec::new(), Vec::new());
+    for record in register.records() {
+        let customer = record.customer.0;
+        let count = most.map_or(record.providers.len(), |most| 1 + random.below(most));
+        let mut list = vec![0; count];
         loop {
             list.fill_with(|| ALL.draw(random));
             list.sort_unstable();
-            if list.is_sorted_by(|a, b| a < b) && !list.contains(&slot[0]) {
+            if list.is_sorted_by(|a, b| a < b) && !list.contains(&customer) {
                 break;
             }
         }
+        slots.extend([customer, record.source, bodies.len() as u32, count as u32]);
+        bodies.append(&mut list);
     }
+    let mut words = vec![(slots.len() / 4) as u32, bodies.len() as u32];
+    words.append(&mut slots);
+    words.append(&mut bodies);
+    words.resize(register.words().len(), 0);
     Register::from_words(words)
 }
 
