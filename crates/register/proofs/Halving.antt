@@ -1,18 +1,19 @@
 -- A number looked for in a list: each turn of the loop by halves, and eight words at once. Assumes nothing.
 use Prim.Native.Nat.{ℕ, zero, suc, _+_, _-_, _≤_, _<_}
-use mathlib.Core.Path.{_≡_, refl, sym, _∙_}
+use mathlib.Core.Path.{_≡_, refl, sym, _∙_, ap}
 use mathlib.Core.Bool.{Bool, true, false, _||_, or-false}
 use mathlib.Core.List.{List}
 use native.Mathlib.Omega.{arith}
 use borrow.Author.Tests.{ltb-true, ltb-false, eqb-true, eqb-false}
 use lib.Dec.{ltb, eqb}
 use lib.ListN.{length, getD, take, drop, length-take, length-drop}
-use lib.Seq.{drop-cons, take-take, getD-take}
+use lib.Seq.{drop-cons, drop-drop, take-take, take-add, getD-take}
 use Rattle.types.proofs.Clashes.{not-both}
 use Rattle.rules.specs.Records.{isIn}
 use Rattle.register.specs.Register.{rises}
 use Rattle.register.specs.Helpers.{listAt}
 use Rattle.register.proofs.Members.{rises-at, at-in, in-at}
+use Rattle.register.proofs.Uniting.{in-append}
 
 -- ---- by halves
 
@@ -115,12 +116,23 @@ none-among x m n l h k e = go (isIn x (take m l)) refl
         let g : getD (take n l) (s .at) 0 ≡ x = getD-take n l (s .at) 0 (omega arith) ∙ sym (getD-take m l (s .at) 0 w) ∙ s .here in
         not-both e (at-in x (take n l) (s .at) (simp length-take (omega arith)) g)
 
--- A list of at most eight numbers among the words.
-pub not-among : (ws : List ℕ) (x from count : ℕ) → count ≤ 8 → from + 8 ≤ length ws → {among : Bool}
-    → among ≡ isIn x (take 8 (take (from + 8 - from) (drop from ws))) → among ≡ false → false ≡ isIn x (listAt ws from count)
-not-among ws x from count h k e f =
-    let z : from + 8 - from ≡ 8 = omega arith in
-    sym (none-among x count 8 (drop from ws) h (simp length-drop (omega arith)) (sym (rw (z, take-take 8 8 (drop from ws) (omega arith)) at e) ∙ f))
+-- A list of at most sixteen numbers among the words, of which neither eight is x.
+pub not-among : (ws : List ℕ) (x from count : ℕ) → count ≤ 16 → from + 16 ≤ length ws → {low high : Bool}
+    → low ≡ isIn x (take 8 (take (from + 8 - from) (drop from ws))) → high ≡ isIn x (take 8 (take (from + 16 - (from + 8)) (drop (from + 8) ws)))
+    → (low || high) ≡ false → false ≡ isIn x (listAt ws from count)
+not-among ws x from count h k {low} {high} e f n = sym (none-among x count 16 (drop from ws) h (simp length-drop (omega arith)) sixteen)
+  where
+    first : low ≡ isIn x (take 8 (drop from ws))
+    first = let z : from + 8 - from ≡ 8 = omega arith in rw (z, take-take 8 8 (drop from ws) (omega arith)) at e
+
+    second : high ≡ isIn x (take 8 (drop 8 (drop from ws)))
+    second =
+        let z : from + 16 - (from + 8) ≡ 8 = omega arith in
+        rw (drop-drop 8 from ws) (rw (z, take-take 8 8 (drop (from + 8) ws) (omega arith)) at f)
+
+    sixteen : isIn x (take 16 (drop from ws)) ≡ false
+    sixteen =
+        ap (isIn x) (take-add 8 8 (drop from ws)) ∙ in-append x (take 8 (drop from ws)) (take 8 (drop 8 (drop from ws))) ∙ rw (← first, ← second) n
 
 -- What was said of the part that the code cuts, said of the list.
 pub part-holds : (ws : List ℕ) (x from count : ℕ) {r : Bool}

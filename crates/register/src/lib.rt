@@ -155,16 +155,18 @@ fn is_among_eight(words: &[u32], number: AsNumber) -> bool
                     | ((words[4] == x) | ((words[5] == x) | ((words[6] == x) | (words[7] == x)))))))
 }
 
-// The same as `holds` of the list of `count` numbers that begins at a word. Most lists are short, and their lengths and numbers no
-// processor foresees: so eight words are compared at once, though some may belong to other lists, and only if one of them is the
+// The same as `holds` of the list of `count` numbers that begins at a word. Most lists are short, and no processor foresees their
+// lengths and numbers: so sixteen words are compared at once, though some may belong to other lists, and only if one of them is the
 // number the list is searched.
 fn holds_at(reg: &[u32], from: usize, count: usize, number: AsNumber) -> bool
     requires { ⌜ (1 ≤ count) × (from + count ≤ length (now reg)) ⌝ }
     ensures { λ r. ⌜ (rises (listAt (now (reg .entry)) from count) ≡ true → r ≡ isIn (number .0) (listAt (now (reg .entry)) from count)) ⌝ }
 {
-    if count <= 8 {
-        if from + 8 <= reg.len() {
-            if !is_among_eight(&reg[from..from + 8], number) {
+    if count <= 16 {
+        if from + 16 <= reg.len() {
+            let low = is_among_eight(&reg[from..from + 8], number);
+            let high = is_among_eight(&reg[from + 8..from + 16], number);
+            if !(low | high) {
                 return false;
             }
         }

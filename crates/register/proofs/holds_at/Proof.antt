@@ -26,11 +26,32 @@ part-is-among-eight-end c = search needs
 is-among-eight-requires : tie.Need-is-among-eight-requires
 is-among-eight-requires c κs = search needs
 
+add-is-among-eight-2 : tie.Need-add-is-among-eight-2
+add-is-among-eight-2 c = search needs
+
+add-is-among-eight-3 : tie.Need-add-is-among-eight-3
+add-is-among-eight-3 c = search needs
+
+mul-is-among-eight-2 : tie.Need-mul-is-among-eight-2
+mul-is-among-eight-2 c = search needs
+
+sub-is-among-eight-2 : tie.Need-sub-is-among-eight-2
+sub-is-among-eight-2 c = search needs
+
+part-is-among-eight-start-2 : tie.Need-part-is-among-eight-start-2
+part-is-among-eight-start-2 c = search needs
+
+part-is-among-eight-end-2 : tie.Need-part-is-among-eight-end-2
+part-is-among-eight-end-2 c = search needs
+
+is-among-eight-requires-2 : tie.Need-is-among-eight-requires-2
+is-among-eight-requires-2 c κs = search needs
+
 returns : tie.Need-returns
 returns c =
-    let a = c .before .before .before .before .before .before .args in
-    λ e. not-among (a .reg .now) (a .number .0) (a .from) (a .count) (c .before .before .before .before .if1 .taken) (c .before .before .before .if2 .taken) (c .before .is-among-eight .ensures)
-    (not-true _ (c .if3 .taken))
+    let a = c .before .before .before .before .before .before .before .before .args in
+    λ e. not-among (a .reg .now) (a .number .0) (a .from) (a .count) (c .before .before .before .before .before .before .if1 .taken) (c .before .before .before .before .before .if2 .taken)
+    (c .before .before .before .is-among-eight .ensures) (c .before .is-among-eight2 .ensures) (not-true _ (c .if3 .taken))
 
 add-holds : tie.Need-add-holds
 add-holds c = search needs
@@ -64,6 +85,13 @@ holds-at-spec =
     part-is-among-eight-start
     part-is-among-eight-end
     is-among-eight-requires
+    add-is-among-eight-2
+    add-is-among-eight-3
+    mul-is-among-eight-2
+    sub-is-among-eight-2
+    part-is-among-eight-start-2
+    part-is-among-eight-end-2
+    is-among-eight-requires-2
     returns
     add-holds
     mul-holds
