@@ -103,10 +103,10 @@
 //! # What calls cost
 //!
 //! Every call checks the tables that it is lent, from the first word to the last. By the figures of docs/BENCHMARKS.md a judging of a
-//! short path takes some 5 µs over a full register and 1 µs over an empty one, a filing or withdrawal some 7 µs, a re-judging of 512
-//! routes of 16 numbers 0.11 ms, and a snapshot of full tables some 13 µs to write and 20 µs to read. A full register with lists that the
-//! processor has not met takes some 7 µs more to check. Nothing is kept between calls, and only new tables and the calls of [`Tables`] on
-//! files and streams allocate: tables may be sent to other threads, and several threads may judge by one register at once.
+//! short path takes some 4 µs over a full register and 1 µs over an empty one, a filing or withdrawal some 6 µs, a re-judging of 512
+//! routes of 16 numbers 0.12 ms, and a snapshot of full tables some 13 µs to write and 17 µs to read. Nothing is kept between calls, and
+//! only new tables and the calls of [`Tables`] on files and streams allocate: tables may be sent to other threads, and several threads
+//! may judge by one register at once.
 //!
 //! # Rules
 //!
