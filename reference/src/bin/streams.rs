@@ -1736,6 +1736,19 @@ fn own_customers_stored(lines: &mut Lines) {
         lines.say(&format!("poke register {index} {old}"));
     }
     lines.all(&["judge 1 5 -", "file 1 300 299 301", "register"]);
+    // lists of many lengths, the customer at each index, with another list behind that holds it
+    for length in [1, 2, 3, 7, 8, 9, 15, 16, 17, 18, 33] {
+        lines.say("empty");
+        lines.file(0, 301, &[300]);
+        for index in 0..length {
+            lines.file(0, 300, &run_without(300, 300 - index, length as usize));
+            lines.say("judge 1 5 -");
+            lines.say(&format!("poke register {} 300", 10 + index));
+            lines.say("judge 1 5 -");
+            lines.say(&format!("poke register {} 301", 10 + index));
+        }
+        lines.say("register");
+    }
 }
 
 fn room(lines: &mut Lines) {
