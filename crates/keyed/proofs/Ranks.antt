@@ -46,14 +46,6 @@ module _ {E K : Type 0} (key : E → K) (same before : K → K → Bool) where
   rank-only k (e ∷ es) d (suc r) h low high = rw (low 0 (omega arith))
       (ap suc (rank-only k es d r (omega arith) (λ i l. low (suc i) (omega arith)) (λ i l m. high (suc i) (omega arith) (omega arith))))
 
-  -- An entry that does not stand before the key is not below its rank.
-  pub rank-under : (k : K) (es : List E) (d : E) (i : ℕ) → before (key (getD es i d)) k ≡ false → rank key same before k es ≤ i
-  rank-under k es d i h = go (ltb i (rank key same before k es)) refl
-    where
-      go : (b : Bool) → ltb i (rank key same before k es) ≡ b → rank key same before k es ≤ i
-      go true p = absurd (let z : _≡_ {A = ℕ} 0 1 = cc (rank-below k es d i (ltb-true i (rank key same before k es) p)) in omega arith)
-      go false p = ltb-false i (rank key same before k es) p
-
   -- A key that an entry has is held.
   pub holds-entry : (k : K) (es : List E) (d : E) (i : ℕ) → i < length es → same k (key (getD es i d)) ≡ true → holds key same before k es ≡ true
   unfolding holds
@@ -136,15 +128,6 @@ module _ {E K : Type 0} (key : E → K) (same before : K → K → Bool) (o : Or
           → (rank key same before k es ≤ i → i < length es → before (key (getD es i d)) k ≡ false) → before (key (getD es i d)) k ≡ false
       go true p g ih = ih (omega arith) (omega arith)
       go false p g ih = not-yet p (before (key (getD es i d)) k) refl
-
-  -- An entry that stands before the key is below its rank.
-  pub rank-over : (k : K) (es : List E) (d : E) (i : ℕ) → ascends key same before es ≡ true → i < length es
-      → before (key (getD es i d)) k ≡ true → i < rank key same before k es
-  rank-over k es d i a l h = go (ltb i (rank key same before k es)) refl
-    where
-      go : (b : Bool) → ltb i (rank key same before k es) ≡ b → i < rank key same before k es
-      go true p = ltb-true i (rank key same before k es) p
-      go false p = absurd (let z : _≡_ {A = ℕ} 0 1 = cc (rank-above k es d i a (ltb-false i (rank key same before k es) p) l) in omega arith)
 
   -- A key that is held is the key of the entry at its rank.
   pub holds-at : (k : K) (es : List E) (d : E) → ascends key same before es ≡ true → holds key same before k es ≡ true

@@ -1,18 +1,23 @@
 -- Look-up by number: the binary search, and whether the route is there. Assumes nothing.
-use Prim.Native.Nat.{ℕ, _+_, _-_, _*_, _/_, _≤_, _<_}
+use Prim.Native.Nat.{ℕ, suc, _+_, _-_, _*_, _≤_, _<_}
 use mathlib.Core.Path.{_≡_, sym, _∙_, ap}
 use mathlib.Core.Bool.{false, true}
 use mathlib.Core.List.{List}
 use native.Mathlib.Omega.{arith}
-use borrow.Author.Tests.{lt-ltb, le-ltb}
 use lib.Dec.{ltb, eqb}
 use lib.ListN.{length, getD}
 use Rattle.table.proofs.Sounds.{long}
 use Rattle.keyed.specs.Keyed.{holds}
 use Rattle.keyed.proofs.Orders.{ordered-ℕ, same-flip}
-use Rattle.keyed.proofs.Ranks.{rank-within, rank-over, rank-under, holds-not-end, holds-is}
+use Rattle.keyed.proofs.Ranks.{rank-within, holds-not-end, holds-is}
+use Rattle.halves.specs.Halves.{beforeIn, Begins, positionIn, halvings}
+use Rattle.halves.specs.Helpers.{Searchable}
+use Rattle.halves.proofs.Positions.{alike, leads, at-rank, first-decides}
+use Rattle.halves.proofs.Counts.{under}
+use Rattle.halves.proofs.Steps.{searchable}
 use Rattle.ledger.specs.Routes.{routeHead, routeTail, routeWidth, slotAt}
 use Rattle.ledger.specs.Routes.{mostRoutes, routesOf, routeAt, keyOf, positionOf, ledgerOk}
+use Rattle.ledger.specs.Helpers.{mostSteps}
 use Rattle.ledger.proofs.Entries.{route-count, number-is, slot-within}
 use Rattle.ledger.proofs.Holding.{sound, routes-ok, ordered, has-room, room-routes}
 
@@ -30,6 +35,10 @@ module _ (ws : List ℕ) (e : ledgerOk ws ≡ true) where
   -- There are not too many routes.
   pub few : length (routesOf ws) ≤ mostRoutes
   few = room-routes (routesOf ws) (has-room (routesOf ws) (routes-ok ws e))
+
+  -- So none is far to find.
+  pub soon : suc (halvings (getD ws 0 0 - 0)) ≤ mostSteps
+  soon = let x = under (getD ws 0 0 - 0) 9 (omega (arith, count-is, few)) in omega arith
 
   -- Slot i is within the words.
   pub slot-in : (i : ℕ) → i < length (routesOf ws) → slotAt i + routeWidth ≤ length ws
@@ -67,43 +76,22 @@ module _ (ws : List ℕ) (e : ledgerOk ws ≡ true) where
 
 -- ---- the search
 
--- The position looked for is between low and high.
-pub record Between (ws : List ℕ) (k low high : ℕ) : Type 0 where
-  pub ok : ledgerOk ws ≡ true
-  pub over : low ≤ positionOf k (routesOf ws)
-  pub under : positionOf k (routesOf ws) ≤ high
-  pub within : high ≤ length (routesOf ws)
-  pub small : length (routesOf ws) ≤ mostRoutes
+module _ (ws : List ℕ) (e : ledgerOk ws ≡ true) (k : ℕ) where
+  -- A route's position is where the routes from its number on begin.
+  pub begins : Begins (λ i. ltb (keyOf (routeAt (routesOf ws) i)) k) (length (routesOf ws)) (positionOf k (routesOf ws))
+  unfolding positionOf
+  begins = at-rank keyOf eqb ltb ordered-ℕ k (routesOf ws) _ (ordered ws e)
 
--- Before the first turn it is between 0 and the number of routes.
-pub starts : (ws : List ℕ) (k n : ℕ) → ledgerOk ws ≡ true → n ≡ getD ws 0 0 → Between ws k 0 n
-starts ws k n e p =
-    record {
-      ok = e;
-      over = omega arith;
-      under = omega (arith, position-within ws e k, count-is ws e);
-      within = omega (arith, count-is ws e);
-      small = few ws e;
-    }
+  -- The same of the words.
+  begins-in : Begins (beforeIn routeWidth ws (k, 0)) (getD ws 0 0) (positionOf k (routesOf ws))
+  begins-in =
+      rw (← count-is ws e) at
+      (alike begins (λ i l. ap (λ x. ltb x k) (sym (key-is ws e i l)) ∙ first-decides (getD ws (slotAt i) 0) (getD ws (slotAt i + 1) 0) k))
 
-module _ {ws : List ℕ} {k low high : ℕ} (b : Between ws k low high) where
-  -- The slot in the middle is within the words.
-  pub middle-in : low < high → slotAt (low + (high - low) / 2) + routeWidth ≤ length ws
-  middle-in h = slot-in ws (b .ok) (low + (high - low) / 2) (omega arith)
+  -- They can be searched.
+  pub can-search : Searchable ws routeWidth 0 (k, 0)
+  can-search = searchable routeHead routeTail ws 0 (k, 0) (sound ws e) (omega arith) begins-in (omega arith)
 
-  module _ (m : ℕ) (l : low ≤ m) (h : m < high) where
-    -- Route m stands before the number: the position is behind it.
-    pub turns-up : getD ws (slotAt m) 0 < k → Between ws k (m + 1) high
-    unfolding positionOf
-    turns-up t =
-        let x : keyOf (routeAt (routesOf ws) m) < k = omega (arith, key-is ws (b .ok) m (omega arith)) in
-        let y = rank-over keyOf eqb ltb ordered-ℕ k (routesOf ws) _ m (ordered ws (b .ok)) (omega arith) (lt-ltb _ _ x) in
-        record { ok = b .ok; over = omega arith; under = b .under; within = b .within; small = b .small }
-
-    -- It does not: the position is not behind it.
-    pub turns-down : k ≤ getD ws (slotAt m) 0 → Between ws k low m
-    unfolding positionOf
-    turns-down t =
-        let x : k ≤ keyOf (routeAt (routesOf ws) m) = omega (arith, key-is ws (b .ok) m (omega arith)) in
-        let y = rank-under keyOf eqb ltb k (routesOf ws) _ m (le-ltb _ _ x) in
-        record { ok = b .ok; over = b .over; under = y; within = omega arith; small = b .small }
+  -- The position that a search answers is the route's.
+  pub position-is : positionIn routeWidth ws (k, 0) ≡ positionOf k (routesOf ws)
+  position-is = leads (beforeIn routeWidth ws (k, 0)) (getD ws 0 0) _ begins-in

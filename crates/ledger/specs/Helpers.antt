@@ -20,3 +20,7 @@ pub record RouteIn (ws : List ℕ) (i : ℕ) : Type 0 where
   pub size : length ws ≡ ledgerWords
   pub within : i < length (routesOf ws)
   pub ok : routeOk (routeAt (routesOf ws) i) ≡ true
+
+-- The most steps that find a route: a full ledger's routes can be halved nine times.
+abbrev pub mostSteps : ℕ
+mostSteps = 10

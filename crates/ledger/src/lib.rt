@@ -1,4 +1,6 @@
 // The ledger of kept routes: its check, its look-up, a route stored, and Drop.
+use halves::Key;
+use halves::Range;
 use types::AsNumber;
 use types::Refusal;
 use types::Removal;
@@ -18,7 +20,7 @@ ghost use Rattle.types.specs.Rows.{effect};
 ghost use Rattle.ledger.specs.Routes.{ledgerWords, mostRoutes, routeHead, routeTail, routesOf, routeAt, keyOf, positionOf, pathWords};
 ghost use Rattle.ledger.specs.Routes.{noZero, pathOk, routeOk, isBehind, ledgerOk};
 ghost use Rattle.ledger.specs.Calls.{holdsRoute, routeFor, storeEffect, dropEffect, stamped, changeEffect};
-ghost use Rattle.ledger.specs.Helpers.{PathFrom, RouteIn};
+ghost use Rattle.ledger.specs.Helpers.{PathFrom, RouteIn, mostSteps};
 
 const MOST_ROUTES: usize = 512;
 
@@ -169,23 +171,25 @@ pub fn is_ledger(led: &[u32]) -> bool
 
 // ---- look-up
 
+// The position of a route, by halves: at most ten routes are looked at. No role is below 0, so the number alone decides.
+fn search(led: &[u32], number: RouteNumber) -> Range
+    requires { ⌜ ledgerOk (now led) ≡ true ⌝ }
+    ensures { λ r. ⌜ (r .low ≡ positionOf (number .0) (routesOf (now (led .entry)))) × (r .steps ≤ mostSteps) ⌝ }
+{
+    let key = Key {
+        first: number.0,
+        second: 0,
+    };
+    halves::search(led, WIDTH, 0, key)
+}
+
 // Where a route stands, or would stand: how many routes come before it.
 fn find(led: &[u32], number: RouteNumber) -> usize
     requires { ⌜ ledgerOk (now led) ≡ true ⌝ }
     ensures { λ r. ⌜ (r ≡ positionOf (number .0) (routesOf (now (led .entry)))) × (r ≤ length (routesOf (now (led .entry)))) ⌝ }
 {
-    let mut low: usize = 0;
-    let mut high = table::word(led, 0);
-    while low < high {
-        let middle = low + (high - low) / 2;
-        let n = number.0;
-        if led[table::COUNTERS + middle * WIDTH] < n {
-            low = middle + 1;
-        } else {
-            high = middle;
-        }
-    }
-    low
+    let found = search(led, number);
+    found.low
 }
 
 // Whether the route at a position that `find` answered is the one looked for.

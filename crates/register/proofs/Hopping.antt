@@ -11,11 +11,12 @@ use Rattle.types.specs.declared.Hop.the-variants.{NoAttestation, ProviderPlus, 
 use Rattle.table.specs.Table.{counters}
 use Rattle.keyed.specs.Keyed.{samePair, beforePair, ascends}
 use Rattle.keyed.proofs.Orders.{BeforePair, first, second, before-says, before-self}
+use Rattle.halves.proofs.Positions.{under}
 use Rattle.rules.specs.Records.{Record, isIn, attested, united, hopOf}
 use Rattle.register.specs.Register.{recordWidth, startWord, countWord, recordsOf, recordAt, keyOf, positionOf, listed, registerOk}
 use Rattle.register.proofs.Entries.{list-start, length-is, list-is, list-within, customer-is}
 use Rattle.register.proofs.Holding.{sound, ordered}
-use Rattle.register.proofs.Looking.{position-within, position-below, position-above, position-under, count-is, slot-in}
+use Rattle.register.proofs.Looking.{begins, count-is, slot-in}
 use Rattle.register.proofs.Uniting.{told, skips, past-all, attests, unites, none-united, hop-is}
 
 -- A pair that does not stand before another has no lesser customer.
@@ -34,19 +35,19 @@ less c s x (second e h) = absurd (omega arith)
 module _ (rs : List Record) (a : ascends keyOf samePair beforePair rs ≡ true) where
   -- The records below x's position have lesser customers.
   customers-below : (x i : ℕ) → i < positionOf x 0 rs → recordAt rs i .customer < x
-  customers-below x i h = less _ (recordAt rs i .source) x (before-says (keyOf (recordAt rs i)) (x, 0) (position-below rs a x 0 i h))
+  customers-below x i h = less _ (recordAt rs i .source) x (before-says (keyOf (recordAt rs i)) (x, 0) (begins rs a x 0 .below i h))
 
   -- The records from x's position on do not.
   customers-above : (x i : ℕ) → positionOf x 0 rs ≤ i → i < length rs → x ≤ recordAt rs i .customer
-  customers-above x i h l = not-less _ (recordAt rs i .source) x 0 (position-above rs a x 0 i h l)
+  customers-above x i h l = not-less _ (recordAt rs i .source) x 0 (begins rs a x 0 .behind i h l)
 
   -- Customers do not descend.
   customers-ascend : (i j : ℕ) → i ≤ j → j < length rs → recordAt rs i .customer ≤ recordAt rs j .customer
   customers-ascend i j h l =
       let c = recordAt rs i .customer in
       let s = recordAt rs i .source in
-      let u : positionOf c s rs ≤ i = position-under rs a c s i (before-self (c, s)) in
-      not-less _ (recordAt rs j .source) c s (position-above rs a c s j (omega arith) l)
+      let u : positionOf c s rs ≤ i = under (begins rs a c s) i (before-self (c, s)) in
+      not-less _ (recordAt rs j .source) c s (begins rs a c s .behind j (omega arith) l)
 
 -- The scan is at record i: x is attested if and only if a record was passed or those from i on attest it.
 pub record Passing (ws : List ℕ) (position x n i : ℕ) : Type 0 where
@@ -64,7 +65,7 @@ module _ (ws : List ℕ) (x position : ℕ) (e : registerOk ws ≡ true) (p : po
   -- The records before position tell nothing of x.
   from-position : told x (drop position (recordsOf ws)) ≡ told x (recordsOf ws)
   from-position =
-      sym (skips x (recordsOf ws) 0 position (omega arith) (omega (arith, position-within (recordsOf ws) (ordered ws e) x 0))
+      sym (skips x (recordsOf ws) 0 position (omega arith) (omega (arith, begins (recordsOf ws) (ordered ws e) x 0 .within))
       (λ j l m q. omega (arith, customers-below (recordsOf ws) (ordered ws e) x j (omega arith))))
 
   -- Before the first turn none is passed.

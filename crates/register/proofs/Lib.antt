@@ -12,5 +12,6 @@ pub mod Placing
 pub mod Changes
 pub mod Refusals
 pub mod Filing
+pub mod FindLaws
 pub mod ListLaws
 pub mod Laws

@@ -1,5 +1,5 @@
 -- Look-up by customer and source: the binary search, and whether the record is there. Assumes nothing.
-use Prim.Native.Nat.{ℕ, _+_, _*_, _≤_, _<_}
+use Prim.Native.Nat.{ℕ, suc, _+_, _-_, _*_, _≤_, _<_}
 use mathlib.Core.Path.{_≡_, sym, _∙_}
 use mathlib.Core.Bool.{true, false, _&&_}
 use mathlib.Core.List.{List}
@@ -11,41 +11,26 @@ use Rattle.table.specs.Table.{counters}
 use Rattle.table.proofs.Sounds.{long}
 use Rattle.keyed.specs.Keyed.{samePair, beforePair, ascends}
 use Rattle.keyed.proofs.Orders.{ordered-pairs, same-flip}
-use Rattle.keyed.proofs.Ranks.{rank-within, rank-below, rank-above, rank-over, rank-under, holds-not-end, holds-is}
+use Rattle.keyed.proofs.Ranks.{holds-not-end, holds-is}
+use Rattle.halves.specs.Halves.{beforeIn, Begins, positionIn, halvings}
+use Rattle.halves.proofs.Positions.{alike, leads, at-rank}
+use Rattle.halves.specs.Helpers.{Searchable}
+use Rattle.halves.proofs.Counts.{eleven}
+use Rattle.halves.proofs.Steps.{searchable}
 use Rattle.rules.specs.Records.{Record}
 use Rattle.register.specs.Register.{recordHead, recordTail, recordWidth, sourceWord, mostRecords, recordsOf, recordAt, keyOf, positionOf, registerOk}
-use Rattle.register.specs.Helpers.{Within}
+use Rattle.register.specs.Helpers.{mostSteps}
 use Rattle.register.specs.Calls.{holdsRecord}
 use Rattle.register.proofs.Entries.{record-count, customer-is, source-is, slot-within}
 use Rattle.register.proofs.Holding.{sound, records-ok, ordered, has-room, room-records}
 
 -- ---- positions among records
 
-module _ (rs : List Record) (a : ascends keyOf samePair beforePair rs ≡ true) (c s : ℕ) where
-  -- A position is at most the number of records.
-  pub position-within : positionOf c s rs ≤ length rs
-  unfolding positionOf
-  position-within = rank-within keyOf samePair beforePair (c, s) rs
-
-  -- The records below the pair's position stand before it.
-  pub position-below : (i : ℕ) → i < positionOf c s rs → beforePair (keyOf (recordAt rs i)) (c, s) ≡ true
-  unfolding positionOf
-  position-below i h = rank-below keyOf samePair beforePair (c, s) rs _ i h
-
-  -- The others do not.
-  pub position-above : (i : ℕ) → positionOf c s rs ≤ i → i < length rs → beforePair (keyOf (recordAt rs i)) (c, s) ≡ false
-  unfolding positionOf
-  position-above i h l = rank-above keyOf samePair beforePair ordered-pairs (c, s) rs _ i a h l
-
-  -- A record that stands before the pair is below its position.
-  pub position-over : (i : ℕ) → i < length rs → beforePair (keyOf (recordAt rs i)) (c, s) ≡ true → i < positionOf c s rs
-  unfolding positionOf
-  position-over i h t = rank-over keyOf samePair beforePair ordered-pairs (c, s) rs _ i a h t
-
-  -- One that does not is not.
-  pub position-under : (i : ℕ) → beforePair (keyOf (recordAt rs i)) (c, s) ≡ false → positionOf c s rs ≤ i
-  unfolding positionOf
-  position-under i t = rank-under keyOf samePair beforePair (c, s) rs _ i t
+-- A pair's position is where its records begin, or would.
+pub begins : (rs : List Record) → ascends keyOf samePair beforePair rs ≡ true → (c s : ℕ)
+    → Begins (λ i. beforePair (keyOf (recordAt rs i)) (c, s)) (length rs) (positionOf c s rs)
+unfolding positionOf
+begins rs a c s = at-rank keyOf samePair beforePair ordered-pairs (c, s) rs _ a
 
 -- ---- a well-formed register
 
@@ -62,6 +47,10 @@ module _ (ws : List ℕ) (e : registerOk ws ≡ true) where
   pub few : length (recordsOf ws) ≤ mostRecords
   few = room-records (recordsOf ws) (has-room (recordsOf ws) (records-ok ws e))
 
+  -- So none is far to find.
+  pub soon : (from : ℕ) → suc (halvings (getD ws 0 0 - from)) ≤ mostSteps
+  soon from = let x = eleven (getD ws 0 0 - from) (omega (arith, count-is, few)) in omega arith
+
   -- Slot i is within the words.
   pub slot-in : (i : ℕ) → i < length (recordsOf ws) → counters + i * recordWidth + recordWidth ≤ length ws
   slot-in i h = slot-within ws (sound ws e) i h
@@ -77,7 +66,7 @@ module _ (ws : List ℕ) (e : registerOk ws ≡ true) where
     unfolding positionOf
     past h =
         sym (holds-not-end keyOf samePair beforePair ordered-pairs (c, s) (recordsOf ws) (ordered ws e)
-        (omega (arith, count-is, position-within (recordsOf ws) (ordered ws e) c s)))
+        (omega (arith, count-is, begins (recordsOf ws) (ordered ws e) c s .within)))
 
     module _ (h : position < n) where
       -- The slot at the position is within the words.
@@ -103,25 +92,15 @@ module _ (ws : List ℕ) (e : registerOk ws ≡ true) where
 
 -- ---- the search
 
--- A pair's position is one of 0 to the number of records.
-pub starts : (ws : List ℕ) (c s n : ℕ) → registerOk ws ≡ true → n ≡ getD ws 0 0 → Within ws c s 0 n
-starts ws c s n e p =
-    record {
-      ok = e;
-      over = omega arith;
-      under = omega (arith, position-within (recordsOf ws) (ordered ws e) c s, count-is ws e);
-      inside = omega (arith, count-is ws e);
-    }
+module _ (ws : List ℕ) (e : registerOk ws ≡ true) (c s : ℕ) where
+  -- The same of the words.
+  begins-in : Begins (beforeIn recordWidth ws (c, s)) (getD ws 0 0) (positionOf c s (recordsOf ws))
+  begins-in = rw (← count-is ws e) at (alike (begins (recordsOf ws) (ordered ws e) c s) (λ i l q. beforePair (sym (key-is ws e i l) q) (c, s)))
 
-module _ {ws : List ℕ} {c s low high : ℕ} (w : Within ws c s low high) (m : ℕ) (h : m < high) where
-  -- Record m stands before the pair: the position is behind it.
-  pub goes-up : true ≡ beforePair (keyOf (recordAt (recordsOf ws) m)) (c, s) → Within ws c s (m + 1) high
-  goes-up t =
-      let x = position-over (recordsOf ws) (ordered ws (w .ok)) c s m (omega (arith, w .inside)) (sym t) in
-      record { ok = w .ok; over = omega arith; under = w .under; inside = w .inside }
+  -- They can be searched.
+  pub can-search : (from : ℕ) → from ≤ positionOf c s (recordsOf ws) → Searchable ws recordWidth from (c, s)
+  can-search from h = searchable recordHead recordTail ws from (c, s) (sound ws e) (omega arith) begins-in h
 
-  -- It does not: the position is not behind it.
-  pub goes-down : false ≡ beforePair (keyOf (recordAt (recordsOf ws) m)) (c, s) → Within ws c s low m
-  goes-down t =
-      let x = position-under (recordsOf ws) (ordered ws (w .ok)) c s m (sym t) in
-      record { ok = w .ok; over = w .over; under = x; inside = omega (arith, w .inside) }
+  -- The position that a search answers is the pair's.
+  pub position-is : positionIn recordWidth ws (c, s) ≡ positionOf c s (recordsOf ws)
+  position-is = leads (beforeIn recordWidth ws (c, s)) (getD ws 0 0) _ begins-in

@@ -20,12 +20,9 @@ descentsIn (x ∷ l) = descentsFrom x l
 abbrev pub listAt : List ℕ → ℕ → ℕ → List ℕ
 listAt ws from count = take count (drop from ws)
 
--- A pair's position in a well-formed register is one of low to high.
-pub record Within (ws : List ℕ) (customer source low high : ℕ) : Type 0 where
-  pub ok : registerOk ws ≡ true
-  pub over : low ≤ positionOf customer source (recordsOf ws)
-  pub under : positionOf customer source (recordsOf ws) ≤ high
-  pub inside : high ≤ length (recordsOf ws)
+-- The most steps that find a record: a full register's records can be halved ten times.
+abbrev pub mostSteps : ℕ
+mostSteps = 11
 
 -- A filing that passed rows 1 to 6, and the position of its pair.
 pub record Passed (ws : List ℕ) (position source customer : ℕ) (list : List ℕ) : Type 0 where

@@ -1,11 +1,11 @@
 -- What the documents say of the register, as statements. proofs/Laws.antt has their proof.
-use Prim.Native.Nat.{ℕ, suc, _+_, _≤_, _<_}
+use Prim.Native.Nat.{ℕ, suc, _+_, _/_, _≤_, _<_}
 use mathlib.Core.Path.{_≡_}
 use mathlib.Core.Bool.{true, cond}
 use mathlib.Core.List.{List}
 use mathlib.Core.Logic.{_↔_}
 use mathlib.Core.Option.{none, some}
-use lib.Dec.{eqb}
+use lib.Dec.{eqb, ltb}
 use lib.ListN.{length, getD}
 use Rattle.types.specs.declared.Refusal.the-variants.{ProviderList}
 use Rattle.types.specs.declared.Filed.the-variants.{New, Refused}
@@ -13,8 +13,10 @@ use Rattle.types.specs.declared.Cleared.the-variants.{Gone}
 use Rattle.types.specs.Rows.{firstGiven, effect}
 use Rattle.types.specs.declared.Hop.the-variants.{ProviderPlus}
 use Rattle.keyed.specs.Keyed.{samePair, beforePair, ascends}
+use Rattle.halves.specs.declared.Range.{Range}
+use Rattle.halves.specs.Halves.{Begins, size, middle, In, stepped}
 use Rattle.rules.specs.Records.{Record, isIn, united, hopOf}
-use Rattle.register.specs.Register.{registerWords, mostProviders, lastSource, recordsOf, keyOf, recordAt, roomFor, recordsOk, registerOk}
+use Rattle.register.specs.Register.{registerWords, mostProviders, lastSource, recordsOf, keyOf, recordAt, positionOf, roomFor, recordsOk, registerOk}
 use Rattle.register.specs.Calls.{findRecord, countRecords, recordFor, fileRows, withdrawRows, clearRows, fileEffect, withdrawEffect, clearEffect}
 
 -- A register of the right length that keeps the word rules (rows 1 and 2).
@@ -54,6 +56,22 @@ pub record RegisterLaws : Type 0 where
   -- Room that is given up is used again: a record that is withdrawn is accepted once more, as new, and every word is as it was.
   pub refiled : (ws : List ℕ) (r : Record) → Register ws → findRecord (keyOf r) (recordsOf ws) ≡ some r
       → fileEffect (withdrawEffect ws (r .source) (r .customer) .words) (r .source) (r .customer) (r .providers) ≡ effect New ws
+
+-- ---- look-up ("P3")
+
+pub record FindLaws : Type 0 where
+  -- The position that is looked up is where the records of a customer from a source on begin, or would.
+  pub record-begins : (ws : List ℕ) → registerOk ws ≡ true → (customer source : ℕ)
+      → Begins (λ i. beforePair (keyOf (recordAt (recordsOf ws) i)) (customer, source)) (length (recordsOf ws)) (positionOf customer source (recordsOf ws))
+  -- From source 0 on these are all of the customer's, behind those of all lower customers and before those of all higher ones.
+  pub customer-begins : (ws : List ℕ) → registerOk ws ≡ true → (customer : ℕ)
+      → Begins (λ i. ltb (recordAt (recordsOf ws) i .customer) customer) (length (recordsOf ws)) (positionOf customer 0 (recordsOf ws))
+  -- A step that looks at the record in the middle of a range leaves at most half of it, rounded down, with that position still in it or at
+  -- its end.
+  pub step-keeps : (ws : List ℕ) → registerOk ws ≡ true → (customer source : ℕ) (r : Range) → r .low < r .high → r .high ≤ length (recordsOf ws)
+      → In r (positionOf customer source (recordsOf ws))
+      → let left = stepped r (beforePair (keyOf (recordAt (recordsOf ws) (middle r))) (customer, source)) in
+      (size left ≤ size r / 2) × In left (positionOf customer source (recordsOf ws))
 
 -- ---- the rule of a list, by its numbers
 

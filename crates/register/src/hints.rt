@@ -19,7 +19,7 @@ ghost use mathlib.Core.Bool.{true};
 ghost use Prim.Native.Nat.{_^_, _≤_, _<_};
 ghost use lib.ListN.{length};
 ghost use Rattle.register.specs.Register.{recordsOf, recordAt, registerOk, positionOf};
-ghost use Rattle.register.specs.Helpers.{upperPart, firstCell, hintWords, Within};
+ghost use Rattle.register.specs.Helpers.{upperPart, firstCell, hintWords};
 
 // Cells to a record of a full register.
 const CELLS_EACH: usize = 4;
@@ -291,5 +291,6 @@ pub fn find(reg: &[u32], hints: &[u32], customer: AsNumber) -> usize
     if is_high_end(reg, hints, low, customer) {
         return low;
     }
-    search(reg, low, table::word(reg, 0), customer, 0)
+    let found = search(reg, low, customer, 0);
+    found.low
 }

@@ -1,4 +1,6 @@
 // The register of provider records: its check, its look-up, and File, Withdraw and Clear.
+use halves::Key;
+use halves::Range;
 use types::AsNumber;
 use types::Cleared;
 use types::Filed;
@@ -16,7 +18,7 @@ ghost use Rattle.types.specs.declared.Hop.the-variants.{NoAttestation, Provider
 ghost use Rattle.rules.specs.Records.{isIn, hopOf};
 ghost use Rattle.register.specs.Register.{recordHead, recordTail, mostListed, recordsOf, recordAt, keyOf, rises, listOk, recordOk};
 ghost use Rattle.register.specs.Register.{registerOk, positionOf};
-ghost use Rattle.register.specs.Helpers.{descentsIn, listAt, Within, Passed};
+ghost use Rattle.register.specs.Helpers.{descentsIn, listAt, mostSteps, Passed};
 ghost use Rattle.register.specs.Calls.{holdsRecord, fileEffect, withdrawEffect, clearEffect};
 
 pub mod hints;
@@ -110,21 +112,6 @@ fn is_list(customer: AsNumber, list: &[u32]) -> bool
     !holds(list, customer)
 }
 
-// The pair (c1, s1) stands before the pair (c2, s2).
-fn is_before(c1: AsNumber, s1: u32, c2: AsNumber, s2: u32) -> bool
-    ensures { λ r. ⌜ r ≡ beforePair (c1 .0, s1) (c2 .0, s2) ⌝ }
-{
-    let a = c1.0;
-    let b = c2.0;
-    if a < b {
-        return true;
-    }
-    if a == b {
-        return s1 < s2;
-    }
-    false
-}
-
 // How often a number does not stand above the one before it. The loop has no early exit, so that the compiler takes several words at
 // a time.
 fn descents(list: &[u32]) -> u32
@@ -195,7 +182,15 @@ fn are_records(reg: &[u32]) -> bool
         if (c == 0) | ((LAST_SOURCE < s) | ((count < 1) | (MOST_PROVIDERS < count))) {
             return false;
         }
-        if !is_before(AsNumber(customer), source, AsNumber(c), s) {
+        let last = Key {
+            first: customer,
+            second: source,
+        };
+        let here = Key {
+            first: c,
+            second: s,
+        };
+        if !halves::is_before(last, here) {
             return false;
         }
         if holds_at(reg, from, count, AsNumber(c)) {
@@ -237,27 +232,23 @@ fn stands_before(reg: &[u32], i: usize, customer: AsNumber, source: u32) -> bool
     requires { ⌜ (registerOk (now reg) ≡ true) × (i < length (recordsOf (now reg))) ⌝ }
     ensures { λ r. ⌜ r ≡ beforePair (keyOf (recordAt (recordsOf (now (reg .entry))) i)) (customer .0, source) ⌝ }
 {
-    let at = table::COUNTERS + i * WIDTH;
-    let c = reg[at];
-    is_before(AsNumber(c), reg[at + SOURCE], customer, source)
+    let key = Key {
+        first: customer.0,
+        second: source,
+    };
+    halves::is_before(halves::key_at(reg, WIDTH, i), key)
 }
 
-// The position of a pair, which is one of from..=to, by halves.
-fn search(reg: &[u32], from: usize, to: usize, customer: AsNumber, source: u32) -> usize
-    requires { ⌜ Within (now reg) (customer .0) source from to ⌝ }
-    ensures { λ r. ⌜ r ≡ positionOf (customer .0) source (recordsOf (now (reg .entry))) ⌝ }
+// The position of a pair, from one on that is not behind it, by halves: at most eleven records are looked at.
+fn search(reg: &[u32], from: usize, customer: AsNumber, source: u32) -> Range
+    requires { ⌜ (registerOk (now reg) ≡ true) × (from ≤ positionOf (customer .0) source (recordsOf (now reg))) ⌝ }
+    ensures { λ r. ⌜ (r .low ≡ positionOf (customer .0) source (recordsOf (now (reg .entry)))) × (r .steps ≤ mostSteps) ⌝ }
 {
-    let mut low = from;
-    let mut high = to;
-    while low < high {
-        let middle = low + (high - low) / 2;
-        if stands_before(reg, middle, customer, source) {
-            low = middle + 1;
-        } else {
-            high = middle;
-        }
-    }
-    low
+    let key = Key {
+        first: customer.0,
+        second: source,
+    };
+    halves::search(reg, WIDTH, from, key)
 }
 
 // Where the record of a customer and a source stands, or would stand: how many records come before it.
@@ -265,7 +256,8 @@ fn find(reg: &[u32], customer: AsNumber, source: u32) -> usize
     requires { ⌜ registerOk (now reg) ≡ true ⌝ }
     ensures { λ r. ⌜ (r ≡ positionOf (customer .0) source (recordsOf (now (reg .entry)))) × (r ≤ length (recordsOf (now (reg .entry)))) ⌝ }
 {
-    search(reg, 0, table::word(reg, 0), customer, source)
+    let found = search(reg, 0, customer, source);
+    found.low
 }
 
 // ---- the record at a position

@@ -1,20 +1,19 @@
 -- `register::find` meets its contract. Assumes nothing.
 use native.Mathlib.Omega.{arith}
-use Rattle.register.proofs.Looking.{head-within, starts}
+use Rattle.register.specs.Register.{recordsOf}
+use Rattle.register.proofs.Holding.{ordered}
+use Rattle.register.proofs.Looking.{begins}
 use Rattle.register.proofs.find.Statement.{statement}
 use Rattle.register.proofs.find.Tie as tie
 
-word-requires : tie.Need-word-requires
-word-requires c κs = omega (arith, head-within _ (c .before .pre))
-
 search-requires : tie.Need-search-requires
-search-requires c κs = let s = c .before .before in starts (s .args .reg .now) (s .args .customer .0) (s .args .source) _ (s .pre) (c .word .ensures .0)
+search-requires c κs = (c .before .pre, omega arith)
 
 returns : tie.Need-returns
 returns c =
-    let s = c .before .before .before in
-    let w = starts (s .args .reg .now) (s .args .customer .0) (s .args .source) _ (s .pre) (c .before .word .ensures .0) in
-    (c .search .ensures, omega (arith, c .search .ensures, w .under, w .inside))
+    let s = c .before .before in
+    let b = begins (recordsOf (s .args .reg .now)) (ordered _ (s .pre)) (s .args .customer .0) (s .args .source) in
+    (c .search .ensures .0, omega (arith, c .search .ensures .0, b .within))
 
 pub find-spec : {M : Type 1} → statement M
-find-spec = tie.close (tie.spec word-requires search-requires returns)
+find-spec = tie.close (tie.spec search-requires returns)

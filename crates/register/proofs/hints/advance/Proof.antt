@@ -2,7 +2,10 @@
 use borrow.Author.Needs.{needs}
 use native.Mathlib.Omega.{arith}
 use mathlib.Core.Path.{sym, _∙_}
-use Rattle.register.proofs.Looking.{head-within, count-is, starts, goes-up}
+use Rattle.halves.proofs.Positions.{over}
+use Rattle.register.specs.Register.{recordsOf}
+use Rattle.register.proofs.Holding.{ordered}
+use Rattle.register.proofs.Looking.{head-within, count-is, begins}
 use Rattle.register.proofs.hints.advance.Statement.{statement}
 use Rattle.register.proofs.hints.advance.Tie as tie
 
@@ -19,8 +22,9 @@ add-next c = search needs
 returns : tie.Need-returns
 returns c =
     let s = c .before .before .before .before .before in
-    let w = starts (s .args .reg .now) (s .args .customer .0) 0 _ (s .pre .0) (c .before .before .before .word .ensures .0) in
-    goes-up w _ (c .before .before .if1 .taken) (sym (c .if2 .taken) ∙ c .before .stands-before .ensures) .over
+    let b = begins (recordsOf (s .args .reg .now)) (ordered _ (s .pre .0)) (s .args .customer .0) 0 in
+    let u = over b _ (omega (arith, count-is _ (s .pre .0), c .before .before .before .word .ensures .0, c .before .before .if1 .taken)) (sym (c .before .stands-before .ensures) ∙ c .if2 .taken) in
+    omega (arith, u)
 
 returns-2 : tie.Need-returns-2
 returns-2 c = search needs

@@ -3,7 +3,10 @@ use native.Mathlib.Omega.{arith}
 use mathlib.Core.Path.{_≡_, sym, _∙_}
 use borrow.Author.Tests.{not-true}
 use Prim.Native.Nat.{ℕ}
-use Rattle.register.proofs.Looking.{head-within, count-is, starts, goes-down}
+use Rattle.halves.proofs.Positions.{under}
+use Rattle.register.specs.Register.{recordsOf}
+use Rattle.register.proofs.Holding.{ordered}
+use Rattle.register.proofs.Looking.{head-within, count-is, begins}
 use Rattle.register.proofs.hints.is_high_end.Statement.{statement}
 use Rattle.register.proofs.hints.is_high_end.Tie as tie
 
@@ -21,14 +24,12 @@ stands-before-requires c κs =
 returns-2 : tie.Need-returns-2
 returns-2 c =
     let s = c .before .before .before .before .before .before in
-    let w = starts (s .args .reg .now) (s .args .customer .0) 0 _ (s .pre) (c .before .before .word .ensures .0) in
-    λ h. goes-down w _ (c .before .if2 .taken) (sym (not-true _ h) ∙ c .stands-before .ensures) .under
+    λ h. under (begins (recordsOf (s .args .reg .now)) (ordered _ (s .pre)) (s .args .customer .0) 0) _ (sym (c .stands-before .ensures) ∙ not-true _ h)
 
 returns-3 : tie.Need-returns-3
 returns-3 c =
     let s = c .before .before .before .before .before in
-    let w = starts (s .args .reg .now) (s .args .customer .0) 0 _ (s .pre) (c .before .word .ensures .0) in
-    λ _. omega (arith, w .under, c .if2 .left)
+    λ _. omega (arith, begins (recordsOf (s .args .reg .now)) (ordered _ (s .pre)) (s .args .customer .0) 0 .within, count-is _ (s .pre), c .before .word .ensures .0, c .if2 .left)
 
 pub is-high-end-spec : {M : Type 1} → statement M
 is-high-end-spec = tie.close (tie.spec returns word-requires stands-before-requires returns-2 returns-3)

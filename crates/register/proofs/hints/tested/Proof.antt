@@ -2,7 +2,10 @@
 use borrow.Author.Needs.{needs}
 use native.Mathlib.Omega.{arith}
 use mathlib.Core.Path.{sym, _∙_}
-use Rattle.register.proofs.Looking.{head-within, count-is, starts, goes-up}
+use Rattle.halves.proofs.Positions.{over}
+use Rattle.register.specs.Register.{recordsOf}
+use Rattle.register.proofs.Holding.{ordered}
+use Rattle.register.proofs.Looking.{head-within, count-is, begins}
 use Rattle.register.proofs.hints.tested.Statement.{statement}
 use Rattle.register.proofs.hints.tested.Tie as tie
 
@@ -24,9 +27,9 @@ returns : tie.Need-returns
 returns c =
     let s = c .before .before .before .before .before .before .before in
     let h = c .before .before .before in
-    let w = starts (s .args .reg .now) (s .args .customer .0) 0 _ (s .pre) (h .before .word .ensures .0) in
-    let u = goes-up w _ (omega (arith, h .hint-at .ensures, c .before .before .if1 .taken)) (sym (c .if2 .taken) ∙ c .before .stands-before .ensures) in
-    omega (arith, u .over, c .before .before .if1 .taken)
+    let b = begins (recordsOf (s .args .reg .now)) (ordered _ (s .pre)) (s .args .customer .0) 0 in
+    let u = over b _ (omega (arith, count-is _ (s .pre), h .before .word .ensures .0, h .hint-at .ensures, c .before .before .if1 .taken)) (sym (c .before .stands-before .ensures) ∙ c .if2 .taken) in
+    omega (arith, u, c .before .before .if1 .taken)
 
 returns-2 : tie.Need-returns-2
 returns-2 c = search needs

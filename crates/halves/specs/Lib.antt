@@ -1,0 +1,4 @@
+pub mod Halves
+pub mod Helpers
+pub mod Laws
+pub mod Vectors
