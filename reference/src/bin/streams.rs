@@ -166,6 +166,7 @@ impl<W: FnMut(&str, &str) -> io::Result<()>> Stream<W> {
             Self::long_lists,
             Self::many_routes,
             Self::long_paths,
+            Self::look_ups,
             Self::lines_that_are_no_commands,
             Self::untrue_verdicts,
             Self::single_words,
@@ -859,6 +860,100 @@ impl<W: FnMut(&str, &str) -> io::Result<()>> Stream<W> {
         self.fewer_routes();
     }
 
+    /// A table of about a power of two entries, looked up at some of them and
+    /// beside them.
+    fn look_ups(&mut self) {
+        if self.random.percent(60) {
+            self.record_look_ups();
+        } else {
+            self.route_look_ups();
+        }
+    }
+
+    fn near_power(&mut self, most: usize) -> usize {
+        let power = 1 << self.random.between(0, most.ilog2() as usize);
+        (power + self.random.below(3) - 1).min(most)
+    }
+
+    fn record_look_ups(&mut self) {
+        self.clear_all();
+        let size = self.near_power(1_024);
+        // By source, so that a list that is missed shows
+        let provider = |customer: u32, source: u32| customer.wrapping_add(1 + source);
+        // Pairs come twice now and then.
+        for _ in 0..2 * size {
+            if self.record_count() == size {
+                break;
+            }
+            let (customer, source) =
+                (3 * self.random.between(1, size) as u32, self.random.below(8) as u32);
+            self.say(&format!("file {source} {customer} {}", provider(customer, source)));
+        }
+        for _ in 0..40 {
+            let Some((customer, source)) = self.some_record() else { break };
+            let above = customer.wrapping_add(1);
+            let beside = self.random.pick(&[customer - 1, customer, customer, above]);
+            let other = self.random.below(8) as u32;
+            let listed = provider(customer, source);
+            match self.random.below(6) {
+                0 | 1 => {
+                    let path = hex(&sequence(&[listed, customer]));
+                    self.say(&format!("judge 1 {listed} {path}"));
+                }
+                2 => {
+                    self.say(&format!("withdraw {source} {customer}"));
+                    self.say(&format!("file {source} {customer} {listed}"));
+                }
+                3 => self.say(&format!("withdraw {other} {beside}")),
+                4 => {
+                    let path = hex(&sequence(&[customer, beside]));
+                    self.say(&format!("judge 3 {customer} {path}"));
+                }
+                _ => self.say(&format!("file {other} {beside} {}", provider(beside, other))),
+            }
+        }
+        self.say("rejudge");
+        if self.random.percent(30) {
+            self.show(REGISTER);
+        }
+    }
+
+    fn route_look_ups(&mut self) {
+        self.fewer_routes();
+        let size = self.near_power(512);
+        // Numbers come twice now and then.
+        for _ in 0..3 * size {
+            if self.route_count() == size {
+                break;
+            }
+            let route = 3 * self.random.below(2 * size);
+            let (role, path) = (self.random.between(1, 6), self.path());
+            self.say(&format!("keep {route} {role} {} {}", path[0], hex(&sequence(&path))));
+        }
+        for _ in 0..40 {
+            let Some(route) = self.some_route() else { break };
+            let beside =
+                self.random.pick(&[route.wrapping_sub(1), route, route, route.wrapping_add(1)]);
+            match self.random.below(4) {
+                0 => self.say(&format!("keep {beside} 1 5 -")),
+                1 => self.say(&format!("drop {beside}")),
+                2 => {
+                    self.say(&format!("drop {route}"));
+                    let judged = self.judged();
+                    self.say(&format!("keep {route} {judged}"));
+                }
+                _ => {
+                    self.say(&format!("keep {beside} 1 5 -"));
+                    self.say(&format!("drop {beside}"));
+                }
+            }
+        }
+        self.say("rejudge");
+        if self.random.percent(30) {
+            self.show(LEDGER);
+        }
+    }
+
     fn fewer_routes(&mut self) {
         if self.random.percent(50) {
             self.say("empty");
@@ -1227,6 +1322,8 @@ fn vectors() -> Vec<String> {
     own_customers_stored(&mut lines);
     lines.say("empty");
     room(&mut lines);
+    lines.say("empty");
+    look_ups(&mut lines);
     lines.say("empty");
     errors(&mut lines);
     lines.say("empty");
@@ -1795,6 +1892,247 @@ fn room(lines: &mut Lines) {
     lines.all(&["file 0 64 63", "rejudge", "rejudge"]);
 }
 
+/// Tables of many sizes, looked up at their entries and beside them, so that a
+/// search that ends at a wrong position shows.
+fn look_ups(lines: &mut Lines) {
+    record_look_ups(lines);
+    route_look_ups(lines);
+    rejudged_look_ups(lines);
+    lines.say("empty");
+    source_look_ups(lines);
+    lines.say("empty");
+    look_ups_at_the_ends(lines);
+}
+
+/// Where a search by halves takes a step more, and beside it.
+fn is_looked_through(size: usize) -> bool {
+    is_small(size) || (size - 1..=size + 1).any(usize::is_power_of_two)
+}
+
+/// Looked through whole.
+fn is_small(size: usize) -> bool {
+    size <= 17
+}
+
+/// Of so many positions all, or the ends and those around the middle and the quarters.
+fn looked_at(many: usize) -> Vec<usize> {
+    if many <= 18 {
+        return (0..many).collect();
+    }
+    let (quarter, half) = (many / 4, many / 2);
+    vec![0, 1, quarter, half - 1, half, half + 1, 3 * quarter, many - 1]
+}
+
+/// Positions whose entries go and come back. The second is the one that needs
+/// the most steps where the size is a power of two.
+fn taken_out(size: usize) -> [usize; 4] {
+    [0, 1, size / 2, size - 1]
+}
+
+/// Below each of these ascending numbers, and above the last.
+fn gaps(numbers: &[u32]) -> Vec<u32> {
+    let below = numbers.iter().map(|number| number - 1);
+    below.chain([numbers.last().map_or(5, |last| last + 1)]).collect()
+}
+
+/// The nth customer to be filed: far from the one before, with gaps on both sides.
+fn filed(nth: usize) -> u32 {
+    3 * ((nth * 633 + 400) % 1_024 + 1) as u32
+}
+
+/// Each lists the one after it, so no two lists are alike.
+fn filing(nth: usize) -> String {
+    format!("file {} {} {}", nth % 8, filed(nth), filed(nth + 1))
+}
+
+/// Valid if the nth record and those after it are found.
+fn ascent(nth: usize, hops: usize) -> Vec<u32> {
+    (nth..=nth + hops).rev().map(filed).collect()
+}
+
+fn record_look_ups(lines: &mut Lines) {
+    for size in 0..=1_024 {
+        if size > 0 {
+            lines.0.push(filing(size - 1));
+        }
+        if !is_looked_through(size) {
+            continue;
+        }
+        let hops = if is_small(size) { 1 } else { 63 };
+        for nth in (0..size).step_by(hops) {
+            let path = ascent(nth, hops.min(size - nth));
+            lines.judge(1, path[0], &sequence(&path));
+        }
+        let mut filings: Vec<usize> = (0..size).collect();
+        filings.sort_by_key(|nth| filed(*nth));
+        let customers: Vec<u32> = filings.iter().map(|nth| filed(*nth)).collect();
+        let gaps = gaps(&customers);
+        for gap in looked_at(gaps.len()).into_iter().map(|i| gaps[i]) {
+            lines.say(&format!("withdraw {} {gap}", gap % 8));
+            // a record more in each gap
+            if size <= 5 {
+                lines.judge(1, 1, &sequence(&[1, gap]));
+                lines.all(&[&format!("file 0 {gap} 1"), &format!("withdraw 0 {gap}")]);
+            }
+        }
+        if !is_small(size) {
+            for nth in taken_out(size).map(|i| filings[i]) {
+                let withdrawal = format!("withdraw {} {}", nth % 8, filed(nth));
+                lines.all(&[&filing(nth), &withdrawal, &filing(nth)]);
+            }
+        }
+    }
+    lines.say("register");
+}
+
+/// The nth route to be kept.
+fn kept(nth: usize) -> u32 {
+    3 * ((nth * 317 + 200) % 512) as u32 + 1
+}
+
+/// Over so many records. Up and down from two customers of the first half, or up
+/// from three of the second: Valid if their records are found. Half as many routes
+/// as records lead over them all.
+fn keeping(nth: usize, records: usize) -> String {
+    let (role, path) = if nth.is_multiple_of(2) {
+        let last = records / 2 - 1 - nth;
+        (3, vec![filed(last), filed(last + 1), filed(nth + 1), filed(nth)])
+    } else {
+        (1, ascent(records - 2 - nth, 3))
+    };
+    format!("keep {} {role} {} {}", kept(nth), path[0], hex(&sequence(&path)))
+}
+
+/// Over a full register.
+fn route_look_ups(lines: &mut Lines) {
+    for size in 0..=512 {
+        if size > 0 {
+            lines.0.push(keeping(size - 1, 1_024));
+        }
+        if !is_looked_through(size) {
+            continue;
+        }
+        let mut keepings: Vec<usize> = (0..size).collect();
+        keepings.sort_by_key(|nth| kept(*nth));
+        let routes: Vec<u32> = keepings.iter().map(|nth| kept(*nth)).collect();
+        for route in looked_at(size).into_iter().map(|i| routes[i]) {
+            lines.keep(route, 1, 5, &[]);
+        }
+        let gaps = gaps(&routes);
+        for gap in looked_at(gaps.len()).into_iter().map(|i| gaps[i]) {
+            lines.say(&format!("drop {gap}"));
+            // a route more in each gap
+            if size <= 5 {
+                lines.keep(gap, 1, 5, &[]);
+                lines.say(&format!("drop {gap}"));
+            }
+        }
+        if !is_small(size) {
+            for nth in taken_out(size).map(|i| keepings[i]) {
+                lines.all(&[&format!("drop {}", kept(nth)), &keeping(nth, 1_024)]);
+            }
+        }
+    }
+    lines.all(&["ledger", "rejudge"]);
+}
+
+/// As many numbers in paths as records, and more. Every verdict is untrue at
+/// first, and then those over changed records.
+fn rejudged_look_ups(lines: &mut Lines) {
+    for (records, routes) in
+        [(32, 8), (32, 9), (64, 16), (64, 17), (1_024, 256), (1_024, 257), (1_024, 512)]
+    {
+        let filings: Vec<String> = (0..records).map(filing).collect();
+        let keepings: Vec<String> = (0..routes).map(|nth| keeping(nth, records)).collect();
+        let [register, _] = parts(&file_after(&filings));
+        let [_, ledger] = parts(&file_after(&keepings));
+        lines.read_parts(&[register, ledger]);
+        lines.all(&["rejudge", "ledger"]);
+        // under routes that go up and down
+        let changed = [0, routes / 4 * 2, (routes - 1) / 2 * 2];
+        for nth in changed {
+            lines.file(nth as u32 % 8, filed(nth), &[1]);
+        }
+        lines.all(&["rejudge", "ledger"]);
+        changed.iter().for_each(|nth| lines.say(&filings[*nth]));
+        lines.say("rejudge");
+    }
+    lines.all(&["clear 3", "rejudge", "ledger", "clear 4", "rejudge", "ledger"]);
+}
+
+/// Several records for a customer: the search must end at the lowest source.
+fn source_look_ups(lines: &mut Lines) {
+    let customers: [(u32, &[u32]); 6] = [
+        (10, &[5]),
+        (20, &[0, 3, 7]),
+        (30, &[1, 6]),
+        (40, &[7]),
+        (50, &[0, 1, 2, 3, 4, 5, 6, 7]),
+        (60, &[0]),
+    ];
+    let file = |lines: &mut Lines, customer: u32, source: u32| {
+        lines.file(source, customer, &[100 * source + customer + 1]);
+    };
+    let judge = |lines: &mut Lines, customer: u32, source: u32| {
+        let provider = 100 * source + customer + 1;
+        lines.judge(1, provider, &sequence(&[provider, customer]));
+    };
+    for (customer, sources) in customers {
+        sources.iter().rev().for_each(|source| file(lines, customer, *source));
+    }
+    for (customer, sources) in customers {
+        for source in 0..8 {
+            let there = sources.contains(&source);
+            if there {
+                judge(lines, customer, source);
+            }
+            lines.say(&format!("withdraw {source} {customer}"));
+            if there {
+                file(lines, customer, source);
+            }
+        }
+    }
+    lines.say("register");
+    // the same records further and further behind
+    for before in 1..=3 {
+        file(lines, before, before);
+        for (customer, sources) in customers {
+            judge(lines, customer, sources[0]);
+            judge(lines, customer, sources[sources.len() - 1]);
+        }
+    }
+    lines.say("register");
+}
+
+/// The least and the greatest customer and route.
+fn look_ups_at_the_ends(lines: &mut Lines) {
+    const TOP: u32 = u32::MAX;
+    for (source, customer) in [(7, TOP), (0, 1), (0, TOP), (7, 1), (3, 1 << 31)] {
+        lines.file(source, customer, &[10 + source]);
+        for (source, customer) in [(0, 1), (7, 1), (0, 2), (7, TOP - 1), (0, TOP), (7, TOP)] {
+            lines.judge(1, 10 + source, &sequence(&[10 + source, customer]));
+        }
+        for (source, customer) in [(1, 1), (0, 2), (7, TOP - 1), (6, TOP)] {
+            lines.say(&format!("withdraw {source} {customer}"));
+        }
+    }
+    for (route, path) in
+        [(TOP, [TOP, 17, 10, 1]), (0, [TOP - 1, 17, 10, 1]), (1 << 31, [TOP, 17, 10, 2])]
+    {
+        lines.keep(route, 3, path[0], &sequence(&path));
+        lines.keep(route, 1, 5, &[]);
+        lines.all(&["drop 1", "drop 4294967294"]);
+        lines.all(&["withdraw 7 4294967295", "rejudge", "ledger"]);
+        lines.all(&["file 7 4294967295 17", "rejudge", "ledger"]);
+    }
+    for route in [0, TOP] {
+        lines.keep(route, 1, 5, &[]);
+        lines.all(&[&format!("drop {route}"), &format!("drop {route}")]);
+        lines.keep(route, 1, 5, &[]);
+    }
+    lines.all(&["register", "ledger"]);
+}
+
 fn errors(lines: &mut Lines) {
     lines.all(&BAD_LINES);
     // no limit is at 16,384 bytes any more
@@ -2177,7 +2515,7 @@ fn recorded(out: &mut impl Write) -> io::Result<()> {
 #[cfg(test)]
 mod tests {
     use super::*;
-    use std::collections::BTreeMap;
+    use std::collections::{BTreeMap, BTreeSet};
 
     const ROWS: [(&str, &[u32]); 9] = [
         ("file", &[1, 2, 4, 5, 6, 8]),
@@ -2394,6 +2732,39 @@ mod tests {
             seen.note(&line, &answer);
         }
         seen.check();
+    }
+
+    /// At each size entries are found and others are not.
+    #[test]
+    fn look_ups_at_each_size() {
+        let mut lines = Lines(Vec::new());
+        look_ups(&mut lines);
+        let mut model = Model::new();
+        let mut sizes: BTreeMap<(String, String), BTreeSet<usize>> = BTreeMap::new();
+        for line in lines.0 {
+            let answer = console::answer(&mut model, line.as_bytes());
+            assert!(!["error", "refused 2", "refused 3"].contains(&answer.as_str()), "{line}");
+            let call = line.split(' ').next().unwrap_or("");
+            let size = match (call, &model.register, &model.ledger) {
+                ("judge" | "withdraw", Table::Held(records), _) => records.len(),
+                ("keep" | "drop", _, Table::Held(routes)) => routes.len(),
+                _ => continue,
+            };
+            sizes.entry((call.to_string(), answer)).or_default().insert(size);
+        }
+        let powers = [32, 64, 128, 256, 512, 1_024];
+        let near: Vec<usize> = powers.iter().flat_map(|power| power - 1..=power + 1).collect();
+        for (call, answer, least, most) in [
+            ("judge", "Valid", 1, 1_024),
+            ("withdraw", "refused 7", 0, 1_024),
+            ("keep", "refused 18", 1, 512),
+            ("drop", "refused 19", 0, 512),
+        ] {
+            let seen = &sizes[&(call.to_string(), answer.to_string())];
+            for size in (least..=17).chain(near.clone()).filter(|size| *size <= most) {
+                assert!(seen.contains(&size), "{call}: {answer} at {size}");
+            }
+        }
     }
 
     #[test]
