@@ -249,12 +249,15 @@ fn calls(work: &Work, register: &Register, long: &Register) -> Vec<Call> {
             plain: None,
         }
     }
-    let judge = |register: &Register, role: Role| {
+    // Paths longer than those of the routes go on with the next ones.
+    let judge = |register: &Register, role: Role, length: usize| {
         let register = register.clone();
-        let paths: Vec<_> = work
-            .paths
-            .iter()
-            .map(|path| (AsNumber(path[0]), attribute(&path[..5])))
+        let paths: Vec<_> = (0..ROUTES)
+            .map(|first| {
+                let next = work.paths.iter().cycle().skip(first).flatten();
+                let path: Vec<u32> = next.copied().take(length).collect();
+                (AsNumber(path[0]), attribute(&path))
+            })
             .collect();
         move |round: usize| {
             let (neighbour, bytes) = &paths[round % ROUTES];
@@ -351,11 +354,25 @@ fn calls(work: &Work, register: &Register, long: &Register) -> Vec<Call> {
             "re-judge of no route, 32 new lists of 256",
             rejudge_none_anew(long, None),
         ),
-        call("judge, path of 5, role 1", judge(register, Role::Customer)),
-        call("judge, path of 5, role 3", judge(register, Role::Provider)),
+        call(
+            "judge, path of 5, role 1",
+            judge(register, Role::Customer, 5),
+        ),
+        call(
+            "judge, path of 5, role 3",
+            judge(register, Role::Provider, 5),
+        ),
         call(
             "judge, path of 5, empty register",
-            judge(&Register::new(), Role::Provider),
+            judge(&Register::new(), Role::Provider, 5),
+        ),
+        call(
+            "judge, path of 64, role 1",
+            judge(register, Role::Customer, 64),
+        ),
+        call(
+            "judge, path of 64, role 3",
+            judge(register, Role::Provider, 64),
         ),
         call("file at the front, up to a full register", file),
         call("file a list of 256, empty register", file_long),
