@@ -2,4 +2,5 @@
 pub mod Positions
 pub mod Counts
 pub mod Steps
+pub mod Searches
 pub mod Laws

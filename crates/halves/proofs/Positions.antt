@@ -1,6 +1,6 @@
 -- Where the entries of a key begin, or would. Assumes nothing.
-use Prim.Native.Nat.{ℕ, zero, suc, _≤_, _<_}
-use mathlib.Core.Path.{_≡_, refl, sym, _∙_, ap}
+use Prim.Native.Nat.{ℕ, _≤_, _<_}
+use mathlib.Core.Path.{_≡_, refl, sym, _∙_}
 use mathlib.Core.Bool.{Bool, true, false, and-false, or-false}
 use mathlib.Core.List.{List}
 use native.Mathlib.Omega.{arith}
@@ -9,7 +9,7 @@ use lib.Dec.{eqb, ltb}
 use lib.ListN.{length, getD}
 use Rattle.keyed.specs.Keyed.{Ordered, beforePair, ascends, rank}
 use Rattle.keyed.proofs.Ranks.{rank-within, rank-below, rank-above}
-use Rattle.halves.specs.Halves.{Begins, leading}
+use Rattle.halves.specs.Halves.{Begins}
 
 module _ {before : ℕ → Bool} {n p : ℕ} (b : Begins before n p) where
   -- An entry that stands before the key is below.
@@ -36,20 +36,6 @@ module _ {before : ℕ → Bool} {n p : ℕ} (b : Begins before n p) where
         below = λ i h. sym (f i (omega (arith, b .within))) ∙ b .below i h;
         behind = λ i h l. sym (f i l) ∙ b .behind i h l;
       }
-
--- It is the one that is counted.
-pub leads : (before : ℕ → Bool) (n p : ℕ) → Begins before n p → leading before n ≡ p
-unfolding leading
-leads before zero p b = omega (arith, b .within)
-leads before (suc n) zero b = rw (b .behind 0 (omega arith) (omega arith)) refl
-leads before (suc n) (suc p) b =
-    let rest : Begins (λ i. before (suc i)) n p =
-    record {
-      within = omega (arith, b .within);
-      below = λ i h. b .below (suc i) (omega arith);
-      behind = λ i h l. b .behind (suc i) (omega arith) (omega arith);
-    } in
-    rw (b .below 0 (omega arith)) (ap suc (leads (λ i. before (suc i)) n p rest))
 
 -- In a list that ascends it is the rank of the key.
 pub at-rank : {E K : Type 0} (key : E → K) (same before : K → K → Bool) → Ordered same before → (k : K) (es : List E) (d : E)

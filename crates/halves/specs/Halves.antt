@@ -3,7 +3,7 @@ use Prim.Native.Nat.{ℕ, zero, suc, _+_, _-_, _*_, _/_, _≤_, _<_}
 use mathlib.Core.Path.{_≡_}
 use mathlib.Core.Bool.{Bool, true, false, cond}
 use mathlib.Core.List.{List}
-use lib.Dec.{leb}
+use lib.Dec.{leb, ltb}
 use lib.ListN.{getD}
 use Rattle.table.specs.Table.{counters}
 use Rattle.keyed.specs.Keyed.{beforePair}
@@ -29,14 +29,6 @@ pub record Begins (before : ℕ → Bool) (n p : ℕ) : Type 0 where
   pub within : p ≤ n
   pub below : (i : ℕ) → i < p → before i ≡ true
   pub behind : (i : ℕ) → p ≤ i → i < n → before i ≡ false
-
--- That position, counted: how many entries, from the first on, stand before the key.
-unfoldable pub leading : (ℕ → Bool) → ℕ → ℕ
-leading before zero = 0
-leading before (suc n) = cond (before 0) (suc (leading (λ i. before (suc i)) n)) 0
-
-abbrev pub positionIn : ℕ → List ℕ → ℕ × ℕ → ℕ
-positionIn width ws key = leading (beforeIn width ws key) (getD ws 0 0)
 
 -- ---- a step
 
@@ -67,7 +59,16 @@ pub record Narrows (old : Range) (entry key : ℕ × ℕ) (left : Range) : Type 
   pub keeps : (before : ℕ → Bool) (n p : ℕ) → Begins before n p → before (middle old) ≡ beforePair entry key → old .high ≤ n → In old p → In left p
   pub counted : left .steps ≡ old .steps + 1
 
--- ---- how many steps
+-- ---- the search
+
+-- Steps until nothing is left. (`most` ends the recursion: there are no more steps than entries.)
+unfoldable pub searched : (ℕ → Bool) → ℕ → Range → Range
+searched before zero r = r
+searched before (suc most) r = cond (ltb (r .low) (r .high)) (searched before most (stepped r (before (middle r)))) r
+
+-- The search among n entries, from a position on.
+abbrev pub searchedFrom : (ℕ → Bool) → ℕ → ℕ → Range
+searchedFrom before n from = searched before n (record { low = from; high = n; steps = 0 })
 
 -- How often n can be halved, rounded down, until 1 is left. (`most` ends the recursion: n halvings are more than enough.)
 unfoldable pub halvingsIn : ℕ → ℕ → ℕ

@@ -4,17 +4,14 @@ use mathlib.Core.List.{List}
 use lib.ListN.{length, getD}
 use Rattle.table.specs.Table.{counters}
 use Rattle.halves.specs.declared.Range.{Range}
-use Rattle.halves.specs.Halves.{beforeIn, Begins, positionIn}
 
 -- A range that has an entry, and can count one step more.
 pub record Open (r : Range) : Type 0 where
   pub some : r .low < r .high
   pub countable : r .steps < 2 ^ 32
 
--- The slots are within the words and have two words or more, the entries are in order around a key, and its position is not below `from`.
-pub record Searchable (ws : List ℕ) (width from : ℕ) (key : ℕ × ℕ) : Type 0 where
+-- The slots are within the words, and have two words or more.
+pub record Searchable (ws : List ℕ) (width : ℕ) : Type 0 where
   pub two : 2 ≤ width
   pub head : counters ≤ length ws
   pub slots : counters + getD ws 0 0 * width ≤ length ws
-  pub ordered : Begins (beforeIn width ws key) (getD ws 0 0) (positionIn width ws key)
-  pub ahead : from ≤ positionIn width ws key

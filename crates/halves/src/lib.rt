@@ -1,10 +1,10 @@
 // Search by halves in a table whose entries ascend by their keys: one step, and the loop of steps.
 ghost use mathlib.Core.Path.{_≡_};
-ghost use Prim.Native.Nat.{suc, _+_, _-_, _*_, _≤_};
+ghost use Prim.Native.Nat.{_+_, _*_, _≤_};
 ghost use lib.ListN.{length, getD};
 ghost use Rattle.table.specs.Table.{counters};
 ghost use Rattle.keyed.specs.Keyed.{beforePair};
-ghost use Rattle.halves.specs.Halves.{keyOf, keyAt, positionIn, middle, stepped, Narrows, halvings};
+ghost use Rattle.halves.specs.Halves.{keyOf, keyAt, beforeIn, middle, stepped, Narrows, searchedFrom};
 ghost use Rattle.halves.specs.Helpers.{Open, Searchable};
 
 // The key of an entry, the first two words of its slot: customer and source of a record. Of a route's the first, its number, decides.
@@ -75,11 +75,10 @@ fn step(range: Range, entry: Key, key: Key) -> Range
     }
 }
 
-// Where the entries of a key begin, or would, from a position on that is not behind it: low of the answer, and high.
+// The search for a key from a position on: low of the answer, and high, is where its entries begin, or would.
 pub fn search(words: &[u32], width: usize, from: usize, key: Key) -> Range
-    requires { ⌜ Searchable (now words) width from (keyOf key) ⌝ }
-    ensures { λ r. ⌜ (r .low ≡ positionIn width (now (words .entry)) (keyOf key)) × (r .high ≡ positionIn width (now (words .entry)) (keyOf key))
-        × (r .steps ≤ suc (halvings (getD (now (words .entry)) 0 0 - from))) ⌝ }
+    requires { ⌜ Searchable (now words) width ⌝ }
+    ensures { λ r. ⌜ r ≡ searchedFrom (beforeIn width (now (words .entry)) (keyOf key)) (getD (now (words .entry)) 0 0) from ⌝ }
 {
     let mut range = Range {
         low: from,

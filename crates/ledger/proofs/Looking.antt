@@ -1,5 +1,5 @@
 -- Look-up by number: the binary search, and whether the route is there. Assumes nothing.
-use Prim.Native.Nat.{ℕ, suc, _+_, _-_, _*_, _≤_, _<_}
+use Prim.Native.Nat.{ℕ, _+_, _-_, _*_, _≤_, _<_}
 use mathlib.Core.Path.{_≡_, sym, _∙_, ap}
 use mathlib.Core.Bool.{false, true}
 use mathlib.Core.List.{List}
@@ -10,11 +10,11 @@ use Rattle.table.proofs.Sounds.{long}
 use Rattle.keyed.specs.Keyed.{holds}
 use Rattle.keyed.proofs.Orders.{ordered-ℕ, same-flip}
 use Rattle.keyed.proofs.Ranks.{rank-within, holds-not-end, holds-is}
-use Rattle.halves.specs.Halves.{beforeIn, Begins, positionIn, halvings}
-use Rattle.halves.specs.Helpers.{Searchable}
-use Rattle.halves.proofs.Positions.{alike, leads, at-rank, first-decides}
+use Rattle.halves.specs.declared.Range.{Range}
+use Rattle.halves.specs.Halves.{beforeIn, Begins, searchedFrom}
+use Rattle.halves.proofs.Positions.{alike, at-rank, first-decides}
 use Rattle.halves.proofs.Counts.{under}
-use Rattle.halves.proofs.Steps.{searchable}
+use Rattle.halves.proofs.Searches as searches
 use Rattle.ledger.specs.Routes.{routeHead, routeTail, routeWidth, slotAt}
 use Rattle.ledger.specs.Routes.{mostRoutes, routesOf, routeAt, keyOf, positionOf, ledgerOk}
 use Rattle.ledger.specs.Helpers.{mostSteps}
@@ -35,10 +35,6 @@ module _ (ws : List ℕ) (e : ledgerOk ws ≡ true) where
   -- There are not too many routes.
   pub few : length (routesOf ws) ≤ mostRoutes
   few = room-routes (routesOf ws) (has-room (routesOf ws) (routes-ok ws e))
-
-  -- So none is far to find.
-  pub soon : suc (halvings (getD ws 0 0 - 0)) ≤ mostSteps
-  soon = let x = under (getD ws 0 0 - 0) 9 (omega (arith, count-is, few)) in omega arith
 
   -- Slot i is within the words.
   pub slot-in : (i : ℕ) → i < length (routesOf ws) → slotAt i + routeWidth ≤ length ws
@@ -88,10 +84,9 @@ module _ (ws : List ℕ) (e : ledgerOk ws ≡ true) (k : ℕ) where
       rw (← count-is ws e) at
       (alike begins (λ i l. ap (λ x. ltb x k) (sym (key-is ws e i l)) ∙ first-decides (getD ws (slotAt i) 0) (getD ws (slotAt i + 1) 0) k))
 
-  -- They can be searched.
-  pub can-search : Searchable ws routeWidth 0 (k, 0)
-  can-search = searchable routeHead routeTail ws 0 (k, 0) (sound ws e) (omega arith) begins-in (omega arith)
-
-  -- The position that a search answers is the route's.
-  pub position-is : positionIn routeWidth ws (k, 0) ≡ positionOf k (routesOf ws)
-  position-is = leads (beforeIn routeWidth ws (k, 0)) (getD ws 0 0) _ begins-in
+  -- The position that a search answers, and how soon.
+  pub finds : {r : Range} → r ≡ searchedFrom (beforeIn routeWidth ws (k, 0)) (getD ws 0 0) 0 → (r .low ≡ positionOf k (routesOf ws)) × (r .steps ≤ mostSteps)
+  finds q =
+      let x = under (getD ws 0 0 - 0) 9 (omega (arith, count-is ws e, few ws e)) in
+      let t = searches.few (beforeIn routeWidth ws (k, 0)) (getD ws 0 0) 0 in
+      rw q (searches.found (beforeIn routeWidth ws (k, 0)) (getD ws 0 0) 0 _ begins-in (omega arith) .0, omega arith)

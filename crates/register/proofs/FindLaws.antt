@@ -14,6 +14,6 @@ find-laws = record {
   customer-begins = λ ws e customer.
       alike (begins (recordsOf ws) (ordered ws e) customer 0) (λ i h. sym (first-decides (recordAt (recordsOf ws) i .customer) (recordAt (recordsOf ws) i .source) customer));
   step-keeps = λ ws e customer source r some inside h.
-      let n = narrows r (keyOf (recordAt (recordsOf ws) (middle r))) (customer, source) some in
+      let n = narrows r some (keyOf (recordAt (recordsOf ws) (middle r))) (customer, source) in
       (n .half, n .keeps _ _ _ (begins (recordsOf ws) (ordered ws e) customer source) refl inside h);
 }

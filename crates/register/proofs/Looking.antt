@@ -1,5 +1,5 @@
 -- Look-up by customer and source: the binary search, and whether the record is there. Assumes nothing.
-use Prim.Native.Nat.{ℕ, suc, _+_, _-_, _*_, _≤_, _<_}
+use Prim.Native.Nat.{ℕ, _+_, _-_, _*_, _≤_, _<_}
 use mathlib.Core.Path.{_≡_, sym, _∙_}
 use mathlib.Core.Bool.{true, false, _&&_}
 use mathlib.Core.List.{List}
@@ -12,11 +12,11 @@ use Rattle.table.proofs.Sounds.{long}
 use Rattle.keyed.specs.Keyed.{samePair, beforePair, ascends}
 use Rattle.keyed.proofs.Orders.{ordered-pairs, same-flip}
 use Rattle.keyed.proofs.Ranks.{holds-not-end, holds-is}
-use Rattle.halves.specs.Halves.{beforeIn, Begins, positionIn, halvings}
-use Rattle.halves.proofs.Positions.{alike, leads, at-rank}
-use Rattle.halves.specs.Helpers.{Searchable}
+use Rattle.halves.specs.declared.Range.{Range}
+use Rattle.halves.specs.Halves.{beforeIn, Begins, searchedFrom}
+use Rattle.halves.proofs.Positions.{alike, at-rank}
 use Rattle.halves.proofs.Counts.{eleven}
-use Rattle.halves.proofs.Steps.{searchable}
+use Rattle.halves.proofs.Searches as searches
 use Rattle.rules.specs.Records.{Record}
 use Rattle.register.specs.Register.{recordHead, recordTail, recordWidth, sourceWord, mostRecords, recordsOf, recordAt, keyOf, positionOf, registerOk}
 use Rattle.register.specs.Helpers.{mostSteps}
@@ -46,10 +46,6 @@ module _ (ws : List ℕ) (e : registerOk ws ≡ true) where
   -- There are at most as many records as there may be.
   pub few : length (recordsOf ws) ≤ mostRecords
   few = room-records (recordsOf ws) (has-room (recordsOf ws) (records-ok ws e))
-
-  -- So none is far to find.
-  pub soon : (from : ℕ) → suc (halvings (getD ws 0 0 - from)) ≤ mostSteps
-  soon from = let x = eleven (getD ws 0 0 - from) (omega (arith, count-is, few)) in omega arith
 
   -- Slot i is within the words.
   pub slot-in : (i : ℕ) → i < length (recordsOf ws) → counters + i * recordWidth + recordWidth ≤ length ws
@@ -97,10 +93,10 @@ module _ (ws : List ℕ) (e : registerOk ws ≡ true) (c s : ℕ) where
   begins-in : Begins (beforeIn recordWidth ws (c, s)) (getD ws 0 0) (positionOf c s (recordsOf ws))
   begins-in = rw (← count-is ws e) at (alike (begins (recordsOf ws) (ordered ws e) c s) (λ i l q. beforePair (sym (key-is ws e i l) q) (c, s)))
 
-  -- They can be searched.
-  pub can-search : (from : ℕ) → from ≤ positionOf c s (recordsOf ws) → Searchable ws recordWidth from (c, s)
-  can-search from h = searchable recordHead recordTail ws from (c, s) (sound ws e) (omega arith) begins-in h
-
-  -- The position that a search answers is the pair's.
-  pub position-is : positionIn recordWidth ws (c, s) ≡ positionOf c s (recordsOf ws)
-  position-is = leads (beforeIn recordWidth ws (c, s)) (getD ws 0 0) _ begins-in
+  -- The position that a search from one not behind it answers, and how soon.
+  pub finds : (from : ℕ) {r : Range} → from ≤ positionOf c s (recordsOf ws) → r ≡ searchedFrom (beforeIn recordWidth ws (c, s)) (getD ws 0 0) from
+      → (r .low ≡ positionOf c s (recordsOf ws)) × (r .steps ≤ mostSteps)
+  finds from h e' =
+      let k = eleven (getD ws 0 0 - from) (omega (arith, count-is ws e, few ws e)) in
+      let t = searches.few (beforeIn recordWidth ws (c, s)) (getD ws 0 0) from in
+      rw e' (searches.found (beforeIn recordWidth ws (c, s)) (getD ws 0 0) from _ begins-in h .0, omega arith)

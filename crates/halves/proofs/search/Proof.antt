@@ -3,13 +3,13 @@ use native.Mathlib.Omega.{arith}
 use mathlib.Core.Path.{sym}
 use lib.ListN.{getD}
 use Rattle.keyed.specs.Keyed.{beforePair}
-use Rattle.halves.specs.Halves.{keyOf, positionIn, size}
-use Rattle.halves.proofs.Steps.{Left, key-in, starts, opens, middle-in, again, ends}
+use Rattle.halves.specs.Halves.{keyOf, beforeIn, size}
+use Rattle.halves.proofs.Searches.{Left, key-in, starts, opens, middle-in, again, ends}
 use Rattle.halves.proofs.search.Statement.{statement}
 use Rattle.halves.proofs.search.Tie as tie
 
 abbrev Inv-loop : tie.InvT-loop
-Inv-loop words width from key range₀ range = Left (getD words 0 0) from (positionIn width words (keyOf key)) range
+Inv-loop words width from key range₀ range = Left (beforeIn width words (keyOf key)) (getD words 0 0) from range
 
 abbrev μ-loop : tie.MeasureT-loop
 μ-loop words width from key range₀ range = size range
@@ -21,7 +21,7 @@ word-requires : tie.Need-word-requires Inv-loop μ-loop
 word-requires c κs = omega (arith, c .before .pre .head)
 
 loop-holds : tie.Need-loop-holds Inv-loop μ-loop
-loop-holds c = let t = c .before .before .pre in rw (c .word .ensures .0) (starts _ _ _ (t .ahead) (t .ordered .within))
+loop-holds c = rw (c .word .ensures .0) (starts _ _ _)
 
 middle-of-requires : tie.Need-middle-of-requires Inv-loop μ-loop
 middle-of-requires c κs = opens (c .before .before .loop .inv) (c .if1 .taken) (omega (arith, c .before .before .before .word .ensures .0, c .before .before .before .word .ensures .1))
@@ -38,8 +38,7 @@ loop-less c = omega (arith, c .step .ensures .1 .half, c .before .before .before
 loop-again : tie.Need-loop-again Inv-loop μ-loop
 loop-again c =
     let e = rw (c .before .before .middle-of .ensures) at (c .before .key-at .ensures) in
-    let t = c .before .before .before .before .before .before .before .before in
-    again (c .before .before .before .before .before .loop .inv) (c .before .before .before .if1 .taken) (t .pre .ordered) (λ q. beforePair (sym e q) (keyOf (t .args .key))) (c .step .ensures .1)
+    again (c .before .before .before .before .before .loop .inv) (c .before .before .before .if1 .taken) (λ q. beforePair (sym e q) (keyOf (c .before .before .before .before .before .before .before .before .args .key))) (c .step .ensures .0)
 
 pub search-spec : {M : Type 1} → statement M
 search-spec =
