@@ -1,11 +1,11 @@
 -- What the register's own functions ask of each other and count. No call's promise speaks of it.
-use Prim.Native.Nat.{ℕ, _+_, _*_, _≤_}
+use Prim.Native.Nat.{ℕ, _+_, _≤_}
 use mathlib.Core.Path.{_≡_}
 use mathlib.Core.Bool.{true, cond}
 use mathlib.Core.List.{List, [], _∷_}
 use lib.Dec.{ltb}
 use lib.ListN.{length, take, drop}
-use Rattle.register.specs.Register.{mostRecords, registerWords, lastSource, recordsOf, listOk, registerOk, positionOf}
+use Rattle.register.specs.Register.{registerWords, lastSource, recordsOf, listOk, registerOk, positionOf}
 
 -- How often a number of a list does not stand above the one before it.
 unfoldable pub descentsFrom : ℕ → List ℕ → ℕ
@@ -32,23 +32,3 @@ pub record Passed (ws : List ℕ) (position source customer : ℕ) (list : List 
   pub some : customer ≡ 0 → ⊥
   pub rising : listOk customer list ≡ true
   pub here : position ≡ positionOf customer source (recordsOf ws)
-
--- ---- the words of hints
-
--- The words of a part, of which there are two behind the first word; the hints follow.
-abbrev pub partWords : ℕ
-partWords = 4
-
-abbrev pub upperPart : ℕ
-upperPart = 1 + partWords
-
-abbrev pub firstCell : ℕ
-firstCell = upperPart + partWords
-
--- Cells to a record of a full register.
-abbrev pub cellsEach : ℕ
-cellsEach = 4
-
--- The words that hold all hints; the last is behind the last cell.
-abbrev pub hintWords : ℕ
-hintWords = firstCell + cellsEach * mostRecords + 1

@@ -21,11 +21,9 @@ ghost use Rattle.register.specs.Register.{registerOk, positionOf};
 ghost use Rattle.register.specs.Helpers.{descentsIn, listAt, mostSteps, Passed};
 ghost use Rattle.register.specs.Calls.{holdsRecord, fileEffect, withdrawEffect, clearEffect};
 
-pub mod hints;
-
 // ---- limits
 
-const MOST_RECORDS: usize = 1024;
+pub const MOST_RECORDS: usize = 1024;
 
 // The numbers in all lists together.
 const MOST_LISTED: usize = 8192;
@@ -228,7 +226,7 @@ pub fn is_register(reg: &[u32]) -> bool
 // ---- look-up
 
 // Record i stands before the pair of a customer and a source.
-fn stands_before(reg: &[u32], i: usize, customer: AsNumber, source: u32) -> bool
+pub fn stands_before(reg: &[u32], i: usize, customer: AsNumber, source: u32) -> bool
     requires { ⌜ (registerOk (now reg) ≡ true) × (i < length (recordsOf (now reg))) ⌝ }
     ensures { λ r. ⌜ r ≡ beforePair (keyOf (recordAt (recordsOf (now (reg .entry))) i)) (customer .0, source) ⌝ }
 {
@@ -240,7 +238,7 @@ fn stands_before(reg: &[u32], i: usize, customer: AsNumber, source: u32) -> bool
 }
 
 // The position of a pair, from one on that is not behind it, by halves: at most eleven records are looked at.
-fn search(reg: &[u32], from: usize, customer: AsNumber, source: u32) -> Range
+pub fn search(reg: &[u32], from: usize, customer: AsNumber, source: u32) -> Range
     requires { ⌜ (registerOk (now reg) ≡ true) × (from ≤ positionOf (customer .0) source (recordsOf (now reg))) ⌝ }
     ensures { λ r. ⌜ (r .low ≡ positionOf (customer .0) source (recordsOf (now (reg .entry)))) × (r .steps ≤ mostSteps) ⌝ }
 {

@@ -50,7 +50,7 @@ pub fn rejudge_all(reg: &[u32], led: &mut [u32]) -> usize
     if ledger::path_words(led) <= table::word(reg, 0) {
         return rejudge_routes(reg, &verdict::NO_HINTS, led);
     }
-    let mut hints = [0u32; register::hints::WORDS];
-    register::hints::fill(reg, &mut hints);
+    let mut hints = [0u32; hints::WORDS];
+    hints::fill(reg, &mut hints);
     rejudge_routes(reg, &hints, led)
 }

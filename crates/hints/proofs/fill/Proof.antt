@@ -1,11 +1,11 @@
--- `register::hints::fill` meets its contract. Assumes nothing.
+-- `hints::fill` meets its contract. Assumes nothing.
 use borrow.Author.Needs.{needs}
 use native.Mathlib.Omega.{arith}
 use mathlib.Core.Path.{_∙_}
 use lib.ListN.{length-set}
 use Rattle.register.proofs.Looking.{head-within, count-is, few}
-use Rattle.register.proofs.hints.fill.Statement.{statement}
-use Rattle.register.proofs.hints.fill.Tie as tie
+use Rattle.hints.proofs.fill.Statement.{statement}
+use Rattle.hints.proofs.fill.Tie as tie
 
 word-requires : tie.Need-word-requires
 word-requires c κs = omega (arith, head-within _ (c .before .before .pre .0))

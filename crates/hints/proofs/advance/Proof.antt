@@ -1,13 +1,13 @@
--- `register::hints::advance` meets its contract. Assumes nothing.
+-- `hints::advance` meets its contract. Assumes nothing.
 use borrow.Author.Needs.{needs}
 use native.Mathlib.Omega.{arith}
 use mathlib.Core.Path.{sym, _∙_}
 use Rattle.halves.proofs.Positions.{over}
 use Rattle.register.specs.Register.{recordsOf}
 use Rattle.register.proofs.Holding.{ordered}
 use Rattle.register.proofs.Looking.{head-within, count-is, begins}
-use Rattle.register.proofs.hints.advance.Statement.{statement}
-use Rattle.register.proofs.hints.advance.Tie as tie
+use Rattle.hints.proofs.advance.Statement.{statement}
+use Rattle.hints.proofs.advance.Tie as tie
 
 word-requires : tie.Need-word-requires
 word-requires c κs = omega (arith, head-within _ (c .before .pre .0))

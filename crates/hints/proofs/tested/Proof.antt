@@ -1,13 +1,13 @@
--- `register::hints::tested` meets its contract. Assumes nothing.
+-- `hints::tested` meets its contract. Assumes nothing.
 use borrow.Author.Needs.{needs}
 use native.Mathlib.Omega.{arith}
 use mathlib.Core.Path.{sym, _∙_}
 use Rattle.halves.proofs.Positions.{over}
 use Rattle.register.specs.Register.{recordsOf}
 use Rattle.register.proofs.Holding.{ordered}
 use Rattle.register.proofs.Looking.{head-within, count-is, begins}
-use Rattle.register.proofs.hints.tested.Statement.{statement}
-use Rattle.register.proofs.hints.tested.Tie as tie
+use Rattle.hints.proofs.tested.Statement.{statement}
+use Rattle.hints.proofs.tested.Tie as tie
 
 word-requires : tie.Need-word-requires
 word-requires c κs = omega (arith, head-within _ (c .before .before .pre))

@@ -11,20 +11,18 @@
 //
 // Word 0 is the first customer of the upper part. Then come for each part, the lower first: its first customer, its width's exponent,
 // its first cell and the one behind its last, as indices of words. The hints follow.
-use crate::search;
-use crate::stands_before;
 use types::AsNumber;
 ghost use mathlib.Core.Path.{_≡_};
 ghost use mathlib.Core.Bool.{true};
 ghost use Prim.Native.Nat.{_^_, _≤_, _<_};
 ghost use lib.ListN.{length};
 ghost use Rattle.register.specs.Register.{recordsOf, recordAt, registerOk, positionOf};
-ghost use Rattle.register.specs.Helpers.{upperPart, firstCell, hintWords};
+ghost use Rattle.hints.specs.Helpers.{upperPart, firstCell, hintWords};
 
 // Cells to a record of a full register.
 const CELLS_EACH: usize = 4;
 
-const CELLS: usize = CELLS_EACH * crate::MOST_RECORDS;
+const CELLS: usize = CELLS_EACH * register::MOST_RECORDS;
 
 // The words of a part: its first customer, its width's exponent, its first cell and the one behind its last.
 const EXPONENT: usize = 1;
@@ -113,7 +111,7 @@ fn customer_at(reg: &[u32], i: usize) -> AsNumber
     requires { ⌜ (registerOk (now reg) ≡ true) × (i < length (recordsOf (now reg))) ⌝ }
     ensures { λ r. ⌜ r .0 ≡ recordAt (recordsOf (now (reg .entry))) i .customer ⌝ }
 {
-    let c = reg[table::COUNTERS + i * crate::WIDTH];
+    let c = reg[table::COUNTERS + i * register::WIDTH];
     AsNumber(c)
 }
 
@@ -234,7 +232,7 @@ fn tested(reg: &[u32], hints: &[u32], at: usize, customer: AsNumber) -> usize
 {
     let low = hint_at(hints, at, table::word(reg, 0));
     if 0 < low {
-        if stands_before(reg, low - 1, customer, 0) {
+        if register::stands_before(reg, low - 1, customer, 0) {
             return low;
         }
     }
@@ -248,7 +246,7 @@ fn advance(reg: &[u32], low: usize, customer: AsNumber) -> usize
 {
     let mut next = low;
     if low < table::word(reg, 0) {
-        if stands_before(reg, low, customer, 0) {
+        if register::stands_before(reg, low, customer, 0) {
             next = low + 1;
         }
     }
@@ -276,12 +274,12 @@ fn is_high_end(reg: &[u32], hints: &[u32], low: usize, customer: AsNumber) -> bo
         return false;
     }
     if low < table::word(reg, 0) {
-        return !stands_before(reg, low, customer, 0);
+        return !register::stands_before(reg, low, customer, 0);
     }
     true
 }
 
-// Where a customer's records begin, or would: the position that `find` answers for source 0, whatever the hints are. Without hints it
+// Where a customer's records begin, or would: the position that `register::find` answers for source 0, whatever the hints are. Without hints it
 // looks at the same records.
 pub fn find(reg: &[u32], hints: &[u32], customer: AsNumber) -> usize
     requires { ⌜ registerOk (now reg) ≡ true ⌝ }
@@ -291,6 +289,6 @@ pub fn find(reg: &[u32], hints: &[u32], customer: AsNumber) -> usize
     if is_high_end(reg, hints, low, customer) {
         return low;
     }
-    let found = search(reg, low, customer, 0);
+    let found = register::search(reg, low, customer, 0);
     found.low
 }

@@ -1,9 +1,9 @@
--- `register::hints::set_part` meets its contract. Assumes nothing.
+-- `hints::set_part` meets its contract. Assumes nothing.
 use borrow.Author.Needs.{needs}
 use native.Mathlib.Omega.{arith}
 use lib.ListN.{length-set}
-use Rattle.register.proofs.hints.set_part.Statement.{statement}
-use Rattle.register.proofs.hints.set_part.Tie as tie
+use Rattle.hints.proofs.set_part.Statement.{statement}
+use Rattle.hints.proofs.set_part.Tie as tie
 
 mul-hints : tie.Need-mul-hints
 mul-hints c = search needs

@@ -1,8 +1,8 @@
--- `register::hints::exponent` meets its contract. Assumes nothing.
+-- `hints::exponent` meets its contract. Assumes nothing.
 use borrow.Author.Needs.{needs}
 use Prim.Native.Nat.{_-_, _≤_}
-use Rattle.register.proofs.hints.exponent.Statement.{statement}
-use Rattle.register.proofs.hints.exponent.Tie as tie
+use Rattle.hints.proofs.exponent.Statement.{statement}
+use Rattle.hints.proofs.exponent.Tie as tie
 
 abbrev Inv-loop : tie.InvT-loop
 Inv-loop range cells e₀ e = e ≤ 31

@@ -1,10 +1,10 @@
--- `register::hints::customer_at` meets its contract. Assumes nothing.
+-- `hints::customer_at` meets its contract. Assumes nothing.
 use native.Mathlib.Omega.{arith}
 use Rattle.register.proofs.Holding.{sound}
 use Rattle.register.proofs.Entries.{customer-is}
 use Rattle.register.proofs.Looking.{few, slot-in}
-use Rattle.register.proofs.hints.customer_at.Statement.{statement}
-use Rattle.register.proofs.hints.customer_at.Tie as tie
+use Rattle.hints.proofs.customer_at.Statement.{statement}
+use Rattle.hints.proofs.customer_at.Tie as tie
 
 mul-c : tie.Need-mul-c
 mul-c c = omega (arith, few _ (c .pre .0), c .pre .1)

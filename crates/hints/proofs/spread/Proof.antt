@@ -1,10 +1,10 @@
--- `register::hints::spread` meets its contract. Assumes nothing.
+-- `hints::spread` meets its contract. Assumes nothing.
 use borrow.Author.Needs.{needs}
 use mathlib.Core.Path.{_≡_}
 use Prim.Native.Nat.{_-_}
 use lib.ListN.{length}
-use Rattle.register.proofs.hints.spread.Statement.{statement}
-use Rattle.register.proofs.hints.spread.Tie as tie
+use Rattle.hints.proofs.spread.Statement.{statement}
+use Rattle.hints.proofs.spread.Tie as tie
 
 abbrev Inv-loop : tie.InvT-loop
 Inv-loop hints₀ last₀ at₀ hints last at = length hints ≡ length hints₀

@@ -1,8 +1,8 @@
--- `register::hints::find` meets its contract. Assumes nothing.
+-- `hints::find` meets its contract. Assumes nothing.
 use borrow.Author.Needs.{needs}
 use native.Mathlib.Omega.{arith}
-use Rattle.register.proofs.hints.find.Statement.{statement}
-use Rattle.register.proofs.hints.find.Tie as tie
+use Rattle.hints.proofs.find.Statement.{statement}
+use Rattle.hints.proofs.find.Tie as tie
 
 low-end-requires : tie.Need-low-end-requires
 low-end-requires c κs = search needs

@@ -1,14 +1,14 @@
--- `register::hints::is_high_end` meets its contract. Assumes nothing.
+-- `hints::is_high_end` meets its contract. Assumes nothing.
 use native.Mathlib.Omega.{arith}
 use mathlib.Core.Path.{_≡_, sym, _∙_}
 use borrow.Author.Tests.{not-true}
 use Prim.Native.Nat.{ℕ}
 use Rattle.halves.proofs.Positions.{under}
 use Rattle.register.specs.Register.{recordsOf}
 use Rattle.register.proofs.Holding.{ordered}
 use Rattle.register.proofs.Looking.{head-within, count-is, begins}
-use Rattle.register.proofs.hints.is_high_end.Statement.{statement}
-use Rattle.register.proofs.hints.is_high_end.Tie as tie
+use Rattle.hints.proofs.is_high_end.Statement.{statement}
+use Rattle.hints.proofs.is_high_end.Tie as tie
 
 returns : tie.Need-returns
 returns c = λ h. absurd (let z : _≡_ {A = ℕ} 0 1 = cc in omega arith)

@@ -1,14 +1,14 @@
--- `register::hints::cut` meets its contract. Assumes nothing.
+-- `hints::cut` meets its contract. Assumes nothing.
 use borrow.Author.Needs.{needs}
 use native.Mathlib.Omega.{arith}
 use mathlib.Core.Path.{_≡_, _∙_}
 use mathlib.Core.Bool.{true}
 use Prim.Native.Nat.{_-_, _≤_, _<_}
 use lib.ListN.{length}
 use Rattle.register.specs.Register.{mostRecords, recordsOf, registerOk}
 use Rattle.register.proofs.Looking.{head-within, count-is, few}
-use Rattle.register.proofs.hints.cut.Statement.{statement}
-use Rattle.register.proofs.hints.cut.Tie as tie
+use Rattle.hints.proofs.cut.Statement.{statement}
+use Rattle.hints.proofs.cut.Tie as tie
 
 abbrev Inv-loop : tie.InvT-loop
 Inv-loop reg n position₀ widest₀ i₀ position widest i =

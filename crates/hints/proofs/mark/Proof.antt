@@ -1,15 +1,15 @@
--- `register::hints::mark` meets its contract. Assumes nothing.
+-- `hints::mark` meets its contract. Assumes nothing.
 use borrow.Author.Needs.{needs}
 use native.Mathlib.Omega.{arith}
 use mathlib.Core.Path.{_≡_, refl, _∙_}
 use mathlib.Core.Bool.{true}
 use Prim.Native.Nat.{_-_, _≤_}
 use lib.ListN.{length}
 use Rattle.register.specs.Register.{mostRecords, recordsOf, registerOk}
-use Rattle.register.specs.Helpers.{firstCell}
+use Rattle.hints.specs.Helpers.{firstCell}
 use Rattle.register.proofs.Looking.{head-within, count-is, few}
-use Rattle.register.proofs.hints.mark.Statement.{statement}
-use Rattle.register.proofs.hints.mark.Tie as tie
+use Rattle.hints.proofs.mark.Statement.{statement}
+use Rattle.hints.proofs.mark.Tie as tie
 
 abbrev Inv-loop : tie.InvT-loop
 Inv-loop reg hints₀ n i₀ hints i =
