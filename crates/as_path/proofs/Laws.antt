@@ -14,8 +14,8 @@ use Rattle.as_path.specs.declared.Scan.{Scan}
 use Rattle.as_path.specs.declared.Scan.the-variants.{Clean, Faulty}
 use Rattle.as_path.specs.Segments.{numberAt, typeAt, countAt, endOf, starts, Segment}
 use Rattle.as_path.specs.Faults.{numbersFault, segmentFault, faultAmong, firstFault}
-use Rattle.as_path.specs.Merging.{mergeRuns, mergedPath}
-use Rattle.as_path.specs.Laws.{moved, PositionLaws, Meaning, Headed, FirstZero, FaultLaws, numbersIn, PathLaws}
+use Rattle.as_path.specs.Merging.{numbersIn, mergeRuns, mergedPath}
+use Rattle.as_path.specs.Laws.{moved, PositionLaws, Meaning, Headed, FirstZero, FaultLaws, PathLaws}
 use Rattle.as_path.proofs.Walking.{first, one-more}
 use Rattle.as_path.proofs.Positions.{starts-append, any-position, segments-append}
 use Rattle.as_path.proofs.Meanings.{fault-means}

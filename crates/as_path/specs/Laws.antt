@@ -10,7 +10,7 @@ use Rattle.as_path.specs.declared.Scan.{Scan}
 use Rattle.as_path.specs.declared.Scan.the-variants.{Clean, Faulty}
 use Rattle.as_path.specs.Segments.{numberAt, typeAt, countAt, endOf, starts, Segment, segments}
 use Rattle.as_path.specs.Faults.{firstFault}
-use Rattle.as_path.specs.Merging.{mergeRuns, mergedPath}
+use Rattle.as_path.specs.Merging.{numbersIn, mergeRuns, mergedPath}
 
 -- ---- the segment rules at any position
 
@@ -71,11 +71,6 @@ pub record FaultLaws : Type 0 where
       → firstFault w (a ++ b) ≡ Faulty ZeroNumber (length a + (2 + w * k))
 
 -- ---- the merged path
-
--- The numbers of an attribute, unmerged.
-unfoldable pub numbersIn : List Segment → List ℕ
-numbersIn [] = []
-numbersIn (s ∷ ss) = s .numbers ++ numbersIn ss
 
 pub record PathLaws : Type 0 where
   -- Of an attribute without a fault: no number is 0;

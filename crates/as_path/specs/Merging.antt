@@ -5,6 +5,11 @@ use mathlib.Core.Bool.{cond}
 use lib.Dec.{eqb}
 use Rattle.as_path.specs.Segments.{Segment}
 
+-- The numbers of segments, unmerged.
+unfoldable pub numbersIn : List Segment → List ℕ
+numbersIn [] = []
+numbersIn (s ∷ ss) = s .numbers ++ numbersIn ss
+
 -- What is left of a list that stands after the number x.
 unfoldable pub runsAfter : ℕ → List ℕ → List ℕ
 runsAfter x [] = []
