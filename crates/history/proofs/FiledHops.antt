@@ -16,7 +16,7 @@ use Rattle.rules.specs.Draft as draft
 use Rattle.rules.specs.Records.{Record, isIn, attested, united, hopOf}
 use Rattle.register.specs.Register.{lastSource, keyOf, recordOk, recordsOk}
 use Rattle.register.proofs.Holding.{each-ok, in-order}
-use Rattle.register.proofs.Uniting.{in-append}
+use Rattle.providers.proofs.Seeking.{in-append}
 use Rattle.history.specs.Calls.{findRecord, providersOf}
 use Rattle.history.specs.Filings.{isFiled, isListed, hopFiled}
 

@@ -1,9 +1,5 @@
 pub mod Entries
 pub mod Holding
-pub mod Lists
-pub mod Members
-pub mod Halving
-pub mod Descending
 pub mod Checking
 pub mod Looking
 pub mod Uniting

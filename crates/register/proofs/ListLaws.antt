@@ -20,7 +20,7 @@ use Rattle.register.specs.Register.{mostProviders, lastSource, recordsOf
 use Rattle.register.specs.Calls.{holdsRecord, putRecord, recordFor, fileEffect}
 use Rattle.register.specs.Helpers.{Passed}
 use Rattle.register.specs.Laws.{Register, BadList, empty, long, falls, own, RecordRules, ListLaws}
-use Rattle.register.proofs.Members.{rises-at, falls-at, at-in, in-at}
+use Rattle.providers.proofs.Members.{rises-at, falls-at, at-in, in-at}
 use Rattle.register.proofs.Holding.{records-ok, has-room, each-ok, in-order}
 use Rattle.register.proofs.Changes.{record-customer, record-source, record-list}
 use Rattle.register.proofs.Filing.{file-list, file-full, file-done}

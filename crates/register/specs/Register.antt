@@ -1,12 +1,15 @@
 -- The register ("Tables"): provider records in a packed table with two head words, customer and source, and no tail.
 use Prim.Native.Nat.{ℕ, _+_, _*_}
-use mathlib.Core.Bool.{Bool, true, not, _&&_}
+use mathlib.Core.Bool.{Bool, _&&_}
 use mathlib.Core.List.{List, [], _∷_, map}
-use lib.Dec.{leb, ltb}
+use lib.Dec.{leb}
 use lib.ListN.{length, getD}
 use Rattle.table.specs.Table.{Entry, counters, width, encode, decode, wellFormed}
 use Rattle.keyed.specs.Keyed.{samePair, beforePair, ascends, rank, every}
-use Rattle.rules.specs.Records.{Record, isIn}
+use Rattle.rules.specs.Records.{Record}
+-- Which lists may stand in a register.
+pub use Rattle.providers.specs.Lists.{mostProviders}
+unfoldable pub use Rattle.providers.specs.Lists.{risesFrom, rises, listOk}
 
 -- ---- limits
 
@@ -16,10 +19,6 @@ mostRecords = 1024
 -- The numbers in all lists together.
 abbrev pub mostListed : ℕ
 mostListed = 8192
-
--- The numbers in one list.
-abbrev pub mostProviders : ℕ
-mostProviders = 256
 
 abbrev pub lastSource : ℕ
 lastSource = 7
@@ -85,19 +84,6 @@ listed [] = 0
 listed (r ∷ rs) = length (r .providers) + listed rs
 
 -- ---- the column rules
-
--- A list ascends strictly.
-unfoldable pub risesFrom : ℕ → List ℕ → Bool
-risesFrom x [] = true
-risesFrom x (y ∷ l) = ltb x y && risesFrom y l
-
-unfoldable pub rises : List ℕ → Bool
-rises [] = true
-rises (x ∷ l) = risesFrom x l
-
--- A list that may be filed for a customer (row 6): one number or more, not too many, ascending, and the customer not among them.
-unfoldable pub listOk : ℕ → List ℕ → Bool
-listOk customer l = leb 1 (length l) && (leb (length l) mostProviders && (rises l && not (isIn customer l)))
 
 unfoldable pub recordOk : Record → Bool
 recordOk r = leb 1 (r .customer) && (leb (r .source) lastSource && listOk (r .customer) (r .providers))

@@ -9,16 +9,16 @@ use types::Refusal;
 use types::Removal;
 ghost use mathlib.Core.Path.{_≡_};
 ghost use mathlib.Core.Bool.{true, false, cond, _&&_};
-ghost use Prim.Native.Nat.{_+_, _^_, _≤_, _<_};
-ghost use lib.ListN.{length, getD, take};
+ghost use Prim.Native.Nat.{_≤_, _<_};
+ghost use lib.ListN.{length, getD};
 ghost use Rattle.table.specs.Table.{Sound};
 ghost use Rattle.types.specs.Rows.{effect};
 ghost use Rattle.keyed.specs.Keyed.{samePair, beforePair, ascends, every};
 ghost use Rattle.types.specs.declared.Hop.the-variants.{NoAttestation, ProviderPlus, NotProviderPlus};
-ghost use Rattle.rules.specs.Records.{isIn, hopOf};
-ghost use Rattle.register.specs.Register.{recordHead, recordTail, mostListed, recordsOf, recordAt, keyOf, rises, listOk, recordOk};
+ghost use Rattle.rules.specs.Records.{hopOf};
+ghost use Rattle.register.specs.Register.{recordHead, recordTail, mostListed, recordsOf, recordAt, keyOf, recordOk};
 ghost use Rattle.register.specs.Register.{registerOk, positionOf};
-ghost use Rattle.register.specs.Helpers.{descentsIn, listAt, mostSteps, Passed};
+ghost use Rattle.register.specs.Helpers.{mostSteps, Passed};
 ghost use Rattle.register.specs.Calls.{holdsRecord, fileEffect, withdrawEffect, clearEffect};
 
 // ---- limits
@@ -27,9 +27,6 @@ pub const MOST_RECORDS: usize = 1024;
 
 // The numbers in all lists together.
 const MOST_LISTED: usize = 8192;
-
-// The numbers in one list.
-const MOST_PROVIDERS: usize = 256;
 
 const LAST_SOURCE: u32 = 7;
 
@@ -56,111 +53,8 @@ const NO_TAIL: [u32; TAIL] = [0u32; TAIL];
 
 // ---- the check
 
-// A list ascends strictly.
-fn is_rising(list: &[u32]) -> bool
-    ensures { λ r. ⌜ r ≡ rises (now (list .entry)) ⌝ }
-{
-    if list.len() == 0 {
-        return true;
-    }
-    let mut x = list[0];
-    let mut i: usize = 1;
-    while i < list.len() {
-        let y = list[i];
-        if y <= x {
-            return false;
-        }
-        x = y;
-        i += 1;
-    }
-    true
-}
-
-// Whether an ascending list holds a number, by halves: at most nine looks at a list of 256. Of any other list it may say either.
-fn holds(list: &[u32], number: AsNumber) -> bool
-    requires { ⌜ 1 ≤ length (now list) ⌝ }
-    ensures { λ r. ⌜ (rises (now (list .entry)) ≡ true → r ≡ isIn (number .0) (now (list .entry))) ⌝ }
-{
-    let x = number.0;
-    let mut from: usize = 0;
-    let mut many = list.len();
-    while 1 < many {
-        let half = many / 2;
-        many -= half;
-        if list[from + half] <= x {
-            from += half;
-        }
-    }
-    list[from] == x
-}
-
-// A list that may be filed for a customer.
-fn is_list(customer: AsNumber, list: &[u32]) -> bool
-    ensures { λ r. ⌜ r ≡ listOk (customer .0) (now (list .entry)) ⌝ }
-{
-    if list.len() < 1 {
-        return false;
-    }
-    if MOST_PROVIDERS < list.len() {
-        return false;
-    }
-    if !is_rising(list) {
-        return false;
-    }
-    !holds(list, customer)
-}
-
-// How often a number does not stand above the one before it. The loop has no early exit, so that the compiler takes several words at
-// a time.
-fn descents(list: &[u32]) -> u32
-    requires { ⌜ length (now list) < 2 ^ 32 ⌝ }
-    ensures { λ r. ⌜ (r ≡ descentsIn (now (list .entry))) × (r ≤ length (now (list .entry))) ⌝ }
-{
-    let mut many: u32 = 0;
-    let mut i: usize = 1;
-    while i < list.len() {
-        if list[i] <= list[i - 1] {
-            many += 1;
-        }
-        i += 1;
-    }
-    many
-}
-
-// Whether one of the first eight words is a number: compared at once, without a branch.
-fn is_among_eight(words: &[u32], number: AsNumber) -> bool
-    requires { ⌜ 8 ≤ length (now words) ⌝ }
-    ensures { λ r. ⌜ r ≡ isIn (number .0) (take 8 (now (words .entry))) ⌝ }
-{
-    let x = number.0;
-    (words[0] == x)
-        | ((words[1] == x)
-            | ((words[2] == x)
-                | ((words[3] == x)
-                    | ((words[4] == x) | ((words[5] == x) | ((words[6] == x) | (words[7] == x)))))))
-}
-
-// The same as `holds` of the list of `count` numbers that begins at a word. Most lists are short, and no processor foresees their
-// lengths and numbers: so sixteen words are compared at once, though some may belong to other lists, and only if one of them is the
-// number the list is searched.
-fn holds_at(reg: &[u32], from: usize, count: usize, number: AsNumber) -> bool
-    requires { ⌜ (1 ≤ count) × (from + count ≤ length (now reg)) ⌝ }
-    ensures { λ r. ⌜ (rises (listAt (now (reg .entry)) from count) ≡ true → r ≡ isIn (number .0) (listAt (now (reg .entry)) from count)) ⌝ }
-{
-    if count <= 16 {
-        if from + 16 <= reg.len() {
-            let low = is_among_eight(&reg[from..from + 8], number);
-            let high = is_among_eight(&reg[from + 8..from + 16], number);
-            if !(low | high) {
-                return false;
-            }
-        }
-    }
-    holds(&reg[from..from + count], number)
-}
-
 // Each record's own rules, and their order. The lists are read in one go: each of them ascends if no two numbers descend but where
-// one list ends and the next begins. If one does not, it does not matter what `holds_at` said of it.
+// one list ends and the next begins. If one does not, it does not matter what `providers::holds_at` said of it.
 fn are_records(reg: &[u32]) -> bool
     requires { ⌜ Sound recordHead recordTail (now reg) × (getD (now reg) 1 0 ≤ mostListed) ⌝ }
     ensures { λ r. ⌜ r ≡ (every recordOk (recordsOf (now (reg .entry))) && ascends keyOf samePair beforePair (recordsOf (now (reg .entry)))) ⌝ }
@@ -177,7 +71,7 @@ fn are_records(reg: &[u32]) -> bool
         let c = reg[at];
         let s = reg[at + SOURCE];
         let count = table::word(reg, at + COUNT);
-        if (c == 0) | ((LAST_SOURCE < s) | ((count < 1) | (MOST_PROVIDERS < count))) {
+        if (c == 0) | ((LAST_SOURCE < s) | ((count < 1) | (providers::MOST_PROVIDERS < count))) {
             return false;
         }
         let last = Key {
@@ -191,7 +85,7 @@ fn are_records(reg: &[u32]) -> bool
         if !halves::is_before(last, here) {
             return false;
         }
-        if holds_at(reg, from, count, AsNumber(c)) {
+        if providers::holds_at(reg, from, count, AsNumber(c)) {
             return false;
         }
         if bodies < from {
@@ -204,7 +98,7 @@ fn are_records(reg: &[u32]) -> bool
         from += count;
         i += 1;
     }
-    descents(&reg[bodies..from]) == between
+    providers::descents(&reg[bodies..from]) == between
 }
 
 // The words are a well-formed register, whatever they are.
@@ -275,34 +169,6 @@ fn is_at(reg: &[u32], position: usize, customer: AsNumber, source: u32) -> bool
     false
 }
 
-// Which of two numbers a list holds.
-struct Listed {
-    y: bool,
-    z: bool,
-}
-
-// The loop has no early exit, so that the compiler takes several words at a time.
-fn scan(list: &[u32], y: AsNumber, z: AsNumber) -> Listed
-    ensures { λ r. ⌜ (r .y ≡ isIn (y .0) (now (list .entry))) × (r .z ≡ isIn (z .0) (now (list .entry))) ⌝ }
-{
-    let a = y.0;
-    let b = z.0;
-    let mut has_y = false;
-    let mut has_z = false;
-    let mut i: usize = 0;
-    while i < list.len() {
-        let p = list[i];
-        if p == a {
-            has_y = true;
-        }
-        if p == b {
-            has_z = true;
-        }
-        i += 1;
-    }
-    Listed { y: has_y, z: has_z }
-}
-
 // The hops from one number to two others.
 pub struct Hops {
     pub y: Hop,
@@ -343,7 +209,7 @@ pub fn hops_from(reg: &[u32], position: usize, x: AsNumber, y: AsNumber, z: AsNu
         }
         let from = bodies + table::word(reg, slot + START);
         let to = from + table::word(reg, slot + COUNT);
-        let listed = scan(&reg[from..to], y, z);
+        let listed = providers::scan(&reg[from..to], y, z);
         has_y = has_y | listed.y;
         has_z = has_z | listed.z;
         i += 1;
@@ -417,7 +283,7 @@ pub fn file(reg: &mut [u32], source: u32, customer: AsNumber, list: &[u32]) -> F
     if c == 0 {
         return Filed::Refused(Refusal::CustomerZero);
     }
-    if !is_list(customer, list) {
+    if !providers::is_list(customer, list) {
         return Filed::Refused(Refusal::ProviderList);
     }
     let position = find(reg, customer, source);

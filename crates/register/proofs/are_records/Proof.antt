@@ -7,7 +7,7 @@ use Prim.Native.Nat.{_-_}
 use native.Mathlib.Omega.{arith}
 use lib.Dec.{eqb}
 use lib.ListN.{length-take, length-drop}
-use Rattle.register.proofs.Descending.{no-fall, one-fall}
+use Rattle.providers.proofs.Descending.{no-fall, one-fall}
 use Rattle.register.proofs.Checking.{Checked, checks, lists-few, lists-inside, all-checked, slot-inside, list-inside, no-record, list-some, first-inside}
 use Rattle.register.proofs.Checking.{no-order, no-own, checks-first, checks-next}
 use Rattle.register.proofs.are_records.Statement.{statement}

@@ -1,10 +1,10 @@
--- `register::is_list` meets its contract. Assumes nothing.
+-- `providers::is_list` meets its contract. Assumes nothing.
 use mathlib.Core.Path.{sym, _∙_}
 use borrow.Author.Needs.{needs}
 use borrow.Author.Tests.{not-true, not-false}
-use Rattle.register.proofs.Lists.{list-empty, list-long, list-falls, list-own}
-use Rattle.register.proofs.is_list.Statement.{statement}
-use Rattle.register.proofs.is_list.Tie as tie
+use Rattle.providers.proofs.Lists.{list-empty, list-long, list-falls, list-own}
+use Rattle.providers.proofs.is_list.Statement.{statement}
+use Rattle.providers.proofs.is_list.Tie as tie
 
 returns : tie.Need-returns
 returns c = list-empty _ _ (c .if1 .taken)

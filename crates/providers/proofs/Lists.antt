@@ -10,7 +10,7 @@ use lib.Dec.{ltb}
 use lib.ListN.{length, getD, drop, drop-of-length-le}
 use lib.Seq.{drop-cons}
 use Rattle.rules.specs.Records.{isIn}
-use Rattle.register.specs.Register.{mostProviders, rises, risesFrom, listOk}
+use Rattle.providers.specs.Lists.{mostProviders, rises, risesFrom, listOk}
 
 -- The empty list ascends.
 pub rises-empty : (l : List ℕ) → length l ≡ 0 → true ≡ rises l

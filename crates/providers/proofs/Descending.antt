@@ -10,8 +10,8 @@ use borrow.Author.Tests.{lt-ltb, le-ltb, eq-eqb, ne-eqb, eqb-true, eqb-false}
 use lib.Dec.{ltb, eqb}
 use lib.ListN.{length, getD, take, drop, length-take, length-drop, drop-of-length-le}
 use lib.Seq.{drop-cons, drop-drop, take-add, getD-take, getD-drop}
-use Rattle.register.specs.Register.{rises, risesFrom}
-use Rattle.register.specs.Helpers.{descentsFrom, descentsIn}
+use Rattle.providers.specs.Lists.{rises, risesFrom}
+use Rattle.providers.specs.Helpers.{descentsFrom, descentsIn}
 
 -- What a number adds to the descents, behind another.
 abbrev pub fall : ℕ → ℕ → ℕ

@@ -1,9 +1,9 @@
--- `register::holds` meets its contract. Assumes nothing.
+-- `providers::holds` meets its contract. Assumes nothing.
 use borrow.Author.Needs.{needs}
 use native.Mathlib.Omega.{arith}
-use Rattle.register.proofs.Halving.{Halved, halves, upper, lower, halved}
-use Rattle.register.proofs.holds.Statement.{statement}
-use Rattle.register.proofs.holds.Tie as tie
+use Rattle.providers.proofs.Halving.{Halved, halves, upper, lower, halved}
+use Rattle.providers.proofs.holds.Statement.{statement}
+use Rattle.providers.proofs.holds.Tie as tie
 
 abbrev Inv-loop : tie.InvT-loop
 Inv-loop list x from₀ many₀ from many = Halved list x from many

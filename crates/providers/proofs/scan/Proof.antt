@@ -1,13 +1,13 @@
--- `register::scan` meets its contract. Assumes nothing.
+-- `providers::scan` meets its contract. Assumes nothing.
 use borrow.Author.Needs.{needs}
 use mathlib.Core.Path.{refl}
 use mathlib.Core.Logic.{⊎-elim}
 use Prim.Native.Nat.{_-_, _≤_}
 use native.Mathlib.Omega.{arith}
 use lib.ListN.{length}
-use Rattle.register.proofs.Uniting.{Seeking, raised, stays, ended}
-use Rattle.register.proofs.scan.Statement.{statement}
-use Rattle.register.proofs.scan.Tie as tie
+use Rattle.providers.proofs.Seeking.{Seeking, raised, stays, ended}
+use Rattle.providers.proofs.scan.Statement.{statement}
+use Rattle.providers.proofs.scan.Tie as tie
 
 abbrev Inv-loop : tie.InvT-loop
 Inv-loop list a b has-y₀ has-z₀ i₀ has-y has-z i = (i ≤ length list) × Seeking a list has-y i × Seeking b list has-z i

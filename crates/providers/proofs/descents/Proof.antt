@@ -1,14 +1,14 @@
--- `register::descents` meets its contract. Assumes nothing.
+-- `providers::descents` meets its contract. Assumes nothing.
 use borrow.Author.Needs.{needs}
 use mathlib.Core.Path.{_≡_}
 use mathlib.Core.Logic.{⊎-elim}
 use Prim.Native.Nat.{_+_, _-_, _≤_, _<_}
 use native.Mathlib.Omega.{arith}
 use lib.ListN.{length, getD, drop}
-use Rattle.register.specs.Helpers.{descentsFrom, descentsIn}
-use Rattle.register.proofs.Descending.{no-fall, one-fall, descents-first, descents-on, descents-whole}
-use Rattle.register.proofs.descents.Statement.{statement}
-use Rattle.register.proofs.descents.Tie as tie
+use Rattle.providers.specs.Helpers.{descentsFrom, descentsIn}
+use Rattle.providers.proofs.Descending.{no-fall, one-fall, descents-first, descents-on, descents-whole}
+use Rattle.providers.proofs.descents.Statement.{statement}
+use Rattle.providers.proofs.descents.Tie as tie
 
 abbrev Inv-loop : tie.InvT-loop
 Inv-loop list many₀ i₀ many i =

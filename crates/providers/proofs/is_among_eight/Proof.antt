@@ -1,8 +1,8 @@
--- `register::is_among_eight` meets its contract. Assumes nothing.
+-- `providers::is_among_eight` meets its contract. Assumes nothing.
 use borrow.Author.Needs.{needs}
-use Rattle.register.proofs.Halving.{eight-are}
-use Rattle.register.proofs.is_among_eight.Statement.{statement}
-use Rattle.register.proofs.is_among_eight.Tie as tie
+use Rattle.providers.proofs.Halving.{eight-are}
+use Rattle.providers.proofs.is_among_eight.Statement.{statement}
+use Rattle.providers.proofs.is_among_eight.Tie as tie
 
 shared-slice-read-result : tie.Need-shared-slice-read-result
 shared-slice-read-result c = search needs

@@ -1,12 +1,12 @@
--- `register::is_rising` meets its contract. Assumes nothing.
+-- `providers::is_rising` meets its contract. Assumes nothing.
 use borrow.Author.Needs.{needs}
 use mathlib.Core.Path.{_≡_}
 use Prim.Native.Nat.{_-_}
 use lib.ListN.{length, drop}
-use Rattle.register.specs.Register.{rises, risesFrom}
-use Rattle.register.proofs.Lists.{rises-empty, rises-first, falls, rises-on, rises-whole}
-use Rattle.register.proofs.is_rising.Statement.{statement}
-use Rattle.register.proofs.is_rising.Tie as tie
+use Rattle.providers.specs.Lists.{rises, risesFrom}
+use Rattle.providers.proofs.Lists.{rises-empty, rises-first, falls, rises-on, rises-whole}
+use Rattle.providers.proofs.is_rising.Statement.{statement}
+use Rattle.providers.proofs.is_rising.Tie as tie
 
 abbrev Inv-loop : tie.InvT-loop
 Inv-loop list x₀ i₀ x i = risesFrom x (drop i list) ≡ rises list

@@ -10,10 +10,10 @@ use lib.ListN.{length, getD, take, drop, length-take, length-drop}
 use lib.Seq.{drop-cons, drop-drop, take-take, take-add, getD-take}
 use Rattle.types.proofs.Clashes.{not-both}
 use Rattle.rules.specs.Records.{isIn}
-use Rattle.register.specs.Register.{rises}
-use Rattle.register.specs.Helpers.{listAt}
-use Rattle.register.proofs.Members.{rises-at, at-in, in-at}
-use Rattle.register.proofs.Uniting.{in-append}
+use Rattle.providers.specs.Lists.{rises}
+use Rattle.providers.specs.Helpers.{listAt}
+use Rattle.providers.proofs.Members.{rises-at, at-in, in-at}
+use Rattle.providers.proofs.Seeking.{in-append}
 
 -- ---- by halves
 

@@ -1,9 +1,9 @@
--- `register::holds_at` meets its contract. Assumes nothing.
+-- `providers::holds_at` meets its contract. Assumes nothing.
 use borrow.Author.Needs.{needs}
 use borrow.Author.Tests.{not-true}
-use Rattle.register.proofs.Halving.{not-among, part-holds}
-use Rattle.register.proofs.holds_at.Statement.{statement}
-use Rattle.register.proofs.holds_at.Tie as tie
+use Rattle.providers.proofs.Halving.{not-among, part-holds}
+use Rattle.providers.proofs.holds_at.Statement.{statement}
+use Rattle.providers.proofs.holds_at.Tie as tie
 
 add-if2 : tie.Need-add-if2
 add-if2 c = search needs

@@ -10,7 +10,7 @@ use lib.ListN.{length, getD}
 use Rattle.types.proofs.Clashes.{clash}
 use Rattle.keyed.proofs.Orders.{both-left, both-right}
 use Rattle.rules.specs.Records.{isIn}
-use Rattle.register.specs.Register.{rises, risesFrom}
+use Rattle.providers.specs.Lists.{rises, risesFrom}
 
 -- ---- a list that ascends, and one that does not
 
