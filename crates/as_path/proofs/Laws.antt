@@ -1,26 +1,28 @@
 -- The laws of reading an attribute, gathered. Assumes nothing.
 use Prim.Native.Nat.{ℕ, zero, suc, _+_, _-_, _*_, _≤_, _<_}
-use mathlib.Core.Path.{_≡_, refl, sym, _∙_, ap}
+use mathlib.Core.Path.{_≡_, refl, _∙_, ap}
 use mathlib.Core.Bool.{cond}
-use mathlib.Core.List.{List, [], _∷_, _++_, append-assoc}
+use mathlib.Core.List.{List, _++_}
 use mathlib.Core.Logic.{_⊎_, inl, inr}
 use native.Mathlib.Omega.{arith}
 use borrow.Author.Tests.{lt-ltb, le-ltb, eq-eqb, ne-eqb}
 use lib.Dec.{ltb, eqb}
-use lib.ListN.{length, length-append}
+use lib.ListN.{length}
 use Rattle.types.specs.declared.Fault.{Fault}
 use Rattle.types.specs.declared.Fault.the-variants.{CutShort, UnknownType, Confederation, NoNumbers, ZeroNumber}
 use Rattle.as_path.specs.declared.Scan.{Scan}
 use Rattle.as_path.specs.declared.Scan.the-variants.{Clean, Faulty}
-use Rattle.as_path.specs.Segments.{numberAt, typeAt, countAt, endOf, starts, Segment}
+use Rattle.as_path.specs.Segments.{numberAt, typeAt, countAt, endOf, starts}
 use Rattle.as_path.specs.Faults.{numbersFault, segmentFault, faultAmong, firstFault}
-use Rattle.as_path.specs.Merging.{numbersIn, mergeRuns, mergedPath}
+use Rattle.as_path.specs.Merging.{numbersIn, mergedPath}
 use Rattle.as_path.specs.Laws.{moved, PositionLaws, Meaning, Headed, FirstZero, FaultLaws, PathLaws}
 use Rattle.as_path.proofs.Walking.{first, one-more}
 use Rattle.as_path.proofs.Positions.{starts-append, any-position, segments-append}
 use Rattle.as_path.proofs.Meanings.{fault-means}
 use Rattle.as_path.proofs.MergedPaths.{merged-no-zero, merged-no-runs, merged-first}
+use Rattle.as_path.proofs.Runs.{merged-beside, merged-left}
 use Rattle.as_path.proofs.Storing.{merged-shorter}
+use Rattle.as_path.proofs.Cuts.{cut-anyhow}
 
 -- ---- positions
 
@@ -130,22 +132,15 @@ fault-laws =
 
 -- ---- the merged path
 
-append : (ss ts : List Segment) → mergedPath (ss ++ ts) ≡ mergedPath ss ++ mergedPath ts
-unfolding mergedPath
-append [] ts = refl
-append (s ∷ ss) ts = ap (λ l. mergeRuns (s .numbers) ++ l) (append ss ts) ∙ sym (append-assoc (mergeRuns (s .numbers)) (mergedPath ss) (mergedPath ts))
-
-shorter : (ss : List Segment) → length (mergedPath ss) ≤ length (numbersIn ss)
-unfolding mergedPath numbersIn
-shorter [] = omega arith
-shorter (s ∷ ss) =
-    omega (
-      arith,
-      shorter ss,
-      merged-shorter (s .numbers),
-      length-append (mergeRuns (s .numbers)) (mergedPath ss),
-      length-append (s .numbers) (numbersIn ss),
-    )
-
 pub path-laws : PathLaws
-path-laws = record { no-zero = merged-no-zero; first-number = merged-first; no-runs = merged-no-runs; append = append; shorter = shorter }
+unfolding mergedPath
+path-laws =
+    record {
+      no-zero = merged-no-zero;
+      first-number = merged-first;
+      no-runs = λ ss. merged-no-runs (numbersIn ss);
+      cut-anyhow = cut-anyhow;
+      beside-itself = merged-beside;
+      left-alone = merged-left;
+      shorter = λ ss. merged-shorter (numbersIn ss);
+    }

@@ -2,9 +2,11 @@ pub mod Walking
 pub mod CleanWalks
 pub mod Positions
 pub mod Meanings
+pub mod Runs
 pub mod MergedPaths
 pub mod Scanning
 pub mod Grounding
 pub mod Storing
 pub mod Contents
+pub mod Cuts
 pub mod Laws

@@ -1,18 +1,18 @@
 -- What a merged path is. Assumes nothing.
 use Prim.Native.Nat.{ℕ, zero, suc, _+_, _<_}
-use mathlib.Core.Path.{_≡_, refl, sym}
+use mathlib.Core.Path.{_≡_, refl, sym, _∙_, ap}
 use mathlib.Core.Bool.{Bool, true, false, cond}
-use mathlib.Core.List.{List, [], _∷_, _++_, map}
+use mathlib.Core.List.{List, [], _∷_, _++_, map, append-assoc}
 use native.Mathlib.Omega.{arith}
 use native.Mathlib.Numerals.{add-one}
-use borrow.Author.Tests.{eqb-false}
+use borrow.Author.Tests.{eqb-false, ne-eqb}
 use lib.Dec.{eqb}
 use lib.ListN.{length, getD}
 use Rattle.as_path.specs.declared.Scan.{Scan}
 use Rattle.as_path.specs.declared.Scan.the-variants.{Clean}
-use Rattle.as_path.specs.Segments.{numberAt, numbersAt, countAt, starts, segmentAt, segments}
+use Rattle.as_path.specs.Segments.{numberAt, numbersAt, countAt, starts, Segment, segmentAt, segments}
 use Rattle.as_path.specs.Faults.{numbersFault, firstFault}
-use Rattle.as_path.specs.Merging.{runsAfter, mergeRuns, mergedPath}
+use Rattle.as_path.specs.Merging.{numbersIn, runsAfter, mergeRuns, mergedPath}
 use Rattle.as_path.proofs.Walking.{clean-test, left, first, next, none-left, one-more, whole-here}
 use Rattle.as_path.proofs.CleanWalks.{Walked, walked}
 use Rattle.as_path.proofs.CleanWalks.Walked.{done, step}
@@ -49,6 +49,12 @@ unfolding mergeRuns
 no-zero-runs none = none
 no-zero-runs (more {x} n r) = more n (no-zero-after r x)
 
+-- Where no number is 0, none repeats one that would stand before the first.
+pub none-before : {l : List ℕ} → NoZero l → mergeRuns l ≡ runsAfter 0 l
+unfolding mergeRuns runsAfter
+none-before none = refl
+none-before (more {x} n r) = rw (ne-eqb x 0 n)
+
 -- Numbers without a fault are not 0.
 pub no-zero-numbers : (w n : ℕ) (a : List ℕ) (p : ℕ) (rest : Scan) → numbersFault w n a p rest ≡ Clean → NoZero (numbersAt w n a p)
 unfolding numbersFault numbersAt
@@ -57,17 +63,23 @@ no-zero-numbers w (suc n) a p rest e =
     let t = clean-test (eqb (numberAt w a p) 0) _ _ _ e in
     more (eqb-false _ _ (t .0)) (no-zero-numbers w n a (p + w) rest (t .1))
 
--- The merged path of whole segments has no 0.
-pub no-zero-walked : {w : ℕ} {a : List ℕ} {p : ℕ} {ps : List ℕ} → Walked w a p ps → NoZero (mergedPath (map (segmentAt w a) ps))
-unfolding mergedPath
+-- The numbers of segments one after the other.
+pub numbers-append : (ss ts : List Segment) → numbersIn (ss ++ ts) ≡ numbersIn ss ++ numbersIn ts
+unfolding numbersIn
+numbers-append [] ts = refl
+numbers-append (s ∷ ss) ts = ap (λ l. s .numbers ++ l) (numbers-append ss ts) ∙ sym (append-assoc (s .numbers) (numbersIn ss) (numbersIn ts))
+
+-- Whole segments have no number 0.
+pub no-zero-walked : {w : ℕ} {a : List ℕ} {p : ℕ} {ps : List ℕ} → Walked w a p ps → NoZero (numbersIn (map (segmentAt w a) ps))
+unfolding numbersIn
 no-zero-walked (done e) = none
-no-zero-walked (step s r) = no-zero-append (no-zero-runs (no-zero-numbers _ _ _ _ _ (s .numbers))) (no-zero-walked r)
+no-zero-walked (step s r) = no-zero-append (no-zero-numbers _ _ _ _ _ (s .numbers)) (no-zero-walked r)
 
 -- The merged path of an attribute without a fault has no number 0.
 pub merged-no-zero : (w : ℕ) (a : List ℕ) → firstFault w a ≡ Clean → (i : ℕ) → i < length (mergedPath (segments w a))
     → getD (mergedPath (segments w a)) i 0 ≡ 0 → ⊥
-unfolding segments
-merged-no-zero w a e = no-zero-at (no-zero-walked (walked w a e))
+unfolding segments mergedPath
+merged-no-zero w a e = no-zero-at (no-zero-runs (no-zero-walked (walked w a e)))
 
 -- After x, the list has no two equal neighbours, nor does it begin with x.
 abbrev pub NoRuns : ℕ → List ℕ → Type 0
@@ -84,7 +96,7 @@ no-runs-after x (y ∷ l) = go (no-runs-after x l) (no-runs-after y l) (eqb y x)
     go same other false t zero h e = eqb-false y x t (sym e)
     go same other false t (suc i) h e = other i (omega arith) e
 
--- Merged runs have no two equal neighbours: in a merged path, none from within one segment.
+-- Merged runs have no two equal neighbours.
 pub merged-no-runs : (l : List ℕ) (i : ℕ) → i + 1 < length (mergeRuns l) → getD (mergeRuns l) i 0 ≡ getD (mergeRuns l) (i + 1) 0 → ⊥
 unfolding mergeRuns
 merged-no-runs [] i h e = absurd (omega arith)
@@ -103,10 +115,10 @@ segments-some w a h = rw (one-more (first w a) h)
 -- The merged path of an attribute with bytes and without a fault is not empty, and begins with the first segment's first number.
 pub merged-first : (w : ℕ) (a : List ℕ) → firstFault w a ≡ Clean → 0 < length a
     → (0 < length (mergedPath (segments w a))) × (getD (mergedPath (segments w a)) 0 0 ≡ numberAt w a 2)
-unfolding firstFault starts mergedPath mergeRuns numbersAt
+unfolding firstFault starts mergedPath numbersIn mergeRuns numbersAt
 merged-first w a e h = rw (segments-some w a h) (go (countAt a 0) (whole-here (first w a) h e .some) _)
   where
     go : (n : ℕ) → (n ≡ 0 → ⊥) → (m : List ℕ)
-        → (0 < length (mergeRuns (numbersAt w n a 2) ++ m)) × (getD (mergeRuns (numbersAt w n a 2) ++ m) 0 0 ≡ numberAt w a 2)
+        → (0 < length (mergeRuns (numbersAt w n a 2 ++ m))) × (getD (mergeRuns (numbersAt w n a 2 ++ m)) 0 0 ≡ numberAt w a 2)
     go zero s m = absurd (omega arith)
     go (suc n) s m = (omega arith, refl)

@@ -1,16 +1,19 @@
 -- What the documents say of reading an attribute, as statements. proofs/Laws.antt has the proof of each record.
 use Prim.Native.Nat.{ℕ, _+_, _*_, _≤_, _<_}
 use mathlib.Core.Path.{_≡_}
-use mathlib.Core.List.{List, [], _∷_, _++_, map}
+use mathlib.Core.List.{List, _∷_, _++_, map}
 use mathlib.Core.Logic.{_⊎_}
+use mathlib.Core.Bool.{false}
 use lib.ListN.{length, getD}
 use Rattle.types.specs.declared.Fault.{Fault}
 use Rattle.types.specs.declared.Fault.the-variants.{CutShort, UnknownType, Confederation, NoNumbers, ZeroNumber}
 use Rattle.as_path.specs.declared.Scan.{Scan}
 use Rattle.as_path.specs.declared.Scan.the-variants.{Clean, Faulty}
-use Rattle.as_path.specs.Segments.{numberAt, typeAt, countAt, endOf, starts, Segment, segments}
+use Rattle.as_path.specs.Segments.{numberBytes, numberAt, typeAt, countAt, endOf, starts, Segment, segments}
 use Rattle.as_path.specs.Faults.{firstFault}
+use Rattle.as_path.specs.Grounds.{hasSet}
 use Rattle.as_path.specs.Merging.{numbersIn, mergeRuns, mergedPath}
+use Rattle.as_path.specs.Reading.{contentOf}
 
 -- ---- the segment rules at any position
 
@@ -72,6 +75,11 @@ pub record FaultLaws : Type 0 where
 
 -- ---- the merged path
 
+-- Bytes without a fault whose segments are all sequences.
+pub record Sequences (a : List ℕ) : Type 0 where
+  pub clean : firstFault numberBytes a ≡ Clean
+  pub no-set : hasSet (segments numberBytes a) ≡ false
+
 pub record PathLaws : Type 0 where
   -- Of an attribute without a fault: no number is 0;
   pub no-zero : (w : ℕ) (a : List ℕ) → firstFault w a ≡ Clean → (i : ℕ) → i < length (mergedPath (segments w a))
@@ -79,9 +87,13 @@ pub record PathLaws : Type 0 where
   -- if it has bytes, its path has numbers, and the first is the first segment's.
   pub first-number : (w : ℕ) (a : List ℕ) → firstFault w a ≡ Clean → 0 < length a
       → (0 < length (mergedPath (segments w a))) × (getD (mergedPath (segments w a)) 0 0 ≡ numberAt w a 2)
-  -- What a segment gives has no two equal neighbours.
-  pub no-runs : (l : List ℕ) (i : ℕ) → i + 1 < length (mergeRuns l) → getD (mergeRuns l) i 0 ≡ getD (mergeRuns l) (i + 1) 0 → ⊥
-  -- The paths of segments one after the other stand one after the other: no run crosses a boundary.
-  pub append : (ss ts : List Segment) → mergedPath (ss ++ ts) ≡ mergedPath ss ++ mergedPath ts
+  -- No two neighbours are equal, wherever segments end.
+  pub no-runs : (ss : List Segment) (i : ℕ) → i + 1 < length (mergedPath ss) → getD (mergedPath ss) i 0 ≡ getD (mergedPath ss) (i + 1) 0 → ⊥
+  -- The same numbers in the same order are read as the same, however they are cut into sequences.
+  pub cut-anyhow : (role neighbour : ℕ) (a b : List ℕ) → Sequences a → Sequences b
+      → numbersIn (segments numberBytes a) ≡ numbersIn (segments numberBytes b) → contentOf role neighbour a ≡ contentOf role neighbour b
+  -- A number beside itself is dropped; numbers of which none stands beside itself stay as they are.
+  pub beside-itself : (l m : List ℕ) (x : ℕ) → mergeRuns (l ++ x ∷ x ∷ m) ≡ mergeRuns (l ++ x ∷ m)
+  pub left-alone : (l : List ℕ) → ((i : ℕ) → i + 1 < length l → getD l i 0 ≡ getD l (i + 1) 0 → ⊥) → mergeRuns l ≡ l
   -- It is never longer than the attribute's numbers.
   pub shorter : (ss : List Segment) → length (mergedPath ss) ≤ length (numbersIn ss)

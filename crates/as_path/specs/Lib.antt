@@ -5,3 +5,4 @@ pub mod Merging
 pub mod Reading
 pub mod Laws
 pub mod Helpers
+pub mod Vectors

@@ -1,4 +1,4 @@
--- The merged path ("Reading the attribute"): runs of one number are merged to one; a run does not cross a segment boundary.
+-- The merged path ("Reading the attribute"; P4): the numbers of all segments, read as one list, each run of one number merged to one.
 use Prim.Native.Nat.{ℕ}
 use mathlib.Core.List.{List, [], _∷_, _++_}
 use mathlib.Core.Bool.{cond}
@@ -19,6 +19,6 @@ unfoldable pub mergeRuns : List ℕ → List ℕ
 mergeRuns [] = []
 mergeRuns (x ∷ l) = x ∷ runsAfter x l
 
+-- A run goes on over a segment's end.
 unfoldable pub mergedPath : List Segment → List ℕ
-mergedPath [] = []
-mergedPath (s ∷ ss) = mergeRuns (s .numbers) ++ mergedPath ss
+mergedPath ss = mergeRuns (numbersIn ss)

@@ -12,9 +12,9 @@ ghost use Rattle.as_path.specs.declared.Scan.the-variants.{Clean};
 ghost use Rattle.as_path.specs.Segments.{numberBytes, numberAt, bodyNumbers, segmentAt, segments};
 ghost use Rattle.as_path.specs.Faults.{firstFault};
 ghost use Rattle.as_path.specs.Grounds.{hasSet, groundOf, isNotNeighbour};
-ghost use Rattle.as_path.specs.Merging.{mergeRuns, mergedPath};
+ghost use Rattle.as_path.specs.Merging.{runsAfter, mergedPath};
 ghost use Rattle.as_path.specs.Reading.{contentOf, readingOf, bufferAfter};
-ghost use Rattle.as_path.specs.Helpers.{Stored};
+ghost use Rattle.as_path.specs.Helpers.{Stored, lastAfter};
 
 // The most numbers of a merged path.
 pub const MOST_NUMBERS: usize = 64;
@@ -166,16 +166,22 @@ fn put(path: &mut [u32], i: usize, x: u32)
     }
 }
 
-// Stores a segment's numbers from index n on, each run as one number; answers the index after them.
-fn merge_segment(body: &[u8], path: &mut [u32], n: usize) -> usize
-    requires { ⌜ (numberBytes ≤ length (now body)) × (n + length (now body) < 2 ^ 64) ⌝ }
-    ensures { λ r. ⌜ Stored (now (path .entry)) n (mergeRuns (bodyNumbers (now (body .entry)))) (now (path .exit)) r ⌝ }
+// The merged path so far: the index after it, and its last number. Before the first number that is 0, which no number is.
+struct End {
+    to: usize,
+    last: u32,
+}
+
+// Stores a segment's numbers after the path so far, each run as one number; answers the path's new end.
+fn merge_segment(body: &[u8], path: &mut [u32], end: End) -> End
+    requires { ⌜ end .to + length (now body) < 2 ^ 64 ⌝ }
+    ensures { λ r. ⌜ Stored (now (path .entry)) (end .to) (runsAfter (end .last) (bodyNumbers (now (body .entry)))) (now (path .exit)) (r .to)
+        × (r .last ≡ lastAfter (end .last) (bodyNumbers (now (body .entry)))) ⌝ }
 {
     let count = body.len() / NUMBER_BYTES;
-    let mut last = number_at(body, 0);
-    put(path, n, last);
-    let mut to = n + 1;
-    let mut k: usize = 1;
+    let mut to = end.to;
+    let mut last = end.last;
+    let mut k: usize = 0;
     while k < count {
         let x = number_at(body, k);
         k += 1;
@@ -185,24 +191,24 @@ fn merge_segment(body: &[u8], path: &mut [u32], n: usize) -> usize
             last = x;
         }
     }
-    to
+    End { to, last }
 }
 
-// Stores the merged path; answers how many numbers it has.
+// Stores the merged path; answers how many numbers it has. A run goes on over a segment's end.
 fn merge(attr: &[u8], path: &mut [u32]) -> usize
     requires { ⌜ firstFault numberBytes (now attr) ≡ Clean ⌝ }
     ensures { λ r. ⌜ Stored (now (path .entry)) 0 (mergedPath (segments numberBytes (now (attr .entry)))) (now (path .exit)) r ⌝ }
 {
-    let mut n: usize = 0;
+    let mut end = End { to: 0, last: 0 };
     let mut at: usize = 0;
     while at < attr.len() {
         let from = at + 2;
         let count = size(attr[at + 1]);
         let to = from + NUMBER_BYTES * count;
-        n = merge_segment(&attr[from..to], path, n);
+        end = merge_segment(&attr[from..to], path, end);
         at = to;
     }
-    n
+    end.to
 }
 
 // Reads an attribute. Of a merged path the buffer takes as much as it holds.

@@ -12,10 +12,8 @@ use Rattle.types.specs.declared.Refusal.{Refusal}
 use Rattle.types.specs.declared.Judged.the-variants.{Answered}
 use Rattle.types.specs.declared.Rejudged.{Rejudged}
 use Rattle.types.specs.declared.Rejudged.the-variants as rejudged
-use Rattle.types.specs.Numbers.{verdictNumber, verdictGround, placeA, placeB, verdictOf}
 use Rattle.types.specs.Rows.{firstGiven, Effect, unlessRefused}
-use Rattle.as_path.specs.Reading.{contentOf}
-use Rattle.ledger.specs.Routes.{Route, routesOf, ledgerOf, routeAt, routesOk}
+use Rattle.ledger.specs.Routes.{Route, routesOf, ledgerOf, routeAt, routeOk, routesOk}
 use Rattle.ledger.specs.Calls.{findRoute, putRoute, differs, countDiffering}
 use Rattle.ledger.proofs.Entries.{routes-of-words}
 use Rattle.ledger.proofs.Holding.{has-room, room-routes, room-paths, routes-ok}
@@ -26,10 +24,11 @@ use Rattle.rejudge.specs.Rejudging.{rejudgedRoute, countBelow}
 use Rattle.rejudge.proofs.Rejudgements.{rejudged-ok, ground-stays, all-once}
 use Rattle.rejudge.proofs.Differences.{changed-is, second-none}
 use Rattle.rules.specs.Judging.{refusalIn}
-use Rattle.filter.specs.Calls.{Keeping, hopIn, pathIn, judgeAnswer, keptAnswer, keptRoute, keepRows, keepEffect, rejudgeRows, rejudgeEffect}
+use Rattle.filter.specs.Calls.{Keeping, hopIn, judgeAnswer, keptAnswer, keptRoute, keepRows, keepEffect, rejudgeRows, rejudgeEffect}
 use Rattle.filter.specs.Laws.{KeptWith}
 use Rattle.filter.proofs.Judgings.{judge-answers}
 use Rattle.filter.proofs.Refusals.{keep-reads}
+use Rattle.filter.proofs.KeptRoutes.{kept-ok}
 use Rattle.filter.proofs.Tables.{Accepted, accepted, kept-routes-ok, passed-tables, rejudge-accepts, rejudge-preserves}
 
 -- Routes that keep the rules are read back from their words.
@@ -84,6 +83,10 @@ module _ (reg led : List ℕ) (k : Keeping) {answer : Answer} (h : keepEffect re
         b-is = refl;
         path-is = refl;
       })
+
+  -- It keeps the rules.
+  pub keep-rules : routeOk (keptRoute reg k) ≡ true
+  keep-rules = kept-ok reg k (keep-accepted .argued)
 
 -- ---- Re-judge
 

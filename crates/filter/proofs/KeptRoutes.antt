@@ -1,11 +1,12 @@
 -- The route that Keep stores keeps the rules of a route. Assumes nothing.
-use Prim.Native.Nat.{ℕ, suc, _≤_, _<_}
+use Prim.Native.Nat.{ℕ, _≤_, _<_}
 use mathlib.Core.Path.{_≡_, refl, sym, ap, _∙_}
-use mathlib.Core.Bool.{Bool, true, false, not, cond, _&&_, _||_}
-use mathlib.Core.List.{List, [], _∷_}
+use mathlib.Core.Bool.{Bool, true, false, not, cond, _&&_}
+use mathlib.Core.List.{List, []}
 use mathlib.Core.Option.{none}
+use mathlib.Core.Logic.{_⊎_, inl, inr}
 use native.Mathlib.Omega.{arith}
-use borrow.Author.Tests.{le-leb, ltb-true, ltb-false, eqb-false, eq-eqb, ne-eqb}
+use borrow.Author.Tests.{ltb-true, ltb-false, eqb-true, eqb-false, eq-eqb}
 use lib.Dec.{eqb, leb, ltb}
 use lib.IntN.{pos}
 use lib.Signed.{leZ}
@@ -17,6 +18,7 @@ use Rattle.types.specs.declared.Verdict.{Verdict}
 use Rattle.types.specs.declared.Verdict.the-variants.{Valid, Invalid, Unknown}
 use Rattle.types.specs.declared.Answer.the-variants.{Plain, WithGap}
 use Rattle.types.specs.Numbers.{groundNumber, verdictNumber, verdictGround, placeA, placeB, verdictOf}
+use Rattle.types.proofs.Clashes.{clash}
 use Rattle.types.specs.Roles.{isRole, isRouteServer, isUpstream}
 use Rattle.types.specs.Rows.{firstGiven}
 use Rattle.as_path.specs.declared.Scan.{Scan}
@@ -29,25 +31,21 @@ use Rattle.as_path.specs.Grounds.{isSequence, isNotNeighbour, hasSet, groundOf}
 use Rattle.as_path.specs.Merging.{mergedPath}
 use Rattle.as_path.specs.Reading.{mostNumbers, grounded, merged, afterGround, afterScan, contentOf}
 use Rattle.as_path.proofs.MergedPaths.{segments-some, merged-no-zero, merged-first}
+use Rattle.as_path.proofs.Laws.{path-laws}
 use Rattle.as_path.proofs.Grounding.{first-whole, first-number, ground-empty, ground-is}
-use Rattle.keyed.proofs.Orders.{both-intro, above-zero}
+use Rattle.keyed.proofs.Orders.{above-zero}
 use Rattle.keyed.proofs.Puts.{neither-left}
 use Rattle.rules.specs.Hops.{HopFunction}
 use Rattle.rules.specs.Verdicts.{lowestNotPlus, lowestUnattested, highestNotPlus, rampUp, rampDown, gapOf, upstream, downstream, judged}
 use Rattle.rules.specs.Judging.{judgeRows}
 use Rattle.rules.proofs.Judges.{Judgement, on-ground, on-path, judgement, judged-arguments}
-use Rattle.ledger.specs.Routes.{noZero, pathOk, groundOk, routeOk}
+use Rattle.ledger.specs.Routes.{pathOk, groundOk, routeOk}
 use Rattle.ledger.specs.Calls.{routeFor, stamped}
+use Rattle.ledger.proofs.Laws.{route-laws}
 use Rattle.rejudge.proofs.Rejudgements.{still-ok}
 use Rattle.filter.specs.Calls.{Keeping, hopIn, keptRoute}
 
 -- ---- what an attribute is read as
-
--- A list of which no element is 0.
-no-zeros : (l : List ℕ) → ((i : ℕ) → i < length l → getD l i 0 ≡ 0 → ⊥) → noZero l ≡ true
-unfolding noZero
-no-zeros [] h = refl
-no-zeros (x ∷ l) h = rw (ne-eqb x 0 (h 0 (omega arith))) (no-zeros l (λ i g. h (suc i) (omega arith)))
 
 module _ (role neighbour : ℕ) (attribute : List ℕ) where
   -- A route server's first number is not compared with the neighbour.
@@ -60,13 +58,14 @@ module _ (role neighbour : ℕ) (attribute : List ℕ) where
 
   -- A first sequence that passes the check begins with the neighbour, unless it is a route server's.
   begins : (s : Segment) → isSequence s ≡ true → isNotNeighbour role neighbour s ≡ false
-      → (isRouteServer role || eqb (getD (s .numbers) 0 0) neighbour) ≡ true
-  begins s q h = go (isRouteServer role) (eqb (getD (s .numbers) 0 0) neighbour) (rw q at h)
+      → (isRouteServer role ≡ true) ⊎ (getD (s .numbers) 0 0 ≡ neighbour)
+  begins s q h = go (isRouteServer role) refl (eqb (getD (s .numbers) 0 0) neighbour) refl (rw q at h)
     where
-      go : (b c : Bool) → (true && not b && not c) ≡ false → (b || c) ≡ true
-      go true c h = refl
-      go false true h = refl
-      go false false h = sym h
+      go : (b : Bool) → isRouteServer role ≡ b → (c : Bool) → eqb (getD (s .numbers) 0 0) neighbour ≡ c → (true && not b && not c) ≡ false
+          → (isRouteServer role ≡ true) ⊎ (getD (s .numbers) 0 0 ≡ neighbour)
+      go true p c q h = inl p
+      go false p true q h = inr (eqb-true _ _ q)
+      go false p false q h = clash (cc)
 
   -- Without a ground there are bytes, the first segment is a sequence, and it passes the check.
   record Ungrounded : Type 0 where
@@ -108,7 +107,7 @@ module _ (role neighbour : ℕ) (attribute : List ℕ) where
 
   -- A merged path keeps the rules of a path.
   pub path-ok : (path : List ℕ) → contentOf role neighbour attribute ≡ merged path → length path ≤ mostNumbers → pathOk role neighbour path ≡ true
-  unfolding contentOf pathOk
+  unfolding contentOf
   path-ok path e short = go (firstFault numberBytes attribute) refl (groundOf role neighbour (segments numberBytes attribute)) refl e
     where
       go : (s : Scan) → firstFault numberBytes attribute ≡ s → (g : Grounded) → groundOf role neighbour (segments numberBytes attribute) ≡ g
@@ -121,10 +120,15 @@ module _ (role neighbour : ℕ) (attribute : List ℕ) where
           let w = first-whole 4 attribute c (u .bytes) in
           let first = rw same at (merged-first 4 attribute c (u .bytes)) in
           let number : getD (segmentAt 4 attribute 0 .numbers) 0 0 ≡ numberAt 4 attribute 2 = first-number 4 (countAt attribute 0) attribute 2 (w .some) in
-          both-intro _ _ (le-leb 1 (length path) (first .0))
-          (both-intro _ _ (le-leb (length path) mostNumbers short)
-          (both-intro _ _ (no-zeros path (rw same at (merged-no-zero 4 attribute c)))
-          (rw (first .1, ← number) (begins (segmentAt 4 attribute 0) (u .sequence) (u .passes)))))
+          let runs = rw same at (path-laws .no-runs (segments 4 attribute)) in
+          route-laws .path-rules role neighbour path .1
+          (record {
+            some = first .0;
+            few = short;
+            no-zero = rw same at (merged-no-zero 4 attribute c);
+            no-runs = runs;
+            first = rw (first .1, ← number) (begins (segmentAt 4 attribute 0) (u .sequence) (u .passes));
+          })
 
   -- Ground 2 is never given with role 4.
   pub ground-role : (g : Ground) → contentOf role neighbour attribute ≡ grounded g → not (eqb (groundNumber g) 2 && isRouteServer role) ≡ true

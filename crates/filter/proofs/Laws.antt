@@ -1,7 +1,9 @@
 -- Keep, Drop and Re-judge do what is said of them. Assumes nothing.
 use Rattle.ledger.proofs.Changes.{drops-own, drops-no-other, drops-one}
+use Rattle.ledger.proofs.Laws.{rules-apart}
+use Rattle.filter.specs.Calls.{keptRoute}
 use Rattle.filter.specs.Laws.{CallLaws}
-use Rattle.filter.proofs.Answers.{keep-answers, keep-stores, keep-holds, rejudge-rewrites, rejudge-count, rejudge-twice}
+use Rattle.filter.proofs.Answers.{keep-answers, keep-stores, keep-holds, keep-rules, rejudge-rewrites, rejudge-count, rejudge-twice}
 
 pub call-laws : CallLaws
 call-laws =
@@ -9,6 +11,8 @@ call-laws =
       keep-answers = λ reg led k a h. keep-answers reg led k h;
       keep-stores = λ reg led k a h. keep-stores reg led k h;
       keep-holds = λ reg led k a h. keep-holds reg led k h;
+      keep-rules = λ reg led k a h. keep-rules reg led k h;
+      keep-apart = λ reg led k a h. rules-apart (keptRoute reg k) (keep-rules reg led k h);
       drops-own = drops-own;
       drops-no-other = drops-no-other;
       drops-one = drops-one;

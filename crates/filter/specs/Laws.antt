@@ -13,7 +13,7 @@ use Rattle.types.specs.Numbers.{verdictNumber, verdictGround, placeA, placeB, v
 use Rattle.types.specs.Rows.{effect}
 use Rattle.as_path.specs.Reading.{contentOf}
 use Rattle.register.specs.Register.{registerWords, registerOk}
-use Rattle.ledger.specs.Routes.{ledgerWords, Route, routesOf, routeAt, routesOk, ledgerOk}
+use Rattle.ledger.specs.Routes.{ledgerWords, Route, routesOf, routeAt, noRuns, routeOk, routesOk, ledgerOk}
 use Rattle.ledger.specs.Calls.{findRoute, holdsRoute, eraseRoute, differs}
 use Rattle.rejudge.specs.Rejudging.{rejudgedRoute, countBelow}
 use Rattle.filter.specs.Calls.{Keeping, hopIn, pathIn, judgeAnswer, keptRoute, keepEffect, rejudgeEffect}
@@ -45,6 +45,9 @@ pub record CallLaws : Type 0 where
       → findRoute number (routesOf (keepEffect reg led k .words))
       ≡ cond (eqb number (k .number)) (some (keptRoute reg k)) (findRoute number (routesOf led))
   pub keep-holds : (reg led : List ℕ) (k : Keeping) (a : Answer) → keepEffect reg led k .answer ≡ Answered a → KeptWith a k (keptRoute reg k)
+  -- That route keeps the rules of a route, and no two equal numbers stand side by side on its path.
+  pub keep-rules : (reg led : List ℕ) (k : Keeping) (a : Answer) → keepEffect reg led k .answer ≡ Answered a → routeOk (keptRoute reg k) ≡ true
+  pub keep-apart : (reg led : List ℕ) (k : Keeping) (a : Answer) → keepEffect reg led k .answer ≡ Answered a → noRuns (keptRoute reg k .path) ≡ true
   -- Of a ledger's routes a drop takes out its own and no other.
   pub drops-own : (number : ℕ) (rs : List Route) → findRoute number (eraseRoute number rs) ≡ none
   pub drops-no-other : (number : ℕ) (rs : List Route) (k : ℕ) → (number ≡ k → ⊥) → findRoute k (eraseRoute number rs) ≡ findRoute k rs

@@ -1,4 +1,4 @@
--- The test vectors A to L of the rules again, now of Judge over the words that the six filings of register D leave. By computation.
+-- The test vectors A to L and O of the rules again, now of Judge over the words that the six filings of register D leave. By computation.
 use Prim.Native.Nat.{ℕ, _-_}
 use mathlib.Core.Path.{_≡_, refl, _∙_, ap}
 use mathlib.Core.List.{List, [], _∷_, _++_, map}
@@ -9,7 +9,7 @@ use Rattle.types.specs.Rows.{firstGiven}
 use Rattle.rules.specs.Records.{hopOf}
 use Rattle.rules.specs.Judging.{unlessGiven, judgedRoute}
 use Rattle.rules.specs.Vectors as rules
-use Rattle.rules.specs.Vectors.{registerD, sequence, Vector, vectors, wanted}
+use Rattle.rules.specs.Vectors.{registerD, sequence, Vector, vectors, wanted, sequences, CutVector, cutVectors, wantedCut}
 use Rattle.table.specs.Table.{slots, bodies, pad, encode, decodeSlots, decode, slotsOk, allZero, wellFormed}
 use Rattle.keyed.specs.Keyed.{ascendsFrom, ascends, holds, put, every}
 use Rattle.rules.specs.Records.{isIn}
@@ -106,21 +106,32 @@ records-d : recordsOf packedD ≡ registerD
 unfolding recordsOf decodeSlots decode
 records-d = refl
 
+-- Over them Judge answers as the definitions do over register D.
+over-d : (role neighbour : ℕ) (attribute : List ℕ) → judgeAnswer wordsD role neighbour attribute ≡ judgedRoute (hopOf registerD) role neighbour attribute
+unfolding judgeAnswer
+over-d role neighbour attribute =
+    ap (λ ws. judgeAnswer ws role neighbour attribute) whole-register
+    ∙ (λ i. unlessGiven (passed i) (judgedRoute (hopOf (records-d i)) role neighbour attribute))
+
 -- What Judge answers to a vector.
 abbrev pub given : Vector → Judged
 given v = judgeAnswer wordsD (v .role) (v .neighbour) (sequence (v .path))
 
--- Over them Judge answers as the definitions do over register D.
-over-d : (v : Vector) → given v ≡ rules.given v
-unfolding judgeAnswer
-over-d v =
-    ap (λ ws. judgeAnswer ws (v .role) (v .neighbour) (sequence (v .path))) whole-register
-    ∙ (λ i. unlessGiven (passed i) (judgedRoute (hopOf (records-d i)) (v .role) (v .neighbour) (sequence (v .path))))
-
 all-over-d : (vs : List Vector) → map given vs ≡ map rules.given vs
 all-over-d [] = refl
-all-over-d (v ∷ vs) = λ i. over-d v i ∷ all-over-d vs i
+all-over-d (v ∷ vs) = λ i. over-d (v .role) (v .neighbour) (sequence (v .path)) i ∷ all-over-d vs i
 
 -- Judge answers every vector over them as the rules want.
 pub starred : map given vectors ≡ map wanted vectors
 starred = all-over-d vectors ∙ rules.starred
+
+-- And those with runs over a segment's end, vector O among them.
+abbrev pub givenCut : CutVector → Judged
+givenCut v = judgeAnswer wordsD (v .role) (v .neighbour) (sequences (v .paths))
+
+all-cut-over-d : (vs : List CutVector) → map givenCut vs ≡ map rules.givenCut vs
+all-cut-over-d [] = refl
+all-cut-over-d (v ∷ vs) = λ i. over-d (v .role) (v .neighbour) (sequences (v .paths)) i ∷ all-cut-over-d vs i
+
+pub starred-cut : map givenCut cutVectors ≡ map wantedCut cutVectors
+starred-cut = all-cut-over-d cutVectors ∙ rules.starred-cut

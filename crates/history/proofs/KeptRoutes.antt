@@ -17,8 +17,8 @@ use Rattle.rules.specs.Judging.{judgeRows}
 use Rattle.rules.proofs.Judges.{Judgement, on-ground, on-path, judgement}
 use Rattle.ledger.specs.Routes.{Route, groundOk, routeOk}
 use Rattle.ledger.specs.Calls.{stamped}
+use Rattle.ledger.proofs.Holding.{rules-by-ground}
 use Rattle.rejudge.specs.Rejudging.{rejudgedRoute}
-use Rattle.rejudge.proofs.Rejudgements.{by-ground}
 use Rattle.filter.specs.Calls.{Keeping, keptRoute, hopIn}
 use Rattle.filter.proofs.KeptRoutes.{judged-ground}
 use Rattle.history.specs.Calls.{routeRead, known}
@@ -30,7 +30,7 @@ use Rattle.history.specs.Model.{withVerdict, withWords, judgedKept}
 pub on-a-ground : (r : Route) → routeOk r ≡ true → eqb (r .ground) 0 ≡ false → (r .verdict ≡ 1) × (r .a ≡ 0) × (r .b ≡ 0)
 unfolding groundOk
 on-a-ground r e g =
-    let h : groundOk r ≡ true = rw g at (by-ground r e) in
+    let h : groundOk r ≡ true = rw g at (rules-by-ground r e) in
     let h₁ = both-right (eqb (length (r .path)) 0) _ h in
     let h₂ = both-right (eqb (r .verdict) 1) _ h₁ in
     let h₃ = both-right (eqb (r .a) 0) _ h₂ in

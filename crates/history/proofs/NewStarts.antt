@@ -11,7 +11,7 @@ use Rattle.rules.specs.Verdicts.{judged, upstream}
 use Rattle.rules.specs.Records.{isIn, attested, united, hopOf}
 use Rattle.register.specs.Register.{recordsOf, listed, recordsOk, registerOk}
 use Rattle.register.specs.Register as register
-use Rattle.ledger.specs.Routes.{routesOf, ledgerOf, pathWords, noZero, pathOk, groundOk, routeOk, routesOk, ledgerOk}
+use Rattle.ledger.specs.Routes.{routesOf, ledgerOf, pathWords, noZero, noRepeat, noRuns, pathOk, groundOk, routeOk, routesOk, ledgerOk}
 use Rattle.ledger.specs.Routes as ledger
 use Rattle.ledger.specs.Calls.{countDiffering}
 use Rattle.snapshot.specs.Snapshot.{bytesOf, wordsIn, field, lengthOk, contentsOk, registerIn, ledgerIn}
@@ -34,7 +34,7 @@ mended :
     × (routesOf (yielded stale blank .ledger) ≡ routeWith 0 0 ∷ [])
     × (says (yielded stale blank) rejudge ≡ rejudged (Changed 1))
     × (routesOf (leaves (yielded stale blank) rejudge .ledger) ≡ routeWith 2 2 ∷ [])
-unfolding blank readEffect firstGiven bytesOf field wordsIn contentsOk lengthOk registerIn ledgerIn pad decodeSlots decode slotsOk allZero wellFormed every ascends ascendsFrom bodies recordsOf listed recordsOk register.roomFor registerOk routesOf pathWords noZero pathOk groundOk routeOk routesOk ledger.roomFor ledgerOk rejudgeEffect countDiffering judged upstream hopOf attested united isIn lowest highest climb descend ledgerOf encode slots
+unfolding blank readEffect firstGiven bytesOf field wordsIn contentsOk lengthOk registerIn ledgerIn pad decodeSlots decode slotsOk allZero wellFormed every ascends ascendsFrom bodies recordsOf listed recordsOk register.roomFor registerOk routesOf pathWords noZero noRepeat noRuns pathOk groundOk routeOk routesOk ledger.roomFor ledgerOk rejudgeEffect countDiffering judged upstream hopOf attested united isIn lowest highest climb descend ledgerOf encode slots
 mended = (refl, refl, refl, refl)
 
 pub new-starts : NewStarts

@@ -1,18 +1,19 @@
 -- What a well-formed ledger shows. Assumes nothing.
 use Prim.Native.Nat.{ℕ, _≤_}
 use mathlib.Core.Path.{_≡_}
-use mathlib.Core.Bool.{true}
+use mathlib.Core.Bool.{true, cond}
 use mathlib.Core.List.{List}
 use lib.Dec.{leb, eqb, ltb}
 use borrow.Author.Tests.{leb-true}
 use lib.ListN.{length}
 use Rattle.types.specs.Roles.{isRole}
+use Rattle.as_path.specs.Reading.{mostNumbers}
 use Rattle.table.specs.Table.{Sound, wellFormed}
 use Rattle.table.proofs.Exact.{passes-sound}
 use Rattle.keyed.specs.Keyed.{ascends, every}
 use Rattle.keyed.proofs.Orders.{both-left, both-right, both-intro}
 use Rattle.ledger.specs.Routes.{routeHead, routeTail}
-use Rattle.ledger.specs.Routes.{mostRoutes, mostPathWords, Route, routesOf, ledgerOf, keyOf, pathWords, routeOk, roomFor, routesOk, ledgerOk}
+use Rattle.ledger.specs.Routes.{mostRoutes, mostPathWords, Route, routesOf, ledgerOf, keyOf, pathWords, pathOk, groundOk, routeOk, roomFor, routesOk, ledgerOk}
 use Rattle.ledger.proofs.Entries.{routes-of-words, words-formed}
 
 module _ (rs : List Route) where
@@ -69,3 +70,13 @@ module _ (ws : List ℕ) (e : ledgerOk ws ≡ true) where
 pub has-role : (r : Route) → routeOk r ≡ true → isRole (r .role) ≡ true
 unfolding routeOk
 has-role r e = both-left (isRole (r .role)) _ e
+
+-- What the rules ask of a route by its ground.
+pub rules-by-ground : (r : Route) → routeOk r ≡ true → cond (eqb (r .ground) 0) (pathOk (r .role) (r .neighbour) (r .path)) (groundOk r) ≡ true
+unfolding routeOk
+rules-by-ground r e =
+    both-right (leb (r .b) mostNumbers) _
+    (both-right (leb (r .a) mostNumbers) _
+    (both-right (leb (r .verdict) 2) _
+    (both-right (leb (r .ground) 3) _
+    (both-right (leb 1 (r .neighbour)) _ (both-right (isRole (r .role)) _ e)))))

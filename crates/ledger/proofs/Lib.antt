@@ -9,3 +9,4 @@ pub mod Changes
 pub mod Refusals
 pub mod Stamping
 pub mod Accessing
+pub mod Laws

@@ -124,10 +124,22 @@ unfoldable pub noZero : List ℕ → Bool
 noZero [] = true
 noZero (x ∷ l) = not (eqb x 0) && noZero l
 
--- A path: as long as a path may be, no number 0, the first one the neighbour unless the role is 4.
+-- No number equals the one before it; before the first stands x.
+unfoldable pub noRepeat : ℕ → List ℕ → Bool
+noRepeat x [] = true
+noRepeat x (y ∷ l) = not (eqb y x) && noRepeat y l
+
+-- No two neighbours are equal (P4).
+unfoldable pub noRuns : List ℕ → Bool
+noRuns [] = true
+noRuns (x ∷ l) = noRepeat x l
+
+-- A path: as long as a path may be, no number 0, no two equal side by side, the first one the neighbour unless the role is 4.
 unfoldable pub pathOk : ℕ → ℕ → List ℕ → Bool
 pathOk role neighbour path =
-    leb 1 (length path) && (leb (length path) mostNumbers && (noZero path && (isRouteServer role || eqb (getD path 0 0) neighbour)))
+    leb 1 (length path)
+    && (leb (length path) mostNumbers
+    && (noZero path && (noRuns path && (isRouteServer role || eqb (getD path 0 0) neighbour))))
 
 -- With a ground: no path, Invalid, no places, and ground 2 never with role 4.
 unfoldable pub groundOk : Route → Bool

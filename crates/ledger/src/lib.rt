@@ -18,7 +18,7 @@ ghost use Rattle.keyed.specs.Keyed.{ascends, every};
 ghost use Rattle.types.specs.Numbers.{roleNumber};
 ghost use Rattle.types.specs.Rows.{effect};
 ghost use Rattle.ledger.specs.Routes.{ledgerWords, mostRoutes, routeHead, routeTail, routesOf, routeAt, keyOf, positionOf, pathWords};
-ghost use Rattle.ledger.specs.Routes.{noZero, pathOk, routeOk, isBehind, ledgerOk};
+ghost use Rattle.ledger.specs.Routes.{noZero, noRuns, pathOk, routeOk, isBehind, ledgerOk};
 ghost use Rattle.ledger.specs.Calls.{holdsRoute, routeFor, storeEffect, dropEffect, stamped, changeEffect};
 ghost use Rattle.ledger.specs.Helpers.{PathFrom, RouteIn, mostSteps};
 
@@ -76,6 +76,23 @@ fn has_no_zero(path: &[u32]) -> bool
     none
 }
 
+// No two neighbours are equal. No early exit, as above.
+fn has_no_runs(path: &[u32]) -> bool
+    ensures { λ r. ⌜ r ≡ noRuns (now (path .entry)) ⌝ }
+{
+    let mut none = true;
+    let mut i: usize = 1;
+    while i < path.len() {
+        let x = path[i];
+        let before = path[i - 1];
+        i += 1;
+        if x == before {
+            none = false;
+        }
+    }
+    none
+}
+
 // A path of a route without a ground.
 fn is_path(role: u32, neighbour: AsNumber, path: &[u32]) -> bool
     ensures { λ r. ⌜ r ≡ pathOk role (neighbour .0) (now (path .entry)) ⌝ }
@@ -87,6 +104,9 @@ fn is_path(role: u32, neighbour: AsNumber, path: &[u32]) -> bool
         return false;
     }
     if !has_no_zero(path) {
+        return false;
+    }
+    if !has_no_runs(path) {
         return false;
     }
     let server = Role::RouteServer.number();

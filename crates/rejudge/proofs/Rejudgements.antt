@@ -19,9 +19,9 @@ use Rattle.rules.specs.Hops.{HopFunction}
 use Rattle.rules.specs.Verdicts.{judged}
 use Rattle.rules.specs.Laws.{Within}
 use Rattle.rules.proofs.Orders.{places-within}
-use Rattle.ledger.specs.Routes.{Route, entryOf, keyOf, pathWords, pathOk, groundOk, routeOk, roomFor, routesOk}
+use Rattle.ledger.specs.Routes.{Route, entryOf, keyOf, pathWords, pathOk, routeOk, roomFor, routesOk}
 use Rattle.ledger.specs.Calls.{stamped, differs}
-use Rattle.ledger.proofs.Holding.{has-room, each-ok, in-order, has-role}
+use Rattle.ledger.proofs.Holding.{has-room, each-ok, in-order, has-role, rules-by-ground}
 use Rattle.ledger.proofs.Paths.{path-some, path-few}
 use Rattle.rejudge.specs.Rejudging.{rejudgedRoute}
 
@@ -41,20 +41,10 @@ module _ (hop : HopFunction) (r : Route) where
   gets-verdict e = rw (eq-eqb (r .ground) 0 e)
 
 module _ (r : Route) (e : routeOk r ≡ true) where
-  -- What the rules ask of it by its ground.
-  pub by-ground : cond (eqb (r .ground) 0) (pathOk (r .role) (r .neighbour) (r .path)) (groundOk r) ≡ true
-  unfolding routeOk
-  by-ground =
-      both-right (leb (r .b) mostNumbers) _
-      (both-right (leb (r .a) mostNumbers) _
-      (both-right (leb (r .verdict) 2) _
-      (both-right (leb (r .ground) 3) _
-      (both-right (leb 1 (r .neighbour)) _ (both-right (isRole (r .role)) _ e)))))
-
   module _ (g : r .ground ≡ 0) where
     -- Without a ground its path keeps the rules.
     pub path-fine : pathOk (r .role) (r .neighbour) (r .path) ≡ true
-    path-fine = rw (eq-eqb (r .ground) 0 g) at by-ground
+    path-fine = rw (eq-eqb (r .ground) 0 g) at (rules-by-ground r e)
 
     -- It has a number.
     pub some-numbers : 1 ≤ length (r .path)

@@ -1,6 +1,6 @@
 -- The draft's procedure gives the answer of the rules: verdict, places, gap and ground. Assumes nothing.
 use Prim.Native.Nat.{ℕ, zero, suc, _+_, _-_, _≤_, _<_}
-use mathlib.Core.Path.{_≡_, refl, sym, _∙_}
+use mathlib.Core.Path.{_≡_, refl, sym, _∙_, ap}
 use mathlib.Core.List.{List, [], _∷_}
 use mathlib.Core.Bool.{Bool, true, false, cond, _&&_}
 use native.Mathlib.Omega.{arith}
@@ -15,13 +15,13 @@ use Rattle.as_path.specs.declared.Grounded.{Grounded}
 use Rattle.as_path.specs.declared.Grounded.the-variants.{By, Not}
 use Rattle.as_path.specs.Segments.{numberBytes, Segment, segments}
 use Rattle.as_path.specs.Grounds.{isNotNeighbour, hasSet, groundOf}
-use Rattle.as_path.specs.Merging.{mergedPath}
+use Rattle.as_path.specs.Merging.{numbersIn, runsAfter, mergeRuns, mergedPath}
 use Rattle.as_path.proofs.Contents.{merged-means, content-ground}
 use Rattle.as_path.proofs.MergedPaths.{merged-first}
 use Rattle.rules.specs.Hops.{HopFunction, isPlus, isNotPlus, isUnattested, up, lowest}
 use Rattle.rules.specs.Verdicts.{rampUp, rampDown, gapOf, upstream, downstream, judged}
 use Rattle.rules.specs.Judging.{judgedRoute}
-use Rattle.rules.specs.Draft.{some, each, largestK, smallestL, draftGap, draftUpstream, draftDownstream, draftJudged, onGround, draftRoute}
+use Rattle.rules.specs.Draft.{some, each, largestK, smallestL, draftGap, draftUpstream, draftDownstream, draftJudged, onGround, collapsed, draftRoute}
 use Rattle.rules.specs.Laws.{RampUp, RampDown}
 use Rattle.rules.proofs.Searching.{lowest-is, highest-is, lowest-only, highest-only}
 use Rattle.rules.proofs.Ramps.{ramp-up-is, ramp-down-is}
@@ -137,6 +137,22 @@ pub draft-judged : (hop : HopFunction) (path : List ℕ) (role : ℕ) → 1 ≤ 
 unfolding judged draftJudged
 draft-judged hop path role one = rw (draft-upstream hop path one, draft-downstream hop path one, draft-gap hop path one)
 
+-- The draft's collapsing is the merging of runs: after its first number,
+collapsed-after : (x : ℕ) (l : List ℕ) → collapsed (x ∷ l) ≡ x ∷ runsAfter x l
+unfolding collapsed runsAfter
+collapsed-after x [] = refl
+collapsed-after x (y ∷ l) = rw (collapsed-after y l) (go (eqb y x) refl)
+  where
+    go : (b : Bool) → eqb y x ≡ b → cond b (y ∷ runsAfter y l) (x ∷ y ∷ runsAfter y l) ≡ x ∷ cond b (runsAfter x l) (y ∷ runsAfter y l)
+    go true e = ap (λ z. z ∷ runsAfter z l) (eqb-true y x e)
+    go false e = refl
+
+-- and of a whole list.
+pub collapsed-merged : (l : List ℕ) → collapsed l ≡ mergeRuns l
+unfolding collapsed mergeRuns
+collapsed-merged [] = refl
+collapsed-merged (x ∷ l) = collapsed-after x l
+
 -- What is answered by the ground, if there is one.
 abbrev unlessGround : Grounded → Answer → Answer
 unlessGround (By g) a = onGround g
@@ -145,9 +161,9 @@ unlessGround Not a = a
 -- The draft's procedure up to step 2 goes by the grounds of the rules.
 by-ground : (hop : HopFunction) (role neighbour : ℕ) (ss : List Segment)
     → draftRoute hop role neighbour ss ≡ unlessGround (groundOf role neighbour ss) (draftJudged hop (mergedPath ss) role)
-unfolding draftRoute groundOf
+unfolding draftRoute groundOf mergedPath
 by-ground hop role neighbour [] = refl
-by-ground hop role neighbour (s ∷ ss) = go (isNotNeighbour role neighbour s) (hasSet (s ∷ ss)) _
+by-ground hop role neighbour (s ∷ ss) = rw (collapsed-merged (numbersIn (s ∷ ss))) (go (isNotNeighbour role neighbour s) (hasSet (s ∷ ss)) _)
   where
     go : (b c : Bool) (x : Answer)
         → cond b (onGround NotNeighbour) (cond c (onGround AsSet) x) ≡ unlessGround (cond b (By NotNeighbour) (cond c (By AsSet) Not)) x

@@ -5,12 +5,11 @@ use mathlib.Core.Bool.{Bool, true, false, not, cond}
 use mathlib.Core.List.{List, [], _∷_}
 use mathlib.Core.Option.{some}
 use native.Mathlib.Omega.{arith}
-use borrow.Author.Tests.{ltb-false}
+use borrow.Author.Tests.{ltb-false, le-ltb}
 use lib.Dec.{ltb, eqb}
 use lib.IntN.{ℤ, pos, _-ℤ_}
 use lib.Signed.{_≤ℤ_}
 use lib.ListN.{length}
-use Rattle.as_path.specs.Segments.{numberBytes}
 use Rattle.types.specs.declared.Ground.{Ground}
 use Rattle.types.specs.declared.Cause.the-variants.{ByGround}
 use Rattle.types.specs.declared.Verdict.the-variants.{Invalid}
@@ -19,19 +18,21 @@ use Rattle.types.specs.declared.Answer.the-variants.{Plain, WithGap}
 use Rattle.types.specs.declared.Place.the-variants.{Nowhere, Byte}
 use Rattle.types.specs.declared.Refusal.{Refusal}
 use Rattle.types.specs.declared.Refusal.the-variants.{RoleNumber, NeighbourZero, AttributeLength, Attribute, PathLength}
-use Rattle.types.specs.declared.Judged.{Judged}
 use Rattle.types.specs.declared.Judged.the-variants.{Answered, Refused}
 use Rattle.types.specs.Numbers.{verdictOf, answerGap, refusalPlace}
 use Rattle.types.specs.Roles.{isRole, isUpstream}
 use Rattle.types.specs.Rows.{rowIf, firstGiven}
 use Rattle.types.proofs.Clashes.{clash, some-not-none}
+use Rattle.as_path.specs.Segments.{numberBytes, segments}
+use Rattle.as_path.specs.Merging.{numbersIn, mergedPath}
+use Rattle.as_path.specs.Laws.{Sequences}
 use Rattle.as_path.specs.Reading.{mostNumbers, Content, faulty, grounded, merged, contentOf}
-use Rattle.as_path.proofs.Laws.{fault-laws}
+use Rattle.as_path.proofs.Laws.{fault-laws, path-laws}
 use Rattle.as_path.proofs.Contents.{merged-means, content-fault}
 use Rattle.as_path.proofs.MergedPaths.{merged-first}
 use Rattle.rules.specs.Hops.{HopFunction}
 use Rattle.rules.specs.Verdicts.{gapOf, upstream, downstream, judged}
-use Rattle.rules.specs.Judging.{mostBytes, judgeRows, answerTo, unlessGiven, judgedRoute}
+use Rattle.rules.specs.Judging.{mostBytes, answerTo, unlessGiven, judgedRoute}
 use Rattle.rules.specs.Laws.{Within, PlaceLaws, GapLaws, AnswerLaws, DraftLaws}
 use Rattle.rules.proofs.Searching.{lowest-is, highest-is, lowest-only, highest-only}
 use Rattle.rules.proofs.Ramps.{ramp-up-is, ramp-up-only, ramp-down-is, ramp-down-only}
@@ -39,7 +40,7 @@ use Rattle.rules.proofs.Gaps.{gap-low, gap-high, gap-least, gap-most}
 use Rattle.rules.proofs.Orders.{not-both, either-order, places-within}
 use Rattle.rules.proofs.Locality.{same-judged}
 use Rattle.rules.proofs.Judges.{judged-reads, Judgement, on-ground, on-path, answered}
-use Rattle.rules.proofs.Drafting.{largest-is, smallest-is, draft-upstream, draft-downstream, short-valid, draft-judged, draft-route}
+use Rattle.rules.proofs.Drafting.{collapsed-merged, largest-is, smallest-is, draft-upstream, draft-downstream, short-valid, draft-judged, draft-route}
 
 -- What holds of each route that is answered: on a ground, or by its path of at most the most numbers.
 by-answer : (P : Answer → Type 0) (hop : HopFunction) (role neighbour : ℕ) (attribute : List ℕ) (a : Answer)
@@ -170,19 +171,29 @@ refused-place : (hop : HopFunction) (role neighbour : ℕ) (attribute : List ℕ
 unfolding judgedRoute
 refused-place hop role neighbour attribute r p e at = by-rows attribute r p at hop role neighbour (not (isRole role)) (eqb neighbour 0) _ refl e
 
+-- The same numbers in the same order are answered alike.
+cut-anyhow : (hop : HopFunction) (role neighbour : ℕ) (a b : List ℕ) → Sequences a → Sequences b → length a ≤ mostBytes → length b ≤ mostBytes
+    → numbersIn (segments numberBytes a) ≡ numbersIn (segments numberBytes b) → judgedRoute hop role neighbour a ≡ judgedRoute hop role neighbour b
+unfolding judgedRoute
+cut-anyhow hop role neighbour a b s t h k e =
+    rw (le-ltb mostBytes (length a) h, le-ltb mostBytes (length b) k, path-laws .cut-anyhow role neighbour a b s t e)
+
 pub answer-laws : AnswerLaws
 answer-laws =
     record {
       same-judged = λ hop hop' path. same-judged;
       judged-reads = judged-reads;
+      cut-anyhow = cut-anyhow;
       refused-place = refused-place;
     }
 
 -- ---- the draft
 
 pub draft-laws : DraftLaws
+unfolding mergedPath
 draft-laws =
     record {
+      collapsed-merged = λ ss. collapsed-merged (numbersIn ss);
       draft-judged = draft-judged;
       draft-route = draft-route;
       draft-upstream = draft-upstream;

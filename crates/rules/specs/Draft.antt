@@ -16,7 +16,7 @@ use Rattle.types.specs.declared.Answer.the-variants.{Plain, WithGap}
 use Rattle.types.specs.Roles.{isUpstream}
 use Rattle.as_path.specs.Segments.{Segment}
 use Rattle.as_path.specs.Grounds.{isNotNeighbour, hasSet}
-use Rattle.as_path.specs.Merging.{mergedPath}
+use Rattle.as_path.specs.Merging.{numbersIn}
 use Rattle.rules.specs.Hops.{HopFunction, isPlus, isNotPlus, isUnattested, up, down, lowest, highest}
 use Rattle.rules.specs.Verdicts.{upCause, downCause}
 
@@ -76,11 +76,20 @@ module _ (hop : HopFunction) (path : List ℕ) where
 abbrev pub onGround : Ground → Answer
 onGround g = Plain (Invalid (ByGround g))
 
+-- Step 2 of both procedures: prepends are collapsed in the sequences. Of equal numbers side by side one is kept; one that comes back later stays.
+abbrev pub beginsWith : ℕ → List ℕ → Bool
+beginsWith x [] = false
+beginsWith x (y ∷ l) = eqb y x
+
+unfoldable pub collapsed : List ℕ → List ℕ
+collapsed [] = []
+collapsed (x ∷ l) = cond (beginsWith x l) (collapsed l) (x ∷ collapsed l)
+
 -- An empty path, and a first number that is not the neighbour's: section 6 calls the UPDATE in error, the rules answer Invalid (docs/DECISIONS.md).
--- Then, of both procedures, step 1: a set anywhere. Step 2: prepends are collapsed, within each segment. Then the numbered steps on the path.
+-- Then step 1: a set anywhere. Then step 2, and the numbered steps on the path.
 unfoldable pub draftRoute : HopFunction → ℕ → ℕ → List Segment → Answer
 draftRoute hop role neighbour [] = onGround Empty
 draftRoute hop role neighbour (s ∷ ss) =
     cond (isNotNeighbour role neighbour s) (onGround NotNeighbour)
     (cond (hasSet (s ∷ ss)) (onGround AsSet)
-    (draftJudged hop (mergedPath (s ∷ ss)) role))
+    (draftJudged hop (collapsed (numbersIn (s ∷ ss))) role))

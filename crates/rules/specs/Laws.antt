@@ -17,12 +17,14 @@ use Rattle.types.specs.declared.Refusal.{Refusal}
 use Rattle.types.specs.declared.Judged.the-variants.{Answered, Refused}
 use Rattle.types.specs.Numbers.{placeA, placeB, verdictOf, answerGap, refusalPlace}
 use Rattle.types.specs.Rows.{firstGiven}
-use Rattle.as_path.specs.Segments.{numberBytes, segments}
+use Rattle.as_path.specs.Segments.{numberBytes, Segment, segments}
+use Rattle.as_path.specs.Merging.{numbersIn, mergedPath}
 use Rattle.as_path.specs.Reading.{mostNumbers}
+use Rattle.as_path.specs.Laws.{Sequences}
 use Rattle.rules.specs.Hops.{HopFunction, isPlus, isNotPlus, isUnattested, asAt, up, down}
 use Rattle.rules.specs.Verdicts.{lowestNotPlus, lowestUnattested, highestNotPlus, rampUp, rampDown, gapOf, downCause, upstream, downstream, judged}
 use Rattle.rules.specs.Judging.{mostBytes, judgeRows, judgedRoute, refusalIn}
-use Rattle.rules.specs.Draft.{uMin, vMax, largestK, smallestL, draftUpstream, draftDownstream, draftJudged, draftRoute}
+use Rattle.rules.specs.Draft.{uMin, vMax, largestK, smallestL, draftUpstream, draftDownstream, draftJudged, collapsed, draftRoute}
 
 -- ---- u, v, K and L
 
@@ -116,6 +118,9 @@ pub record AnswerLaws : Type 0 where
   -- A judging is refused exactly by the first of rows 9 to 17 that is given, and these go by the arguments alone.
   pub judged-reads : (hop : HopFunction) (role neighbour : ℕ) (attribute : List ℕ)
       → refusalIn (judgedRoute hop role neighbour attribute) ≡ firstGiven (judgeRows role neighbour attribute)
+  -- The same numbers in the same order are answered alike, however they are cut into sequences of no more than the most bytes.
+  pub cut-anyhow : (hop : HopFunction) (role neighbour : ℕ) (a b : List ℕ) → Sequences a → Sequences b → length a ≤ mostBytes → length b ≤ mostBytes
+      → numbersIn (segments numberBytes a) ≡ numbersIn (segments numberBytes b) → judgedRoute hop role neighbour a ≡ judgedRoute hop role neighbour b
   -- The place of a refusal, which rows 12 to 16 have, is a byte of the attribute, and so below the most bytes.
   pub refused-place : (hop : HopFunction) (role neighbour : ℕ) (attribute : List ℕ) (r : Refusal) (p : ℕ)
       → judgedRoute hop role neighbour attribute ≡ Refused r → refusalPlace r ≡ Byte p → (p < length attribute) × (p < mostBytes)
@@ -123,6 +128,8 @@ pub record AnswerLaws : Type 0 where
 -- ---- the draft
 
 pub record DraftLaws : Type 0 where
+  -- A merged path is the draft's: the numbers of the segments with the prepends collapsed.
+  pub collapsed-merged : (ss : List Segment) → collapsed (numbersIn ss) ≡ mergedPath ss
   -- The answer for a path is the draft's, with its u_min, v_max, K, L and L - K; upstream the lowest i of its steps.
   pub draft-judged : (hop : HopFunction) (path : List ℕ) (role : ℕ) → 1 ≤ length path → judged hop path role ≡ draftJudged hop path role
   -- What is answered for an attribute is the draft's answer to its segments.

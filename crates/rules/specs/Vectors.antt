@@ -1,4 +1,4 @@
--- The test vectors A to L of the rules, as one table, and the edges that the rules name. All by computation from the definitions.
+-- The test vectors A to L of the rules, as one table; O and others with runs over a segment's end; the edges that the rules name. All by computation from the definitions.
 use Prim.Native.Nat.{ℕ, zero, suc, _+_, _/_, _%_}
 use mathlib.Core.Path.{_≡_, refl}
 use mathlib.Core.List.{List, [], _∷_, _++_, map}
@@ -17,7 +17,7 @@ use Rattle.types.specs.Rows.{firstGiven}
 use Rattle.as_path.specs.Segments.{numberAt, numbersAt, startsFrom, starts, segments}
 use Rattle.as_path.specs.Faults.{numbersFault, segmentFault, faultAmong, firstFault}
 use Rattle.as_path.specs.Grounds.{hasSet, groundOf}
-use Rattle.as_path.specs.Merging.{runsAfter, mergeRuns, mergedPath}
+use Rattle.as_path.specs.Merging.{numbersIn, runsAfter, mergeRuns, mergedPath}
 use Rattle.as_path.specs.Reading.{mostNumbers, contentOf}
 use Rattle.rules.specs.Hops.{lowest, highest, climb, descend}
 use Rattle.rules.specs.Records.{Record, isIn, attested, united, hopOf}
@@ -87,8 +87,45 @@ given v = judgedRoute (hopOf registerD) (v .role) (v .neighbour) (sequence (v .p
 
 -- Every vector's answer is the definitions' own.
 pub starred : map given vectors ≡ map wanted vectors
-unfolding judgedRoute firstGiven contentOf numberAt numbersAt startsFrom starts segments numbersFault segmentFault faultAmong firstFault hasSet groundOf runsAfter mergeRuns mergedPath lowest highest climb descend isIn attested united hopOf upstream downstream judged bytes
+unfolding judgedRoute firstGiven contentOf numberAt numbersAt startsFrom starts segments numbersFault segmentFault faultAmong firstFault hasSet groundOf numbersIn runsAfter mergeRuns mergedPath lowest highest climb descend isIn attested united hopOf upstream downstream judged bytes
 starred = refl
+
+-- ---- runs over a segment's end
+
+-- An attribute of several sequences.
+abbrev pub sequences : List (List ℕ) → List ℕ
+sequences [] = []
+sequences (l ∷ ls) = sequence l ++ sequences ls
+
+pub record CutVector : Type 0 where
+  pub role : ℕ
+  pub neighbour : ℕ
+  pub paths : List (List ℕ)
+  pub answer : Judged
+
+abbrev cut : ℕ → ℕ → List (List ℕ) → Judged → CutVector
+cut r n ps a = record { role = r; neighbour = n; paths = ps; answer = a }
+
+-- O first. Then a run over three ends, in the midst of which two sequences vanish; one that ends at a sequence's end; the places of a path cut so;
+-- and a number that comes back after another, which is no run.
+abbrev pub cutVectors : List CutVector
+cutVectors =
+    cut 1 20 ((20 ∷ []) ∷ (20 ∷ 10 ∷ []) ∷ []) (plain Valid)
+    ∷ cut 1 20 ((20 ∷ 20 ∷ []) ∷ (20 ∷ []) ∷ (20 ∷ 20 ∷ []) ∷ (20 ∷ 10 ∷ []) ∷ []) (plain Valid)
+    ∷ cut 1 20 ((20 ∷ 10 ∷ []) ∷ (10 ∷ []) ∷ []) (plain Valid)
+    ∷ cut 3 20 ((20 ∷ []) ∷ (20 ∷ 10 ∷ []) ∷ (10 ∷ 30 ∷ []) ∷ []) (gapped (Unknown 1 3) (pos 2))
+    ∷ cut 3 20 ((20 ∷ 10 ∷ []) ∷ (20 ∷ 10 ∷ []) ∷ []) (gapped (Invalid (ByHops 3 3)) (pos 2))
+    ∷ []
+
+abbrev pub wantedCut : CutVector → Judged
+wantedCut v = v .answer
+
+abbrev pub givenCut : CutVector → Judged
+givenCut v = judgedRoute (hopOf registerD) (v .role) (v .neighbour) (sequences (v .paths))
+
+pub starred-cut : map givenCut cutVectors ≡ map wantedCut cutVectors
+unfolding judgedRoute firstGiven contentOf numberAt numbersAt startsFrom starts segments numbersFault segmentFault faultAmong firstFault hasSet groundOf numbersIn runsAfter mergeRuns mergedPath lowest highest climb descend isIn attested united hopOf upstream downstream judged bytes
+starred-cut = refl
 
 -- Vector A's attribute, byte by byte.
 pub attribute-a : sequence (20 ∷ 10 ∷ []) ≡ 2 ∷ 2 ∷ 0 ∷ 0 ∷ 0 ∷ 20 ∷ 0 ∷ 0 ∷ 0 ∷ 10 ∷ []
@@ -126,6 +163,8 @@ pub record Edges : Type 0 where
   -- A path of the most numbers, and of one more.
   pub most-numbers : judgedEmpty (pairsThen []) ≡ plain (Unknown 2 0)
   pub one-number-more : judgedEmpty (pairsThen (sequence (20 ∷ []))) ≡ Refused PathLength
+  -- One number more that goes on with the run before it.
+  pub one-repeat-more : judgedEmpty (pairsThen (sequence (30 ∷ []))) ≡ plain (Unknown 2 0)
   -- An attribute of the most bytes, and of one more.
   pub most-bytes : judgedEmpty (longestThen []) ≡ plain (Unknown 2 0)
   pub one-byte-more : judgedEmpty (longestThen (2 ∷ [])) ≡ Refused AttributeLength

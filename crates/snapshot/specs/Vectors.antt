@@ -93,6 +93,19 @@ pub no-route :
 unfolding readEffect firstGiven field wordsIn contentsOk lengthOk registerIn ledgerIn pad decodeSlots decode slotsOk allZero wellFormed every ascends recordsOf listed recordsOk register.roomFor registerOk ledgerOk routesOk ledger.roomFor routesOf pathWords bodies routeOk
 no-route = refl
 
+-- An empty register, and a ledger with route 7 from customer 20 on a path of three numbers: edition, starts and lengths, words.
+abbrev kept : ℕ → ℕ → ℕ → List ℕ
+kept x y z = bytesOf (1 ∷ 20 ∷ 8 ∷ 28 ∷ 56 ∷ 0 ∷ 0 ∷ 1 ∷ 3 ∷ 7 ∷ 1 ∷ 20 ∷ 0 ∷ 1 ∷ 3 ∷ 0 ∷ 0 ∷ 3 ∷ x ∷ y ∷ z ∷ [])
+
+-- Two equal numbers side by side: the file of an earlier version may have them. Apart they are read.
+pub side-by-side : read (kept 20 20 10) ≡ Refused RoutesMalformed
+unfolding readEffect firstGiven bytesOf field wordsIn contentsOk lengthOk registerIn ledgerIn pad decodeSlots decode slotsOk allZero wellFormed every ascends ascendsFrom bodies recordsOf listed recordsOk register.roomFor registerOk routesOf pathWords ledger.noZero ledger.noRepeat ledger.noRuns ledger.pathOk routeOk routesOk ledger.roomFor ledgerOk
+side-by-side = refl
+
+pub apart : read (kept 20 10 20) ≡ Done
+unfolding readEffect firstGiven bytesOf field wordsIn contentsOk lengthOk registerIn ledgerIn pad decodeSlots decode slotsOk allZero wellFormed every ascends ascendsFrom bodies recordsOf listed recordsOk register.roomFor registerOk routesOf pathWords ledger.noZero ledger.noRepeat ledger.noRuns ledger.pathOk routeOk routesOk ledger.roomFor ledgerOk
+apart = refl
+
 -- The empty tables' file is read.
 pub empty-read : readEffect (emptyContents ++ zeros 16) (zeros registerWords) (zeros ledgerWords) .answer ≡ Done
 unfolding readEffect firstGiven field wordsIn contentsOk lengthOk registerIn ledgerIn pad decodeSlots decode slotsOk allZero wellFormed every ascends bodies recordsOf listed recordsOk register.roomFor registerOk routesOf pathWords routesOk ledger.roomFor ledgerOk

@@ -1,22 +1,32 @@
 -- `as_path::merge` meets its contract. Assumes nothing.
-use Prim.Native.Nat.{_+_, _*_, _≤_}
-use Rattle.as_path.specs.Segments.{numberBytes}
-use Rattle.as_path.proofs.Storing.{body-length}
-use borrow.Author.Needs.{needs}
-use Prim.Native.Nat.{_-_}
-use lib.ListN.{length}
-use mathlib.Core.Path.{_≡_, refl, sym, _∙_}
+use Prim.Native.Nat.{_+_, _-_, _*_, _≤_}
+use mathlib.Core.Path.{refl}
 use native.Mathlib.Omega.{arith}
-use lib.ListN.{length-take, length-drop}
-use Rattle.as_path.proofs.Storing.{Gathering, gathers, gathered, here, gathers-on}
+use borrow.Author.Needs.{needs}
+use lib.ListN.{length}
+use Rattle.as_path.specs.Segments.{numberBytes}
+use Rattle.as_path.proofs.Storing.{body-length, Gathering, gathers, gathered, here, gathers-on}
 use Rattle.as_path.proofs.merge.Statement.{statement}
 use Rattle.as_path.proofs.merge.Tie as tie
 
 abbrev Inv-loop : tie.InvT-loop
-Inv-loop attr path₀ n₀ at₀ path n at = Gathering numberBytes attr path₀ path n at
+Inv-loop attr path₀ end₀ at₀ path end at = Gathering numberBytes attr path₀ path (end .to) (end .last) at
 
 abbrev μ-loop : tie.MeasureT-loop
-μ-loop attr path₀ n₀ at₀ path n at = length attr - at
+μ-loop attr path₀ end₀ at₀ path end at = length attr - at
+
+returns : tie.Need-returns Inv-loop μ-loop
+returns c = gathered (c .before .loop .inv) (c .loop-test .left)
+
+loop-again : tie.Need-loop-again Inv-loop μ-loop
+loop-again c =
+    let i = c .before .before .before .before .before .before .before .before .loop in
+    let xs = c .before .before .before .before .before .before .before .before .before .before .before .args .attr .now in
+    let size = c .before .before .before .before .before .size in
+    let t = c .before .before .before .before .before .before .before .loop-test .taken in
+    let h : i .at + 2 + numberBytes * size .result ≤ length xs = omega (arith, here (i .inv) t .body) in
+    gathers-on (i .inv) t _ _ _ _ _ _ (size .ensures .0) (omega arith)
+    (omega (arith, body-length xs (i .at + 2) (numberBytes * size .result) h)) refl (c .before .before .merge-segment .ensures)
 
 loop-holds : tie.Need-loop-holds Inv-loop μ-loop
 loop-holds c = gathers numberBytes _ _ (c .before .before .pre)
@@ -49,23 +59,18 @@ part-merge-segment-end : tie.Need-part-merge-segment-end Inv-loop μ-loop
 part-merge-segment-end c = omega (arith, here (c .before .before .before .loop .inv) (c .before .before .loop-test .taken) .body)
 
 merge-segment-requires : tie.Need-merge-segment-requires Inv-loop μ-loop
-merge-segment-requires c κs = let h : c .before .before .before .before .before .loop .at + 2 + numberBytes * c .before .before .size .result ≤ length (c .before .before .before .before .before .before .before .before .args .attr .now) = omega (arith, here (c .before .before .before .before .before .loop .inv) (c .before .before .before .before .loop-test .taken) .body) in
-    rw (body-length (c .before .before .before .before .before .before .before .before .args .attr .now) (c .before .before .before .before .before .loop .at + 2) (numberBytes * c .before .before .size .result) h)
-    (omega (arith, here (c .before .before .before .before .before .loop .inv) (c .before .before .before .before .loop-test .taken) .some), omega arith)
+merge-segment-requires c κs =
+    let i = c .before .before .before .before .before .loop in
+    let xs = c .before .before .before .before .before .before .before .before .args .attr .now in
+    let size = numberBytes * c .before .before .size .result in
+    let h : i .at + 2 + size ≤ length xs = omega (arith, here (i .inv) (c .before .before .before .before .loop-test .taken) .body) in
+    rw (body-length xs (i .at + 2) size h) (omega (arith, i .inv .bound))
 
 loop-less : tie.Need-loop-less Inv-loop μ-loop
 loop-less c = search needs
 
-loop-again : tie.Need-loop-again Inv-loop μ-loop
-loop-again c = let h : c .before .before .before .before .before .before .before .before .loop .at + 2 + numberBytes * c .before .before .before .before .before .size .result ≤ length (c .before .before .before .before .before .before .before .before .before .before .before .args .attr .now) = omega (arith, here (c .before .before .before .before .before .before .before .before .loop .inv) (c .before .before .before .before .before .before .before .loop-test .taken) .body) in
-    gathers-on (c .before .before .before .before .before .before .before .before .loop .inv) (c .before .before .before .before .before .before .before .loop-test .taken) _ _ _ _ _ (c .before .before .before .before .before .size .ensures .0) (omega arith)
-    (omega (arith, body-length (c .before .before .before .before .before .before .before .before .before .before .before .args .attr .now) (c .before .before .before .before .before .before .before .before .loop .at + 2) (numberBytes * c .before .before .before .before .before .size .result) h)) refl (c .before .before .merge-segment .ensures)
-
 same-length : tie.Need-same-length Inv-loop μ-loop
 same-length c = c .before .loop .inv .same-length
-
-returns : tie.Need-returns Inv-loop μ-loop
-returns c = gathered (c .before .loop .inv) (c .loop-test .left)
 
 pub merge-spec : {M : Type 1} → statement M
 merge-spec =

@@ -1,0 +1,31 @@
+-- Attributes whose segments are all sequences, by computation: vector O's, and the same numbers in one sequence and in three.
+use Prim.Native.Nat.{ℕ}
+use mathlib.Core.Path.{_≡_, refl}
+use mathlib.Core.List.{List, [], _∷_}
+use Rattle.as_path.specs.Segments.{numberBytes, numberAt, numbersAt, startsFrom, starts, segments}
+use Rattle.as_path.specs.Faults.{numbersFault, segmentFault, faultAmong, firstFault}
+use Rattle.as_path.specs.Grounds.{hasSet}
+use Rattle.as_path.specs.Merging.{numbersIn}
+use Rattle.as_path.specs.Laws.{Sequences}
+
+-- 20, then 20 10.
+abbrev pub o : List ℕ
+o = 2 ∷ 1 ∷ 0 ∷ 0 ∷ 0 ∷ 20 ∷ 2 ∷ 2 ∷ 0 ∷ 0 ∷ 0 ∷ 20 ∷ 0 ∷ 0 ∷ 0 ∷ 10 ∷ []
+
+-- 20 20 10.
+abbrev pub in-one : List ℕ
+in-one = 2 ∷ 3 ∷ 0 ∷ 0 ∷ 0 ∷ 20 ∷ 0 ∷ 0 ∷ 0 ∷ 20 ∷ 0 ∷ 0 ∷ 0 ∷ 10 ∷ []
+
+-- 20, 20, 10.
+abbrev pub in-three : List ℕ
+in-three = 2 ∷ 1 ∷ 0 ∷ 0 ∷ 0 ∷ 20 ∷ 2 ∷ 1 ∷ 0 ∷ 0 ∷ 0 ∷ 20 ∷ 2 ∷ 1 ∷ 0 ∷ 0 ∷ 0 ∷ 10 ∷ []
+
+pub are-sequences : Sequences o × Sequences in-one × Sequences in-three
+unfolding numberAt startsFrom starts segments numbersFault segmentFault faultAmong firstFault hasSet
+are-sequences = (record { clean = refl; no-set = refl }, record { clean = refl; no-set = refl }, record { clean = refl; no-set = refl })
+
+pub same-numbers :
+    (numbersIn (segments numberBytes o) ≡ 20 ∷ 20 ∷ 10 ∷ []) × (numbersIn (segments numberBytes in-one) ≡ 20 ∷ 20 ∷ 10 ∷ [])
+    × (numbersIn (segments numberBytes in-three) ≡ 20 ∷ 20 ∷ 10 ∷ [])
+unfolding numberAt numbersAt startsFrom starts segments numbersIn
+same-numbers = (refl, refl, refl)
