@@ -15,3 +15,8 @@ pub fn segment(kind: u8, numbers: &[u32]) -> Vec<u8> {
     }
     bytes
 }
+
+/// A sequence for each part.
+pub fn sequences(parts: &[&[u32]]) -> Vec<u8> {
+    parts.iter().flat_map(|numbers| segment(2, numbers)).collect()
+}

@@ -151,14 +151,12 @@ pub fn ground(role: u32, neighbour: AsNumber, segments: &[Segment]) -> Option<Gr
     None
 }
 
-/// Runs of one number become one inside a segment; a run ends with its segment.
+/// All numbers in their order, each run of one number become one. A run may go
+/// on over the ends of segments: without a ground they are all sequences.
 pub fn merged(segments: &[Segment]) -> Vec<AsNumber> {
-    let mut path = Vec::new();
-    for segment in segments {
-        let mut numbers = segment.numbers.clone();
-        numbers.dedup();
-        path.append(&mut numbers);
-    }
+    let mut path: Vec<AsNumber> =
+        segments.iter().flat_map(|segment| segment.numbers.iter().copied()).collect();
+    path.dedup();
     path
 }
 

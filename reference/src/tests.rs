@@ -1,4 +1,4 @@
-use crate::attributes::{hex, segment};
+use crate::attributes::{hex, segment, sequences};
 use crate::console::answer;
 use crate::judge::{self, slow, Hop};
 use crate::random::Random;
@@ -82,7 +82,8 @@ fn vectors_m_to_o() {
     let g = format!("judge 3 20 {}", sequence(&[20, 10, 30]));
     let b = format!("judge 1 40 {}", sequence(&[40, 20, 10]));
     let c = format!("judge 1 50 {}", sequence(&[50, 20, 10]));
-    let o = format!("judge 1 20 {}{}", sequence(&[20]), sequence(&[20, 10]));
+    let o = hex(&sequences(&[&[20], &[20, 10]]));
+    assert_eq!(o, "0201000000140202000000140000000a");
     check(
         &mut model,
         &[
@@ -95,7 +96,10 @@ fn vectors_m_to_o() {
             (&b, "Valid"),
             ("withdraw 1 20", "done"),
             (&c, "Invalid 3 0"),
-            (&o, "Invalid 3 0"),
+            (&format!("judge 1 20 {o}"), "Valid"),
+            (&format!("keep 15 1 20 {o}"), "Valid"),
+            ("ledger", "1 2 15 1 20 0 0 0 0 0 2 20 10"),
+            ("rejudge", "changed 0"),
         ],
     );
 }
@@ -235,23 +239,170 @@ fn merging_and_bounds() {
     assert_eq!(judge(1, 1, &segment(2, &upto(64))), "Unknown 2 0");
     assert_eq!(judge(3, 1, &segment(2, &upto(64))), "Unknown 1 64 gap 63");
     assert_eq!(judge(3, 1, &segment(2, &upto(65))), "refused 17");
-    // 128 numbers, each twice: 64 merged; one more segment with the last number again: 65
+    // 128 numbers, each twice: 64 merged; one more segment, with the last number or another
     let twice: Vec<u32> = upto(64).iter().flat_map(|n| [*n, *n]).collect();
     assert_eq!(judge(1, 1, &segment(2, &twice)), "Unknown 2 0");
-    let again = [segment(2, &twice), segment(2, &[64])].concat();
-    assert_eq!(judge(1, 1, &again), "refused 17");
+    assert_eq!(judge(3, 1, &sequences(&[&twice, &[64]])), "Unknown 1 64 gap 63");
+    assert_eq!(judge(3, 1, &sequences(&[&twice, &[63]])), "refused 17");
     // 2 + 4 * 200 + 2 + 4 * 55 = 1,024 bytes
-    let most = [segment(2, &[7; 200]), segment(2, &[7; 55])].concat();
-    assert_eq!(most.len(), 1_024);
-    assert_eq!(judge(3, 7, &most), "Valid gap 1");
-    assert_eq!(judge(1, 7, &most), "Unknown 2 0");
-    let more = [most, vec![2]].concat();
-    assert_eq!(judge(1, 7, &more), "refused 11");
+    for (second, [up, down]) in [(7, ["Valid", "Valid gap 0"]), (8, ["Unknown 2 0", "Valid gap 1"])]
+    {
+        let most = sequences(&[&[7; 200], &[second; 55]]);
+        assert_eq!(most.len(), 1_024);
+        assert_eq!(judge(1, 7, &most), up);
+        assert_eq!(judge(3, 7, &most), down);
+        assert_eq!(judge(1, 7, &[most, vec![2]].concat()), "refused 11");
+    }
     assert_eq!(judge(1, 7, &[0; 1_025]), "refused 11");
     assert_eq!(judge(1, 7, &[0; 1_024]), "refused 13 at 0");
     // one number
     assert_eq!(judge(1, 7, &segment(2, &[7, 7, 7])), "Valid");
     assert_eq!(judge(6, 7, &segment(2, &[7])), "Valid gap 0");
+}
+
+#[test]
+fn runs_go_on_over_boundaries() {
+    let many: Vec<&[u32]> = [vec![&[20][..]; 40], vec![&[10]]].concat();
+    let cases: [(&[&[u32]], &[u32]); 20] = [
+        (&[&[20], &[20, 10]], &[20, 10]),
+        (&[&[20], &[20], &[20, 10]], &[20, 10]),
+        (&[&[20, 20], &[20, 20, 10], &[10]], &[20, 10]),
+        (&[&[30, 10], &[10, 10], &[10, 20]], &[30, 10, 20]),
+        (&many, &[20, 10]),
+        // a segment that vanishes whole, at the end, in the middle, all but the first number
+        (&[&[20, 10], &[10]], &[20, 10]),
+        (&[&[20, 10], &[10], &[10, 10], &[30]], &[20, 10, 30]),
+        (&[&[20], &[20]], &[20]),
+        (&[&[20, 20], &[20], &[20, 20]], &[20]),
+        // the number before the boundary counts, and no other
+        (&[&[20, 10], &[20]], &[20, 10, 20]),
+        (&[&[20, 10], &[20, 10]], &[20, 10, 20, 10]),
+        (&[&[20], &[10], &[20]], &[20, 10, 20]),
+        (&[&[20, 10, 30], &[10, 30]], &[20, 10, 30, 10, 30]),
+        (&[&[20, 10], &[10], &[20]], &[20, 10, 20]),
+        // nothing to merge
+        (&[&[50], &[40], &[20], &[10]], &[50, 40, 20, 10]),
+        (&[&[50, 40], &[20, 10]], &[50, 40, 20, 10]),
+        // numbers that differ in one byte
+        (&[&[20], &[276], &[20]], &[20, 276, 20]),
+        (&[&[20], &[65_556], &[20]], &[20, 65_556, 20]),
+        (&[&[20], &[16_777_236], &[20]], &[20, 16_777_236, 20]),
+        (&[&[u32::MAX], &[u32::MAX], &[u32::MAX - 1]], &[u32::MAX, u32::MAX - 1]),
+    ];
+    for (parts, path) in cases {
+        let bytes = sequences(parts);
+        let numbers: Vec<AsNumber> = path.iter().map(|n| AsNumber(*n)).collect();
+        assert_eq!(judge::merged(&judge::read(&bytes).unwrap()), numbers, "{parts:?}");
+        // every role judges and keeps it as one sequence of the merged numbers
+        for role in 1..=6 {
+            let neighbour = if role == 4 { 99 } else { path[0] };
+            let [mut cut, mut whole] = [with_register_d(), with_register_d()];
+            for call in ["judge", "keep 7"] {
+                let line = |hex: &str| format!("{call} {role} {neighbour} {hex}");
+                let expected = answer(&mut whole, line(&sequence(path)).as_bytes());
+                check(&mut cut, &[(&line(&hex(&bytes)), &expected)]);
+            }
+            assert!(same_words(&cut, &whole));
+        }
+    }
+}
+
+/// Numbers cut into sequences anyhow give the path that they give in one.
+#[test]
+fn cuts_do_not_matter() {
+    let mut random = Random::new(12);
+    let mut over = 0;
+    for _ in 0..5_000 {
+        let length = random.pick(&[1, 2, 3, 5, 8, 20, 100]);
+        let numbers: Vec<u32> = (0..length).map(|_| random.between(1, 3) as u32).collect();
+        let mut parts = vec![Vec::new()];
+        let often = random.pick(&[5, 30, 90]);
+        for (i, number) in numbers.iter().enumerate() {
+            if i > 0 && random.percent(often) {
+                parts.push(Vec::new());
+                over += usize::from(*number == numbers[i - 1]);
+            }
+            parts.last_mut().unwrap().push(*number);
+        }
+        let parts: Vec<&[u32]> = parts.iter().map(Vec::as_slice).collect();
+        let mut path: Vec<AsNumber> = Vec::new();
+        for number in &numbers {
+            if path.last().is_none_or(|last| last.0 != *number) {
+                path.push(AsNumber(*number));
+            }
+        }
+        for bytes in [segment(2, &numbers), sequences(&parts)] {
+            assert_eq!(judge::merged(&judge::read(&bytes).unwrap()), path);
+        }
+    }
+    assert!(over > 5_000, "{over}");
+}
+
+#[test]
+fn bounds_over_boundaries() {
+    let mut model = Model::new();
+    let mut judge = |neighbour: u32, bytes: &[u8]| {
+        answer(&mut model, format!("judge 3 {neighbour} {}", hex(bytes)).as_bytes())
+    };
+    // the last number of a segment again at the start of the next
+    let upto = |n: u32| (1..=n).collect::<Vec<u32>>();
+    for cut in [1, 2, 32, 63, 64] {
+        let two = |last: u32| sequences(&[&upto(cut), &(cut..=last).collect::<Vec<u32>>()]);
+        assert_eq!(judge(1, &two(64)), "Unknown 1 64 gap 63");
+        assert_eq!(judge(1, &two(65)), "refused 17");
+        assert_eq!(judge(2, &two(65)), "Invalid ground 2");
+    }
+    // segments of one, of two with the last one's number, of one number each twice
+    let each = |numbers: Vec<Vec<u32>>| -> Vec<u8> {
+        numbers.iter().flat_map(|numbers| segment(2, numbers)).collect()
+    };
+    for (last, expected) in [(64, "Unknown 1 64 gap 63"), (65, "refused 17")] {
+        assert_eq!(judge(1, &each(upto(last).iter().map(|n| vec![*n]).collect())), expected);
+        assert_eq!(judge(1, &each((2..=last).map(|n| vec![n - 1, n]).collect())), expected);
+        let twice = upto(last).iter().flat_map(|n| [vec![*n], vec![*n]]).collect();
+        assert_eq!(judge(1, &each(twice)), expected);
+    }
+    // 170 segments are 1,020 bytes
+    assert_eq!(judge(7, &each(vec![vec![7]; 170])), "Valid gap 0");
+    assert_eq!(judge(7, &each(vec![vec![7]; 171])), "refused 11");
+    assert_eq!(judge(1, &each(upto(170).iter().map(|n| vec![*n]).collect())), "refused 17");
+    // 8 + 4 * 254 = 1,024 bytes: 64 numbers, each about four times, in four segments
+    let fours = |numbers: u32| -> Vec<u32> { (0..254).map(|i| i * numbers / 254 + 1).collect() };
+    for (numbers, expected) in [(64, "Unknown 1 64 gap 63"), (65, "refused 17")] {
+        let all = fours(numbers);
+        let most = sequences(&[&all[..66], &all[66..130], &all[130..131], &all[131..]]);
+        assert_eq!(most.len(), 1_024);
+        assert_eq!(judge(1, &most), expected);
+    }
+}
+
+/// A set between equal numbers, and faults behind a run: as without merging.
+#[test]
+fn grounds_and_faults_beside_runs() {
+    let mut model = with_register_d();
+    let run = sequences(&[&[20], &[20, 20], &[20, 10]]);
+    assert_eq!(run.len(), 26);
+    for (role, neighbour, tail, expected) in [
+        (1, 20, "", "Valid"),
+        (4, 99, "", "Valid"),
+        (1, 10, "", "Invalid ground 2"),
+        (1, 20, "01010000000a", "Invalid ground 3"),
+        (4, 20, "01010000000a02010000000a", "Invalid ground 3"),
+        (1, 99, "01010000000a02010000000a", "Invalid ground 2"),
+        (1, 20, "02", "refused 12 at 26"),
+        (1, 20, "0203", "refused 12 at 26"),
+        (1, 20, "0500", "refused 13 at 26"),
+        (1, 20, "03010000000a", "refused 14 at 26"),
+        (1, 20, "0200", "refused 15 at 26"),
+        (1, 20, "020100000000", "refused 16 at 28"),
+        (1, 20, "02020000000a00000000", "refused 16 at 32"),
+        (1, 99, "02010000000a02010000000a02", "refused 12 at 38"),
+    ] {
+        let line = format!("judge {role} {neighbour} {}{tail}", hex(&run));
+        check(&mut model, &[(&line, expected)]);
+    }
+    let set = [segment(2, &[20]), segment(1, &[20]), segment(2, &[20, 10])].concat();
+    check(&mut model, &[(&format!("judge 1 20 {}", hex(&set)), "Invalid ground 3")]);
 }
 
 #[test]
@@ -613,14 +764,15 @@ fn word_rules() {
         "ledger 16 1", "ledger 17 1", "ledger 7 65", "ledger 8 65", "ledger 9 1", "ledger 18 0",
         "ledger 18 1", "ledger 10 1", "ledger 10 0", "ledger 10 65", "ledger 19 1", "ledger 29 21",
         "ledger 29 0", "ledger 30 0", "ledger 32 0", "ledger 33 1", "ledger 12801 1",
-        "ledger 21 1",
+        "ledger 21 1", // equal neighbours
+        "ledger 30 20", "ledger 31 10", "ledger 32 20",
     ];
     let harmless = [
         "register 2 1", "register 3 0", "register 26 4294967295", "register 32 0",
         "register 31 4294967295", "register 30 0", "register 34 3", "register 7 7", "ledger 2 0",
         "ledger 2 4", "ledger 20 4294967295", "ledger 6 2", "ledger 7 64", "ledger 8 64",
         "ledger 13 1", "ledger 14 3", "ledger 12 1", "ledger 22 1", "ledger 31 1", "ledger 32 9",
-        "ledger 30 20", "ledger 3 6", "ledger 3 4",
+        "ledger 30 21", "ledger 3 6", "ledger 3 4",
     ];
     for poke in damaged {
         let mut model = sound.clone();
@@ -636,6 +788,173 @@ fn word_rules() {
         check(&mut model, &[(&format!("poke {poke}"), "done")]);
         assert!(model.rejudge().is_ok(), "{poke}");
     }
+}
+
+/// Paths that end with the number that the next one begins with, over an entry
+/// without a path too, and two of one number.
+const SEAMS: [(u32, u32, u32, &[u32]); 7] = [
+    (5, 1, 20, &[20, 10, 30, 40]),
+    (6, 3, 40, &[40, 20, 10, 50]),
+    (7, 4, 9, &[]),
+    (8, 4, 99, &[50, 10, 20]),
+    (9, 2, 20, &[20]),
+    (10, 5, 20, &[20]),
+    (11, 6, 20, &[20, 10, 40, 30]),
+];
+
+fn with_seams() -> Model {
+    let mut model = with_register_d();
+    for (route, role, neighbour, path) in SEAMS {
+        let attribute = if path.is_empty() { "-".to_string() } else { sequence(path) };
+        let answer =
+            answer(&mut model, format!("keep {route} {role} {neighbour} {attribute}").as_bytes());
+        assert!(!answer.starts_with("refused"), "{answer}");
+    }
+    model
+}
+
+#[test]
+fn equal_numbers_of_two_paths() {
+    let mut model = with_seams();
+    let file = written(&mut model);
+    let words = model.ledger.used_words();
+    assert_eq!(words[65..], [20, 10, 30, 40, 40, 20, 10, 50, 50, 10, 20, 20, 20, 20, 10, 40, 30]);
+    model.ledger = Table::Words(model.ledger.words());
+    assert!(model.ledger.well_formed());
+    check(&mut model, &[("rejudge", "changed 0")]);
+    let mut read = Model::new();
+    assert_eq!(row(read.read(&file)), 0);
+    assert!(same_words(&read, &model));
+    // each route gone in turn
+    for (route, ..) in SEAMS {
+        let mut model = with_seams();
+        check(&mut model, &[(&format!("drop {route}"), "done")]);
+        model.ledger = Table::Words(model.ledger.words());
+        check(&mut model, &[("rejudge", "changed 0")]);
+    }
+    // the first number of the first path is the word before it
+    run(&[
+        (&format!("keep 1 1 2 {}", sequence(&[2, 3])), "Unknown 2 0"),
+        ("poke ledger 12 4", "done"),
+        ("rejudge", "changed 0"),
+        ("ledger", "1 2 1 1 2 0 2 2 0 0 2 2 4"),
+    ]);
+}
+
+/// Each poke makes two neighbours of one path equal, and breaks no other rule.
+#[test]
+fn a_ledger_with_equal_neighbours() {
+    let sound = with_seams();
+    let file = written(&mut sound.clone());
+    let ledger_at = parts(&file)[0].len() + 5;
+    for (index, value) in [
+        // the first path: first pair, middle, last pair, from both sides
+        (66, 20),
+        (66, 30),
+        (67, 10),
+        (67, 40),
+        (68, 30),
+        // a middle one
+        (70, 40),
+        (70, 10),
+        (71, 50),
+        (72, 10),
+        // from a route server, whose first number is free
+        (73, 10),
+        (74, 50),
+        (74, 20),
+        (75, 10),
+        // the last one
+        (79, 20),
+        (79, 40),
+        (80, 10),
+        (80, 30),
+        (81, 40),
+    ] {
+        let mut model = sound.clone();
+        let old = model.ledger.words()[index];
+        check(&mut model, &[(&format!("poke ledger {index} {value}"), "done")]);
+        assert!(!model.ledger.well_formed());
+        let poked = model.clone();
+        check(
+            &mut model,
+            &[
+                ("keep 9 9 0 02", "refused 3"),
+                ("keep 12 1 5 -", "refused 3"),
+                ("drop 5", "refused 3"),
+                ("drop 99", "refused 3"),
+                ("rejudge", "refused 3"),
+                ("write 0", "refused 3"),
+                ("write 131072", "refused 3"),
+            ],
+        );
+        // as a snapshot: over sound tables, and over these, which stay
+        let equal = with(&file, &[(ledger_at + index, value)]);
+        assert_eq!(row(model.read(&equal)), 3);
+        assert!(same_words(&model, &poked));
+        let mut other = small_tables();
+        assert_eq!(row(other.read(&equal)), 3);
+        assert_eq!(row(other.read(&with(&equal, &[(5, 9)]))), 2);
+        assert_eq!(row(other.read(&equal[..equal.len() - 1])), 24);
+        assert!(same_words(&other, &small_tables()));
+        assert_eq!(row(other.read(&file)), 0);
+        assert!(same_words(&other, &sound));
+        // a read doesn't look at what the ledger was
+        let mut read = poked.clone();
+        assert_eq!(row(read.read(&file)), 0);
+        assert!(same_words(&read, &sound));
+        // calls that are lent the register alone; then mended
+        check(
+            &mut model,
+            &[
+                ("file 1 60 61", "new"),
+                ("judge 1 5 -", "Invalid ground 1"),
+                ("withdraw 1 60", "done"),
+                ("clear 1", "cleared 0"),
+                (&format!("poke ledger {index} {old}"), "done"),
+                ("rejudge", "changed 0"),
+                ("drop 5", "done"),
+            ],
+        );
+    }
+    // other numbers, equal ones of two paths among them, are no fault
+    for (index, value) in
+        [(68, 20), (66, 40), (72, 20), (73, 40), (73, 20), (75, 50), (70, 30), (81, 1), (81, 276)]
+    {
+        let mut model = sound.clone();
+        check(&mut model, &[(&format!("poke ledger {index} {value}"), "done")]);
+        assert!(model.rejudge().is_ok(), "{index} {value}");
+        let input = with(&file, &[(ledger_at + index, value)]);
+        assert_eq!(row(Model::new().read(&input)), 0, "{index} {value}");
+    }
+}
+
+/// Where one path ends and the next begins decides whose neighbours two numbers are.
+#[test]
+fn equal_neighbours_by_the_counts() {
+    run(&[
+        (&format!("keep 1 1 20 {}", sequence(&[20, 10])), "Unknown 2 0"),
+        (&format!("keep 2 4 5 {}", sequence(&[10, 30])), "Unknown 2 0"),
+        ("rejudge", "changed 0"),
+        // the second path's first number goes to the first path
+        ("poke ledger 10 3", "done"),
+        ("poke ledger 18 3", "done"),
+        ("poke ledger 19 1", "done"),
+        ("rejudge", "refused 3"),
+        ("words ledger", "12802 2 4 1 1 20 0 2 2 0 0 3 2 4 5 0 2 2 0 3 1 20 10 10 30"),
+        // another number there, with which the next path begins too
+        ("poke ledger 22 30", "done"),
+        ("rejudge", "changed 1"),
+        ("ledger", "2 4 1 1 20 0 2 2 0 0 3 2 4 5 0 0 0 0 3 1 20 10 30 30"),
+        // both of them in the next path
+        ("poke ledger 10 1", "done"),
+        ("poke ledger 18 1", "done"),
+        ("poke ledger 19 3", "done"),
+        ("rejudge", "refused 3"),
+        ("poke ledger 23 10", "done"),
+        ("rejudge", "changed 2"),
+        ("ledger", "2 4 1 1 20 0 0 0 0 0 1 2 4 5 0 2 2 0 1 3 20 10 30 10"),
+    ]);
 }
 
 // Room
@@ -720,7 +1039,9 @@ fn room_in_the_ledger() {
             (&format!("keep 128 1 5 {five}"), "Valid"),
             (&format!("keep 3 1 1 {path}"), "refused 20"),
             ("drop 128", "done"),
-            (&format!("keep 3 1 1 {path}"), "Unknown 2 0"),
+            // the last number again, in a segment of its own: no body word
+            (&format!("keep 3 1 1 {path}{}", sequence(&[64])), "Unknown 2 0"),
+            (&format!("keep 130 1 5 {five}"), "refused 20"),
         ],
     );
 }
@@ -1331,6 +1652,18 @@ fn random_records_of(
     records
 }
 
+/// No two equal numbers side by side.
+fn random_path(random: &mut Random, count: usize) -> Vec<AsNumber> {
+    let mut path = Vec::new();
+    while path.len() < count {
+        let number = AsNumber(random.between(1, 5) as u32);
+        if path.last() != Some(&number) {
+            path.push(number);
+        }
+    }
+    path
+}
+
 fn random_routes(random: &mut Random) -> Routes {
     let mut routes = Routes::new();
     for _ in 0..random.below(20) {
@@ -1338,8 +1671,7 @@ fn random_routes(random: &mut Random) -> Routes {
         let ground = random.pick(&[0, 0, 0, 1, 2, 3]);
         let ground = if ground == 2 && role == 4 { 3 } else { ground };
         let count = if ground == 0 { random.pick(&[1, 2, 3, 64]) } else { 0 };
-        let path: Vec<AsNumber> =
-            (0..count).map(|_| AsNumber(random.between(1, 5) as u32)).collect();
+        let path = random_path(random, count);
         let neighbour = path.first().copied().unwrap_or(AsNumber(3));
         let mut place = || if ground == 0 { random.pick(&[0, 1, 64]) } else { 0 };
         let (place_a, place_b) = (place(), place());
@@ -1411,8 +1743,11 @@ fn ledger_by_rewriting(words: &[u32]) -> bool {
         if e[1] == 0 || e[1] > 6 || e[2] == 0 || e[4] > 2 || e[5] > 64 || e[6] > 64 {
             return false;
         }
+        let mut merged = path.to_vec();
+        merged.retain(|number| *number != 0);
+        merged.dedup();
         let fits = match e[3] {
-            0 => count > 0 && count < 65 && !path.contains(&0) && (e[1] == 4 || e[2] == path[0]),
+            0 => count > 0 && count < 65 && merged == path && (e[1] == 4 || e[2] == path[0]),
             1 | 3 => count == 0 && e[4..7] == [1, 0, 0],
             2 => e[1] != 4 && count == 0 && e[4..7] == [1, 0, 0],
             _ => false,

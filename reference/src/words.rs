@@ -140,6 +140,8 @@ impl Form for Routes {
                     0 => {
                         (1..=LONGEST_PATH).contains(&path.len())
                             && path.iter().all(|number| *number != 0)
+                            // A merged path; the next entry's may begin with its last number.
+                            && path.windows(2).all(|pair| pair[0] != pair[1])
                             && (role == ROUTE_SERVER || path[0] == neighbour)
                     }
                     1..=3 => {

@@ -3,13 +3,13 @@
 //! `streams recorded` writes crates/console/stdin, to which the second
 //! program's answers are crates/console/stdout.
 
-use reference::attributes::{hex, segment};
+use reference::attributes::{hex, segment, sequences};
 use reference::console;
 use reference::random::Random;
 use reference::snapshot::{self, number_at, parts, with, CONTENTS};
 use reference::words::{padded, Form};
 use reference::{
-    AsNumber, Model, Records, Table, GREATEST_SOURCE, LONGEST_ATTRIBUTE, MOST_BODY_WORDS,
+    AsNumber, Model, Records, Routes, Table, GREATEST_SOURCE, LONGEST_ATTRIBUTE, MOST_BODY_WORDS,
 };
 use std::io::{self, BufWriter, Write};
 use std::process::ExitCode;
@@ -69,14 +69,21 @@ fn run_without(customer: u32, first: u32, length: usize) -> Vec<u32> {
     (first..=u32::MAX).filter(|number| *number != customer).take(length).collect()
 }
 
+// Words that one poke changes
+
+/// Of a table's words, the used ones or all of them.
+fn well_formed<T: Form>(words: &[u32]) -> bool {
+    words.len() <= T::LENGTH
+        && T::used(words) <= words.len() as u64
+        && T::well_formed(&padded(words.to_vec(), T::LENGTH))
+}
+
 /// Of well-formed words of a register, used ones or all: each word and what it
 /// must become for a list to hold its own customer, all other rules being kept.
 /// Either a number of the list becomes the customer or the customer one of the
 /// list. None for other words.
 fn own_customer_pokes(words: &[u32]) -> Vec<(usize, u32)> {
-    let table = padded(words.to_vec(), Records::LENGTH.max(words.len()));
-    let whole = table.len() == Records::LENGTH && Records::used(words) <= words.len() as u64;
-    if !whole || !Records::well_formed(&table) {
+    if !well_formed::<Records>(words) {
         return Vec::new();
     }
     let count = words[0] as usize;
@@ -99,6 +106,57 @@ fn own_customer_pokes(words: &[u32]) -> Vec<(usize, u32)> {
             if *provider > 0 && after && before {
                 pokes.push((2 + 4 * nth, *provider));
             }
+        }
+    }
+    pokes
+}
+
+/// Role, index of the first number, and path of each entry with a path, in
+/// well-formed words of a ledger. None for other words.
+fn paths(words: &[u32]) -> Vec<(u32, usize, &[u32])> {
+    if !well_formed::<Routes>(words) {
+        return Vec::new();
+    }
+    let count = words[0] as usize;
+    let body = 2 + Routes::ENTRY * count;
+    let entries = words[2..].chunks(Routes::ENTRY).take(count).filter(|entry| entry[8] > 0);
+    let path = |entry: &[u32]| {
+        let start = body + entry[7] as usize;
+        (entry[1], start, &words[start..][..entry[8] as usize])
+    };
+    entries.map(path).collect()
+}
+
+/// Each word of a ledger and what it must become for two neighbours in one path to
+/// be equal, all other rules being kept: a path's first number is free only from a
+/// route server.
+fn equal_neighbour_pokes(words: &[u32]) -> Vec<(usize, u32)> {
+    let mut pokes = Vec::new();
+    for (role, start, path) in paths(words) {
+        for i in 1..path.len() {
+            pokes.push((start + i, path[i - 1]));
+            if i > 1 || role == 4 {
+                pokes.push((start + i - 1, path[i]));
+            }
+        }
+    }
+    pokes
+}
+
+/// The same for the last number of one path and the first of the next: no fault.
+fn seam_pokes(words: &[u32]) -> Vec<(usize, u32)> {
+    let mut pokes = Vec::new();
+    for pair in paths(words).windows(2) {
+        let ((one, first, before), (other, second, after)) = (pair[0], pair[1]);
+        let (last, next) = (before[before.len() - 1], after[0]);
+        if last == next {
+            continue;
+        }
+        if (before.len() > 1 || one == 4) && before.iter().rev().nth(1) != Some(&next) {
+            pokes.push((first + before.len() - 1, next));
+        }
+        if other == 4 && after.get(1) != Some(&last) {
+            pokes.push((second, last));
         }
     }
     pokes
@@ -173,14 +231,18 @@ impl<W: FnMut(&str, &str) -> io::Result<()>> Stream<W> {
             Self::single_words,
         ];
         phases.extend([Self::snapshots as Phase<Self>; 5]);
-        let own_customer: Phase<Self> = |s| s.damage(REGISTER, Self::poke_own_customer);
-        phases.extend([own_customer; 2]);
         phases.extend([Self::ordinary as Phase<Self>; 12]);
         for damage in [
             |s: &mut Self| s.damage(REGISTER, Self::resize),
             |s: &mut Self| s.damage(LEDGER, Self::resize),
         ] {
             phases.extend([damage as Phase<Self>; 2]);
+        }
+        for damage in [
+            |s: &mut Self| s.damage(REGISTER, Self::poke_one_rule),
+            |s: &mut Self| s.damage(LEDGER, Self::poke_one_rule),
+        ] {
+            phases.extend([damage as Phase<Self>; 3]);
         }
         for damage in [
             |s: &mut Self| s.damage(REGISTER, Self::poke),
@@ -334,9 +396,13 @@ impl<W: FnMut(&str, &str) -> io::Result<()>> Stream<W> {
             _ => self.number(),
         }];
         for _ in 0..steps {
-            let providers = self.providers(path[path.len() - 1]);
+            let last = path[path.len() - 1];
+            let providers = self.providers(last);
             let next = if !providers.is_empty() && self.random.percent(85) {
                 self.random.pick(&providers)
+            } else if self.random.percent(8) {
+                // another in one bit only
+                (last ^ (1 << self.random.below(32))).max(1)
             } else {
                 self.number()
             };
@@ -371,23 +437,49 @@ impl<W: FnMut(&str, &str) -> io::Result<()>> Stream<W> {
         path
     }
 
-    /// Cuts a path into segments, some of their numbers repeated.
+    /// Cuts a path into segments, some of its numbers repeated. A run may go on
+    /// over boundaries, and fill segments of its own.
     fn segments(&mut self, path: &[u32]) -> Vec<(u8, Vec<u32>)> {
-        let mut segments = vec![(2, Vec::new())];
-        for (i, number) in path.iter().enumerate() {
-            if i > 0 && self.random.percent(12) {
-                segments.push((2, Vec::new()));
-                if self.random.percent(30) {
-                    // the number before the boundary again
-                    segments.last_mut().expect("one at least").1.push(path[i - 1]);
+        let mut parts: Vec<Vec<u32>> = Vec::new();
+        for number in path {
+            let times = self.random.pick(&[1, 1, 1, 1, 1, 1, 2, 2, 3, 4]);
+            for nth in 0..times {
+                let cut = if nth == 0 { 12 } else { 40 };
+                match parts.last_mut() {
+                    Some(part) if !self.random.percent(cut) => part.push(*number),
+                    _ => parts.push(vec![*number]),
                 }
             }
-            let times = self.random.pick(&[1, 1, 1, 1, 1, 1, 2, 3]);
-            for _ in 0..times {
-                segments.last_mut().expect("one at least").1.push(*number);
+        }
+        parts.into_iter().map(|part| (2, part)).collect()
+    }
+
+    /// A path in one sequence or in several.
+    fn sequences(&mut self, path: &[u32]) -> Vec<u8> {
+        if self.random.percent(50) {
+            return sequence(path);
+        }
+        self.segments(path).iter().flat_map(|(kind, numbers)| segment(*kind, numbers)).collect()
+    }
+
+    /// 1,024 bytes of long runs, cut anywhere, and the number that stands first.
+    fn longest_attribute(&mut self) -> (u32, Vec<u8>) {
+        // 2 bytes for each segment and 4 for each number
+        let segments = self.random.pick(&[2, 2, 4, 6, 20, 100, 170]);
+        let count = (LONGEST_ATTRIBUTE - 2 * segments) / 4;
+        let length = self.random.pick(&[1, 1, 2, 3, 63, 64, 65]);
+        let path = self.distinct_neighbours(length);
+        let numbers: Vec<u32> = (0..count).map(|i| path[i * length / count]).collect();
+        let mut cuts = vec![0, count];
+        while cuts.len() <= segments {
+            let cut = self.random.between(1, count - 1);
+            if !cuts.contains(&cut) {
+                cuts.push(cut);
             }
         }
-        segments
+        cuts.sort_unstable();
+        let parts: Vec<&[u32]> = cuts.windows(2).map(|cut| &numbers[cut[0]..cut[1]]).collect();
+        (path[0], sequences(&parts))
     }
 
     /// An attribute and the number that stands first in it, or any.
@@ -401,8 +493,8 @@ impl<W: FnMut(&str, &str) -> io::Result<()>> Stream<W> {
             94 => vec![self.number(); 200],
             _ => self.distinct_neighbours(20),
         };
-        let first = path[0];
-        let mut segments = if path.len() < 60 { self.segments(&path) } else { vec![(2, path)] };
+        let mut first = path[0];
+        let mut segments = if path.len() < 100 { self.segments(&path) } else { vec![(2, path)] };
         // Changes to the segments, then to the bytes: most of them faults
         let at = self.random.below(segments.len() + 1);
         let one = vec![self.number(), self.number()];
@@ -434,10 +526,7 @@ impl<W: FnMut(&str, &str) -> io::Result<()>> Stream<W> {
             11 | 12 => bytes.clear(),
             13 => bytes = (0..self.random.below(40)).map(|_| self.random.below(6) as u8).collect(),
             14..=16 => {
-                // 2 + 4 * n + 2 + 4 * (255 - n): 1,024 bytes
-                let n = self.random.between(1, 254);
-                let second = self.random.pick(&[first, first, 1, 2]);
-                bytes = [sequence(&vec![first; n]), sequence(&vec![second; 255 - n])].concat();
+                (first, bytes) = self.longest_attribute();
                 match self.random.below(6) {
                     0 | 1 => bytes.push(2),
                     2 => bytes.extend(sequence(&[first])),
@@ -582,7 +671,7 @@ impl<W: FnMut(&str, &str) -> io::Result<()>> Stream<W> {
             && u64::from(number_at(&file, 3)) == 20 + u64::from(number_at(&file, 2))
             && (28..length).contains(&(number_at(&file, 3) as usize))
             && length.is_multiple_of(4);
-        match self.random.below(21) {
+        match self.random.below(23) {
             0 | 1 if length > 0 => {
                 let at = self.random.below(length);
                 let steps = [1, 255, 2, 64, 128];
@@ -640,11 +729,16 @@ impl<W: FnMut(&str, &str) -> io::Result<()>> Stream<W> {
                 file = snapshot::file(&parts[0], &parts[1]);
             }
             19 => file = file.chunks(4).flat_map(|n| n.iter().rev().copied()).collect(),
-            20 if whole => {
-                let pokes = own_customer_pokes(&parts(&file)[0]);
+            20..=22 if whole => {
+                let [register, ledger] = parts(&file);
+                let (start, pokes) = match self.random.below(7) {
+                    0..=2 => (0, own_customer_pokes(&register)),
+                    3..=5 => (register.len(), equal_neighbour_pokes(&ledger)),
+                    _ => (register.len(), seam_pokes(&ledger)),
+                };
                 if !pokes.is_empty() {
-                    let (index, customer) = self.random.pick(&pokes);
-                    file = with(&file, &[(CONTENTS / 4 + index, customer)]);
+                    let (index, value) = self.random.pick(&pokes);
+                    file = with(&file, &[(CONTENTS / 4 + start + index, value)]);
                 }
             }
             _ => {}
@@ -741,7 +835,7 @@ impl<W: FnMut(&str, &str) -> io::Result<()>> Stream<W> {
         }
         self.show(REGISTER);
         self.long_snapshot();
-        self.own_customer_and_back();
+        self.one_rule_and_back(REGISTER);
         self.clear();
     }
 
@@ -793,7 +887,7 @@ impl<W: FnMut(&str, &str) -> io::Result<()>> Stream<W> {
             self.show(REGISTER);
         }
         self.long_snapshot();
-        self.own_customer_and_back();
+        self.one_rule_and_back(REGISTER);
         self.clear_all();
     }
 
@@ -803,7 +897,7 @@ impl<W: FnMut(&str, &str) -> io::Result<()>> Stream<W> {
         while routes.len() > 6 && self.left > 0 {
             let route = routes.swap_remove(self.random.below(routes.len()));
             let path = self.path();
-            let bytes = if self.random.percent(10) { Vec::new() } else { sequence(&path) };
+            let bytes = if self.random.percent(10) { Vec::new() } else { self.sequences(&path) };
             let role = self.random.between(1, 6);
             self.say(&format!("keep {route} {role} {} {}", path[0], hex(&bytes)));
         }
@@ -826,6 +920,7 @@ impl<W: FnMut(&str, &str) -> io::Result<()>> Stream<W> {
             self.show(LEDGER);
         }
         self.long_snapshot();
+        self.one_rule_and_back(LEDGER);
         self.fewer_routes();
     }
 
@@ -835,8 +930,8 @@ impl<W: FnMut(&str, &str) -> io::Result<()>> Stream<W> {
         for route in 1_000..1_130 {
             let length = if self.random.percent(95) { 64 } else { 63 };
             let path = self.distinct_neighbours(length);
-            let role = self.random.between(1, 6);
-            self.say(&format!("keep {route} {role} {} {}", path[0], hex(&sequence(&path))));
+            let (role, bytes) = (self.random.between(1, 6), self.sequences(&path));
+            self.say(&format!("keep {route} {role} {} {}", path[0], hex(&bytes)));
         }
         for _ in 0..30 {
             let route = self.random.between(1_000, 1_200);
@@ -844,7 +939,7 @@ impl<W: FnMut(&str, &str) -> io::Result<()>> Stream<W> {
             let room = self.path_room().min(64);
             let length = self.random.pick(&[0, 1, 2, 63, 64, 65, room, room + 1, room + 1]);
             let path = self.distinct_neighbours(length);
-            let bytes = if path.is_empty() { Vec::new() } else { sequence(&path) };
+            let bytes = if path.is_empty() { Vec::new() } else { self.sequences(&path) };
             let neighbour = path.first().copied().unwrap_or(9);
             self.say(&format!("keep {route} 3 {neighbour} {}", hex(&bytes)));
             if self.random.percent(20) {
@@ -857,6 +952,7 @@ impl<W: FnMut(&str, &str) -> io::Result<()>> Stream<W> {
             self.show(LEDGER);
         }
         self.long_snapshot();
+        self.one_rule_and_back(LEDGER);
         self.fewer_routes();
     }
 
@@ -1078,11 +1174,16 @@ impl<W: FnMut(&str, &str) -> io::Result<()>> Stream<W> {
         format!("poke {table} {index} {old}")
     }
 
-    /// A list with its own customer in it, and no other fault, if one word can
-    /// do it. Gives the command that undoes it.
-    fn poke_own_customer(&mut self, table: &str) -> String {
+    /// A list with its own customer in it, or a path with equal neighbours, and no
+    /// other fault, if one word can do it; or, now and then, equal numbers of two
+    /// paths. Gives the command that undoes it.
+    fn poke_one_rule(&mut self, table: &str) -> String {
         let words = self.words(table);
-        let pokes = if table == REGISTER { own_customer_pokes(&words) } else { Vec::new() };
+        let pokes = match table {
+            REGISTER => own_customer_pokes(&words),
+            _ if self.random.percent(20) => seam_pokes(&words),
+            _ => equal_neighbour_pokes(&words),
+        };
         if pokes.is_empty() {
             return self.poke(table);
         }
@@ -1091,13 +1192,21 @@ impl<W: FnMut(&str, &str) -> io::Result<()>> Stream<W> {
         format!("poke {table} {index} {}", words[index])
     }
 
-    fn own_customer_and_back(&mut self) {
+    /// A call that is lent this table and leaves it.
+    fn look_at(&mut self, table: &str) {
+        match table {
+            REGISTER => self.judge(),
+            _ => self.say("drop 4000000000"),
+        }
+    }
+
+    fn one_rule_and_back(&mut self, table: &str) {
         for _ in 0..3 {
-            let undo = self.poke_own_customer(REGISTER);
-            self.judge();
+            let undo = self.poke_one_rule(table);
+            self.look_at(table);
             self.say(&undo);
         }
-        self.judge();
+        self.look_at(table);
     }
 
     /// One word at a time, near its own bounds, looked at and put back.
@@ -1110,13 +1219,10 @@ impl<W: FnMut(&str, &str) -> io::Result<()>> Stream<W> {
             let table = self.random.pick(&[REGISTER, LEDGER]);
             let undo = match self.random.below(10) {
                 0..=3 => self.poke(table),
-                4 => self.poke_own_customer(table),
+                4 | 5 => self.poke_one_rule(table),
                 _ => self.poke_entry(table),
             };
-            match table {
-                REGISTER => self.judge(),
-                _ => self.say("drop 4000000000"),
-            }
+            self.look_at(table);
             self.say(&undo);
         }
         if !self.well_formed(REGISTER) || !self.well_formed(LEDGER) {
@@ -1305,6 +1411,10 @@ fn vectors() -> Vec<String> {
     lines.say("empty");
     attributes(&mut lines);
     lines.say("empty");
+    runs_over_boundaries(&mut lines);
+    lines.say("empty");
+    long_runs(&mut lines);
+    lines.say("empty");
     argument_refusals(&mut lines);
     lines.say("empty");
     rejudging(&mut lines);
@@ -1320,6 +1430,10 @@ fn vectors() -> Vec<String> {
     lines.say("empty");
     own_customers_filed(&mut lines);
     own_customers_stored(&mut lines);
+    lines.say("empty");
+    equal_neighbours_stored(&mut lines);
+    lines.say("empty");
+    equal_neighbours_at_each_index(&mut lines);
     lines.say("empty");
     room(&mut lines);
     lines.say("empty");
@@ -1357,6 +1471,12 @@ impl Lines {
 
     fn keep(&mut self, route: u32, role: u32, neighbour: u32, attribute: &[u8]) {
         self.0.push(format!("keep {route} {role} {neighbour} {}", hex(attribute)));
+    }
+
+    /// One sequence, or for no number the empty attribute.
+    fn keep_path(&mut self, route: u32, role: u32, neighbour: u32, path: &[u32]) {
+        let attribute = if path.is_empty() { Vec::new() } else { sequence(path) };
+        self.keep(route, role, neighbour, &attribute);
     }
 
     fn write(&mut self, capacity: usize) {
@@ -1414,13 +1534,17 @@ fn judged_vectors(lines: &mut Lines) {
     lines.judge(b.0, b.1, &sequence(b.2));
     lines.judge(c.0, c.1, &sequence(c.2));
     lines.all(&["clear 7", "file 0 20 40", "rejudge"]);
-    // O: a run doesn't cross a boundary
-    lines.judge(1, 20, &[sequence(&[20]), sequence(&[20, 10])].concat());
-    lines.keep(13, 1, 20, &[sequence(&[20]), sequence(&[20, 10])].concat());
-    // a number that lists itself is refused, and O stays Invalid
+    // O: a run goes on over a boundary
+    let o = sequences(&[&[20], &[20, 10]]);
+    lines.judge(1, 20, &o);
+    lines.keep(13, 1, 20, &o);
+    lines.say("ledger");
+    // a number that lists itself is refused, and O needs no such list
     lines.say("file 5 20 20");
-    lines.judge(1, 20, &[sequence(&[20]), sequence(&[20, 10])].concat());
+    lines.judge(1, 20, &o);
     lines.all(&["rejudge", "ledger"]);
+    // without 10's record, and with it again
+    lines.all(&["withdraw 0 10", "rejudge", "ledger", "file 0 10 20 30", "rejudge", "ledger"]);
     // every role on every path
     for role in 1..=6 {
         for (_, neighbour, path) in A_TO_L {
@@ -1477,17 +1601,20 @@ fn attributes(lines: &mut Lines) {
         lines.judge(role, 1, &sequence(&upto(65)));
         lines.judge(role, 2, &sequence(&upto(65)));
         lines.judge(role, 1, &sequence(&twice));
-        lines.judge(role, 1, &[sequence(&twice), sequence(&[64])].concat());
+        lines.judge(role, 1, &sequences(&[&twice, &[64]]));
+        lines.judge(role, 1, &sequences(&[&twice, &[63]]));
         lines.judge(role, 1, &[sequence(&upto(65)), segment(1, &[1])].concat());
     }
     lines.keep(65, 1, 2, &sequence(&upto(65)));
     lines.keep(66, 1, 1, &sequence(&upto(65)));
     lines.say("ledger");
-    // 1,024 bytes, 1,025
-    let most = [sequence(&[7; 200]), sequence(&[7; 55])].concat();
-    lines.judge(3, 7, &most);
-    lines.judge(1, 7, &most);
-    lines.judge(1, 7, &[most, vec![2]].concat());
+    // 1,024 bytes of one number or of two, 1,025
+    for second in [7, 8] {
+        let most = sequences(&[&[7; 200], &[second; 55]]);
+        lines.judge(3, 7, &most);
+        lines.judge(1, 7, &most);
+        lines.judge(1, 7, &[most, vec![2]].concat());
+    }
     lines.judge(1, 7, &[0; 1_024]);
     lines.judge(1, 7, &[0; 1_025]);
     // the widest gaps, 63 and -63
@@ -1500,13 +1627,188 @@ fn attributes(lines: &mut Lines) {
     }
     lines.judge(6, 1, &sequence(&upto(64)));
     lines.judge(2, 1, &sequence(&upto(64)));
+    // the same path, each number but the ends in two segments
+    let pairs: Vec<u8> = (2..=64).flat_map(|n| sequence(&[n - 1, n])).collect();
+    lines.judge(6, 1, &pairs);
     lines.all(&["file 3 32 0", "file 3 33 0"]);
     lines.judge(3, 1, &sequence(&upto(64)));
     lines.judge(1, 1, &sequence(&upto(64)));
+    lines.judge(1, 1, &pairs);
     lines.say("file 3 31 0");
     lines.judge(3, 1, &sequence(&upto(64)));
+    lines.judge(3, 1, &pairs);
     lines.say("withdraw 3 32");
     lines.judge(3, 1, &sequence(&upto(64)));
+}
+
+/// Runs over the ends of sequences, and numbers that only look like it.
+const RUNS: [&[&[u32]]; 30] = [
+    &[&[20], &[20, 10]],
+    &[&[20], &[20], &[20, 10]],
+    &[&[20], &[20], &[20], &[20, 10]],
+    &[&[20, 20], &[20, 20, 10, 10], &[10, 10]],
+    &[&[30, 10], &[10, 10], &[10, 20]],
+    // a segment that vanishes whole: the last one, one between, several, all but the first
+    &[&[20, 10], &[10]],
+    &[&[20, 10], &[10, 10, 10]],
+    &[&[20, 10], &[10], &[10, 30]],
+    &[&[20, 10], &[10], &[30]],
+    &[&[20, 10], &[10], &[10, 10], &[10], &[40]],
+    &[&[20], &[20]],
+    &[&[20], &[20, 20], &[20], &[20, 20, 20]],
+    // a number that comes back, and the first or another number of the segment before
+    &[&[20, 10], &[20]],
+    &[&[20], &[10], &[20]],
+    &[&[20, 10], &[20, 10]],
+    &[&[20, 10], &[20, 20], &[10]],
+    &[&[20, 10], &[10], &[20]],
+    &[&[20, 10, 30], &[10, 30]],
+    &[&[20, 10, 30], &[20, 10, 30], &[30, 20]],
+    &[&[10, 20, 20], &[10, 10, 20], &[20]],
+    // nothing to merge
+    &[&[20], &[10]],
+    &[&[50], &[40], &[20], &[10]],
+    &[&[50, 40], &[20, 10]],
+    // vectors B, C, F, G, H and J, cut in a run or at it
+    &[&[40, 20], &[20, 10]],
+    &[&[50], &[50, 20], &[20], &[20, 10]],
+    &[&[50, 40], &[40, 20], &[20, 10], &[10]],
+    &[&[20, 20], &[20, 10], &[10, 10, 30], &[30]],
+    &[&[20], &[20], &[10], &[10], &[40], &[40]],
+    &[&[80], &[80, 70], &[70]],
+    &[&[80, 80, 70], &[70], &[80]],
+];
+
+/// Each judged and kept.
+fn runs_over_boundaries(lines: &mut Lines) {
+    lines.all(&REGISTER_D);
+    for parts in RUNS {
+        for role in [1, 3, 4, 6] {
+            let neighbour = if role == 4 { 99 } else { parts[0][0] };
+            lines.judge(role, neighbour, &sequences(parts));
+        }
+    }
+    for (route, parts) in (1..).zip(RUNS) {
+        let role = [3, 1, 6, 4, 2, 5, 1][route % 7];
+        let neighbour = if role == 4 { 99 } else { parts[0][0] };
+        lines.keep(route as u32, role, neighbour, &sequences(parts));
+    }
+    lines.all(&["ledger", "rejudge"]);
+    for change in ["withdraw 0 10", "file 1 10 40", "file 0 30 10", "file 2 20 10", "clear 0"] {
+        lines.all(&[change, "rejudge", "ledger"]);
+    }
+    lines.write(131_072);
+    // every way to cut the same numbers
+    lines.all(&["empty", "file 0 30 10", "file 0 20 40"]);
+    let numbers = [20, 20, 10, 10, 30];
+    for way in 0..16u32 {
+        let cuts: Vec<usize> = (1..5).filter(|i| way >> (i - 1) & 1 == 1).collect();
+        let cuts = [vec![0], cuts, vec![5]].concat();
+        let parts: Vec<&[u32]> = cuts.windows(2).map(|cut| &numbers[cut[0]..cut[1]]).collect();
+        lines.judge(2, 20, &sequences(&parts));
+        lines.keep(way, 3, 20, &sequences(&parts));
+    }
+    lines.all(&["ledger", "clear 0", "rejudge", "ledger"]);
+    // numbers that differ in one bit
+    lines.say("empty");
+    for (route, bit) in (0..).zip([0, 1, 7, 8, 15, 16, 23, 24, 31]) {
+        let (one, other) = (0x4083_2114, 0x4083_2114 ^ (1 << bit));
+        lines.judge(3, one, &sequences(&[&[one], &[other], &[one]]));
+        lines.judge(3, one, &sequences(&[&[one, other], &[other, one], &[one], &[other]]));
+        lines.keep(route, 3, one, &sequences(&[&[one], &[one, other], &[one, one], &[one]]));
+    }
+    lines.judge(3, u32::MAX, &sequences(&[&[u32::MAX], &[u32::MAX], &[1], &[1, u32::MAX]]));
+    lines.all(&["ledger", "rejudge", "drop 4", "rejudge", "ledger"]);
+    // the neighbour is compared before anything is merged
+    for (neighbour, parts) in
+        [(10, [[20, 20], [20, 10]]), (20, [[10, 20], [20, 20]]), (20, [[20, 20], [20, 20]])]
+    {
+        for role in [1, 3, 4] {
+            lines.judge(role, neighbour, &sequences(&[&parts[0], &parts[1]]));
+        }
+    }
+    // sets beside equal numbers
+    for kinds in [[2, 1, 2], [1, 2, 2], [2, 2, 1], [2, 1, 1]] {
+        let attribute: Vec<u8> = kinds.iter().flat_map(|kind| segment(*kind, &[20])).collect();
+        let attribute = [attribute, sequence(&[20, 10])].concat();
+        lines.judge(1, 20, &attribute);
+        lines.judge(4, 99, &attribute);
+        lines.judge(3, 99, &attribute);
+        lines.keep(50, 6, 20, &attribute);
+        lines.all(&["ledger", "drop 50"]);
+    }
+    // faults behind a run and in one, at the places of their bytes
+    let run = sequences(&[&[20], &[20, 20], &[20, 10]]);
+    for text in [
+        "02", "00", "0202", "0201000000", "0000", "05010000000a", "03010000000a", "0400", "0200",
+        "0100", "020100000000", "02020000000a00000000", "02030000000a0000000a00000000",
+        "02010000000a02010000000a02", "02010000000a0300", "01010000000a02010000000a0200",
+    ] {
+        for role in [1, 4] {
+            lines.say(&format!("judge {role} 20 {}{text}", hex(&run)));
+        }
+        lines.say(&format!("keep 50 3 10 {}{text}", hex(&run)));
+    }
+    for parts in [[[20, 20], [0, 20]], [[20, 20], [20, 0]], [[20, 0], [0, 20]]] {
+        lines.judge(1, 20, &sequences(&[&parts[0], &parts[1]]));
+    }
+    lines.say("ledger");
+}
+
+/// A path of so many numbers over so many segments: in an empty register the
+/// answer to role 3 tells how many numbers are left.
+fn long_runs(lines: &mut Lines) {
+    let upto = |n: u32| (1..=n).collect::<Vec<u32>>();
+    let each = |parts: &[Vec<u32>]| -> Vec<u8> { parts.iter().flat_map(|p| sequence(p)).collect() };
+    // one more number than 64 and than 65, but the one before the cut is there twice
+    for cut in [1, 2, 32, 63, 64] {
+        for last in [64, 65] {
+            let attribute = each(&[upto(cut), (cut..=last).collect()]);
+            lines.judge(3, 1, &attribute);
+            lines.judge(1, 2, &attribute);
+            lines.keep(1_000 + cut, 4, 99, &attribute);
+        }
+    }
+    lines.say("ledger");
+    for last in [63, 64, 65] {
+        // segments of one; of two, the first with the number before; of one, each twice
+        let ones: Vec<Vec<u32>> = upto(last).iter().map(|n| vec![*n]).collect();
+        let pairs: Vec<Vec<u32>> = (2..=last).map(|n| vec![n - 1, n]).collect();
+        let twice: Vec<Vec<u32>> = ones.iter().flat_map(|one| [one.clone(), one.clone()]).collect();
+        for parts in [&ones, &pairs, &twice] {
+            lines.judge(3, 1, &each(parts));
+        }
+        // two numbers in turn: nothing to merge
+        let turns: Vec<Vec<u32>> = upto(last).iter().map(|n| vec![n % 2 + 1]).collect();
+        lines.judge(3, 2, &each(&turns));
+        // up to the last number, which then fills segments of its own
+        lines.judge(3, 1, &each(&[vec![upto(last)], vec![vec![last]; 60]].concat()));
+        lines.judge(3, 1, &each(&[vec![vec![1]; 60], vec![upto(last)]].concat()));
+    }
+    // 40 segments of one number, then another; as many as there is room for, and one more
+    let many = [(40, &[10][..]), (40, &[20, 10]), (169, &[10]), (169, &[20]), (170, &[20])];
+    for (route, (segments, then)) in (1..).zip(many) {
+        let attribute = each(&[vec![vec![20]; segments], vec![then.to_vec()]].concat());
+        lines.judge(3, 20, &attribute);
+        lines.judge(1, 20, &attribute);
+        lines.keep(route, 1, 20, &attribute);
+    }
+    lines.judge(3, 1, &each(&upto(170).iter().map(|n| vec![*n]).collect::<Vec<_>>()));
+    lines.say("ledger");
+    // up to 255 numbers, and up to 1,024 bytes of them, of which 1, 2, 3, 64 or 65 are left
+    for length in [1, 2, 3, 64, 65] {
+        let numbers = |count: usize| -> Vec<u32> {
+            (0..count).map(|i| 1 + (i * length / count) as u32).collect()
+        };
+        lines.judge(3, 1, &sequence(&numbers(255)));
+        for cut in [1, 127, 200, 254] {
+            let numbers = numbers(255);
+            lines.judge(3, 1, &sequences(&[&numbers[..cut], &numbers[cut..]]));
+        }
+        let numbers = numbers(254);
+        let (left, right) = numbers.split_at(127);
+        lines.judge(3, 1, &sequences(&[&left[..1], &left[1..], &right[..126], &right[126..]]));
+    }
 }
 
 /// Each row that arguments alone, or what is stored, can give; then orders.
@@ -1641,9 +1943,10 @@ fn one_rule_broken() -> Vec<(Vec<String>, Vec<String>, &'static str)> {
         words.iter().map(|(index, value)| format!("poke {table} {index} {value}")).collect()
     };
     let file = |customer: u32, list: &[u32]| format!("file 0 {customer}{}", numbers(list));
-    // From a route server, so that the first number is free
-    let keep = |route: u32, length: u32| {
-        let path: Vec<u32> = (1..=length).collect();
+    // From a route server, so that the first number is free. A path of two ends with
+    // the number that the next route's begins with.
+    let keep = |route: u32, length: usize| {
+        let path: Vec<u32> = (route + 1..).take(length).collect();
         let attribute = if length == 0 { Vec::new() } else { sequence(&path) };
         format!("keep {route} 4 5 {}", hex(&attribute))
     };
@@ -1718,6 +2021,9 @@ fn one_rule_broken() -> Vec<(Vec<String>, Vec<String>, &'static str)> {
         ),
         // one route twice
         (vec![keep(1, 1), keep(2, 1)], pokes(LEDGER, &[(11, 1)]), drop),
+        // equal neighbours in a path; so by a number more, taken from the second route
+        (vec![keep(1, 2), keep(2, 2)], pokes(LEDGER, &[(21, 2)]), drop),
+        (vec![keep(1, 2), keep(2, 2)], pokes(LEDGER, &[(10, 3), (18, 3), (19, 1)]), drop),
         // ground 2 from a route server
         (vec![keep(1, 0)], pokes(LEDGER, &[(5, 2)]), drop),
     ]
@@ -1848,6 +2154,164 @@ fn own_customers_stored(lines: &mut Lines) {
     }
 }
 
+/// Paths that end with the number that the next one begins with, over an entry
+/// without a path too, and two of one number.
+const SEAMS: [(u32, u32, u32, &[u32]); 7] = [
+    (5, 1, 20, &[20, 10, 30, 40]),
+    (6, 3, 40, &[40, 20, 10, 50]),
+    (7, 4, 9, &[]),
+    (8, 4, 99, &[50, 10, 20]),
+    (9, 2, 20, &[20]),
+    (10, 5, 20, &[20]),
+    (11, 6, 20, &[20, 10, 40, 30]),
+];
+
+fn seams(lines: &mut Lines) {
+    lines.all(&REGISTER_D);
+    for (route, role, neighbour, path) in SEAMS {
+        lines.keep_path(route, role, neighbour, path);
+    }
+}
+
+/// Ledgers and snapshots in which a path has two equal numbers side by side, or
+/// one path ends with the number that the next begins with.
+fn equal_neighbours_stored(lines: &mut Lines) {
+    let start = lines.0.len();
+    seams(lines);
+    let file = file_after(&lines.0[start..]);
+    let [register, ledger] = parts(&file);
+    let number = |index: usize| CONTENTS / 4 + register.len() + index;
+    let pokes = equal_neighbour_pokes(&ledger);
+    let refused = [
+        "keep 9 9 0 02", "keep 12 1 5 -", "keep 5 1 5 -", "drop 5", "drop 99", "rejudge",
+        "write 0", "write 131072",
+    ];
+    // a register alone is lent to these
+    let answered = ["file 1 60 61", "judge 1 20 0202000000140000000a", "withdraw 1 60", "clear 1"];
+    lines.write(131_072);
+    for (index, value) in &pokes {
+        lines.say(&format!("poke ledger {index} {value}"));
+        lines.all(&refused);
+        lines.all(&answered);
+        lines.say("words ledger");
+        lines.say(&format!("poke ledger {index} {}", ledger[*index]));
+        lines.say("rejudge");
+    }
+    lines.say("ledger");
+    // both numbers 0, or both the neighbour
+    for (first, second, value) in [(67, 68, 0), (65, 66, 0), (65, 66, 20), (80, 81, 20)] {
+        for index in [first, second] {
+            lines.all(&[&format!("poke ledger {index} {value}"), "drop 99"]);
+        }
+        for index in [first, second] {
+            lines.all(&[&format!("poke ledger {index} {}", ledger[index]), "drop 99"]);
+        }
+    }
+    // beside a register that is damaged or too short
+    lines.say("poke ledger 66 20");
+    for (first, second) in [
+        ("poke register 0 9", "poke register 0 6"),
+        ("resize register 12289", "resize register 12290"),
+    ] {
+        lines.all(&[first, "keep 12 1 5 -", "rejudge", "write 131072", "drop 5", second]);
+    }
+    // mended by another number than the one that was there
+    lines.all(&["drop 99", "poke ledger 66 60", "rejudge", "ledger", "poke ledger 66 10"]);
+    // paths whose ends are no longer equal, and are again, one end at a time
+    let mut apart = ledger.clone();
+    for (index, value) in [(68, 41), (72, 60), (75, 61)] {
+        apart[index] = value;
+        lines.all(&[&format!("poke ledger {index} {value}"), "drop 99"]);
+    }
+    lines.all(&["rejudge", "ledger"]);
+    for (index, value) in seam_pokes(&apart) {
+        lines.say(&format!("poke ledger {index} {value}"));
+        lines.all(&["drop 99", "keep 6 1 5 -", "rejudge", "ledger", "write 131072"]);
+        lines.all(&[&format!("poke ledger {index} {}", apart[index]), "rejudge"]);
+    }
+    // but this first number is the neighbour's
+    lines.all(&["poke ledger 69 41", "drop 99", "poke ledger 69 40", "drop 99"]);
+    for index in [68, 72, 75] {
+        lines.all(&[&format!("poke ledger {index} {}", ledger[index]), "drop 99"]);
+    }
+    lines.say("rejudge");
+    // each route gone and kept again
+    for (route, role, neighbour, path) in SEAMS {
+        lines.all(&[&format!("drop {route}"), "rejudge", "ledger"]);
+        lines.keep_path(route, role, neighbour, path);
+    }
+    lines.all(&["ledger", "file 0 30 10 40", "rejudge", "ledger"]);
+    // as snapshots, which leave the tables; each mended, and some with other faults
+    lines.write(131_072);
+    for (index, value) in &pokes {
+        lines.read(&with(&file, &[(number(*index), *value)]));
+    }
+    lines.write(131_072);
+    for (index, value) in [pokes[0], pokes[pokes.len() / 2], pokes[pokes.len() - 1]] {
+        let equal = with(&file, &[(number(index), value)]);
+        for other in [(5, 9), (0, 2), (1, 24), (number(0), 9)] {
+            lines.read(&with(&equal, &[other]));
+        }
+        lines.read(&equal[..file.len() - 1]);
+        lines.read(&equal);
+        lines.read_and_write(&with(&equal, &[(number(index), 77)]));
+        lines.read_and_write(&file);
+    }
+    for (index, value) in [(68, 41), (72, 60), (73, 51)] {
+        lines.read_and_write(&with(&file, &[(number(index), value)]));
+    }
+    lines.read(&file);
+    // read over a ledger with this fault, which a refused read leaves
+    lines.say("poke ledger 66 20");
+    lines.read(&with(&file, &[(number(66), 20)]));
+    lines.all(&SHOW);
+    lines.read(&file);
+    lines.all(&SHOW);
+    lines.say("rejudge");
+    // vector O as it was kept before runs went on over boundaries, and its path merged
+    let old = [1, 3, 13, 1, 20, 0, 1, 3, 0, 0, 3, 20, 20, 10];
+    let new = [1, 2, 13, 1, 20, 0, 1, 3, 0, 0, 2, 20, 10];
+    lines.read_parts(&[register.clone(), old.to_vec()]);
+    lines.all(&SHOW);
+    lines.read_parts(&[register, new.to_vec()]);
+    lines.all(&["ledger", "rejudge", "ledger"]);
+    // where one path ends and the next begins: 20 10 | 10 30, 20 10 10 | 30, 20 10 30 | 30,
+    // 20 | 10 30 30, 20 | 10 30 10
+    lines.say("empty");
+    lines.keep(1, 1, 20, &sequence(&[20, 10]));
+    lines.keep(2, 4, 5, &sequence(&[10, 30]));
+    lines.all(&["poke ledger 10 3", "poke ledger 18 3", "poke ledger 19 1", "rejudge"]);
+    lines.all(&["poke ledger 22 30", "rejudge", "ledger"]);
+    lines.all(&["poke ledger 10 1", "poke ledger 18 1", "poke ledger 19 3", "rejudge"]);
+    lines.all(&["poke ledger 23 10", "rejudge", "ledger", "drop 1", "rejudge", "ledger"]);
+    // the word before the first path is its first number: the last count, 2
+    lines.say("empty");
+    lines.keep(1, 1, 2, &sequence(&[2, 3]));
+    lines.all(&["rejudge", "poke ledger 12 2", "rejudge", "poke ledger 12 4", "rejudge", "ledger"]);
+}
+
+/// Paths of many lengths, each from the number on that the one before ends with.
+fn equal_neighbours_at_each_index(lines: &mut Lines) {
+    let start = lines.0.len();
+    let mut first = 1;
+    for (route, length) in (0..).zip([1, 2, 3, 17, 64, 33]) {
+        let path: Vec<u32> = (first..).take(length).collect();
+        lines.keep(route, 3, first, &sequence(&path));
+        first = path[length - 1];
+    }
+    let [_, ledger] = parts(&file_after(&lines.0[start..]));
+    lines.say("ledger");
+    for (_, start, path) in paths(&ledger) {
+        for i in 1..path.len() {
+            lines.say(&format!("poke ledger {} {}", start + i, path[i - 1]));
+            lines.say("drop 77");
+            lines.say(&format!("poke ledger {} {}", start + i, path[i]));
+        }
+        lines.say("drop 77");
+    }
+    lines.all(&["rejudge", "ledger"]);
+}
+
 fn room(lines: &mut Lines) {
     for customer in 1..=1_024 {
         lines.file(customer % 8, customer, &[3_000]);
@@ -1889,6 +2353,12 @@ fn room(lines: &mut Lines) {
     lines.keep(3, 1, 1, &path);
     lines.say("drop 128");
     lines.keep(3, 1, 1, &path);
+    // only what is left of a path needs room
+    let again = [path.clone(), sequence(&[64])].concat();
+    lines.keep(128, 1, 1, &again);
+    lines.say("drop 5");
+    lines.keep(5, 1, 1, &[path, sequence(&[63])].concat());
+    lines.keep(5, 1, 1, &again);
     lines.all(&["file 0 64 63", "rejudge", "rejudge"]);
 }
 
@@ -2461,6 +2931,13 @@ fn full_snapshot(lines: &mut Lines) {
         lines.all(&[&format!("poke register {index} {customer}"), "rejudge", "write 131072"]);
         lines.all(&[&format!("poke register {index} {old}"), "rejudge"]);
     }
+    // equal neighbours in the first, a middle and the last path, and of two paths
+    for (index, value, old) in
+        [(4_611, 16, 15), (8_714, 521, 520), (12_801, 1_024, 1_023), (4_625, 18, 1)]
+    {
+        lines.all(&[&format!("poke ledger {index} {value}"), "rejudge", "write 100387"]);
+        lines.all(&[&format!("poke ledger {index} {old}"), "rejudge"]);
+    }
     // one word more than the table has; as many as it has, of which two are used
     lines.read(&with(&file[..20], &[(2, 49_164), (3, 49_184)]));
     lines.read(&with(&file[..20], &[(4, 51_212)]));
@@ -2515,6 +2992,7 @@ fn recorded(out: &mut impl Write) -> io::Result<()> {
 #[cfg(test)]
 mod tests {
     use super::*;
+    use reference::judge;
     use std::collections::{BTreeMap, BTreeSet};
 
     const ROWS: [(&str, &[u32]); 9] = [
@@ -2546,11 +3024,7 @@ mod tests {
 
     /// False for some words that hold great numbers.
     fn only_own_customer(words: &[u32]) -> bool {
-        let well_formed = |words: &[u32]| {
-            Records::used(words) <= words.len() as u64
-                && words.len() <= Records::LENGTH
-                && Records::well_formed(&padded(words.to_vec(), Records::LENGTH))
-        };
+        let well_formed = well_formed::<Records>;
         !well_formed(words) && apart(words).is_some_and(|words| well_formed(&words))
     }
 
@@ -2572,7 +3046,7 @@ mod tests {
         }
         let mut model = Model::new();
         let mut checked = 0;
-        random_stream(31, 6_000, |line, _| {
+        random_stream(31, 8_000, |line, _| {
             console::answer(&mut model, line.as_bytes());
             let words = model.register.used_words();
             if line.starts_with("clear") && words.len() < 300 {
@@ -2589,6 +3063,167 @@ mod tests {
         })
         .unwrap();
         assert!(checked > 200, "{checked}");
+    }
+
+    /// The words with numbers in paths that are even and odd in turn, and neighbours
+    /// to match: each rule says of them what it said, but no path has equal neighbours.
+    fn alternating(words: &[u32]) -> Option<Vec<u32>> {
+        let twice = |number: u32, index: usize| match number {
+            0 => Some(0),
+            _ => Some(number.checked_mul(2)? + (index % 2) as u32),
+        };
+        let used = Routes::used(words);
+        if used > words.len() as u64 {
+            return None;
+        }
+        let mut words = words.to_vec();
+        let body = 2 + 9 * words[0] as usize;
+        for entry in (2..body).step_by(9) {
+            words[entry + 2] = twice(words[entry + 2], body + words[entry + 7] as usize)?;
+        }
+        for index in body..used as usize {
+            words[index] = twice(words[index], index)?;
+        }
+        Some(words)
+    }
+
+    /// False for some words that hold great numbers.
+    fn only_equal_neighbours(words: &[u32]) -> bool {
+        let well_formed = well_formed::<Routes>;
+        !well_formed(words) && alternating(words).is_some_and(|words| well_formed(&words))
+    }
+
+    #[test]
+    fn pokes_of_equal_neighbours_are_no_other_fault() {
+        let mut lines = Lines(Vec::new());
+        seams(&mut lines);
+        let [_, words] = parts(&file_after(&lines.0));
+        // three pairs in paths of four, from both sides but for the first number
+        assert_eq!(equal_neighbour_pokes(&words).len(), 3 * 5 + 4);
+        assert!(seam_pokes(&words).is_empty());
+        let mut model = Model::new();
+        let mut checked = [0; 2];
+        random_stream(32, 6_000, |line, _| {
+            console::answer(&mut model, line.as_bytes());
+            let words = model.ledger.used_words();
+            if line.starts_with("drop") && words.len() < 300 {
+                let poked = |(index, value): (usize, u32)| {
+                    let mut poked = words.clone();
+                    poked[index] = value;
+                    poked
+                };
+                for poked in equal_neighbour_pokes(&words).into_iter().map(poked) {
+                    if alternating(&poked).is_some() {
+                        assert!(only_equal_neighbours(&poked), "{poked:?}");
+                        checked[0] += 1;
+                    }
+                }
+                for poked in seam_pokes(&words).into_iter().map(poked) {
+                    assert!(well_formed::<Routes>(&poked), "{poked:?}");
+                    checked[1] += 1;
+                }
+            }
+            Ok(())
+        })
+        .unwrap();
+        assert!(checked[0] > 1_000 && checked[1] > 200, "{checked:?}");
+    }
+
+    /// What the boundaries of an attribute without a ground are like, and the edges
+    /// of its length.
+    fn boundaries(attribute: &[u8]) -> Vec<&'static str> {
+        let segments = judge::read(attribute).unwrap();
+        let mut kinds = Vec::new();
+        let mut vanished = false;
+        for (nth, pair) in segments.windows(2).enumerate() {
+            let (before, after) = (&pair[0].numbers, &pair[1].numbers);
+            let last = before[before.len() - 1];
+            let vanishes = after.iter().all(|number| *number == last);
+            let at_the_end = nth + 2 == segments.len();
+            let low_byte = last.0 as u8 == after[0].0 as u8;
+            for (kind, given) in [
+                ("run", last == after[0]),
+                ("no run", last != after[0]),
+                ("the first number before", last != after[0] && before[0] == after[0]),
+                ("the low byte alone", last != after[0] && low_byte),
+                ("one vanishes", vanishes && !at_the_end),
+                ("last vanishes", vanishes && at_the_end),
+                ("two vanish", vanishes && vanished),
+            ] {
+                kinds.extend(given.then_some(kind));
+            }
+            vanished = vanishes;
+        }
+        if kinds.contains(&"run") {
+            let apart: usize =
+                segments.iter().map(|segment| judge::merged(&[segment.clone()]).len()).sum();
+            kinds.extend(match (judge::merged(&segments).len(), apart) {
+                (64, 65..) => Some("64 left of more"),
+                (65, _) => Some("65 left"),
+                (..64, 65..) => Some("fewer left of more"),
+                _ => None,
+            });
+            if attribute.len() == LONGEST_ATTRIBUTE {
+                kinds.push("run in 1,024 bytes");
+            }
+        }
+        kinds
+    }
+
+    /// Runs over boundaries, pokes and reads with equal neighbours and no other
+    /// fault, and equal numbers of two paths under calls that are lent the ledger.
+    #[test]
+    fn runs_and_equal_neighbours_are_drawn() {
+        let mut seen: BTreeMap<&str, usize> = BTreeMap::new();
+        for seed in 1..=4 {
+            let mut model = Model::new();
+            random_stream(seed, 8_000, |line, answer| {
+                let before = model.ledger.used_words();
+                let sound = model.ledger.well_formed();
+                console::answer(&mut model, line.as_bytes());
+                let words: Vec<&str> = line.split(' ').collect();
+                let judged = answer.starts_with("refused 17")
+                    || ["Valid", "Invalid", "Unknown"]
+                        .contains(&answer.split(' ').next().unwrap_or(""));
+                let mut kinds = match words[0] {
+                    "judge" | "keep" if judged && !answer.contains("ground") => {
+                        boundaries(&console::bytes(words[words.len() - 1]).unwrap())
+                    }
+                    "poke" if sound && only_equal_neighbours(&model.ledger.words()) => vec!["poke"],
+                    "read" if answer == "refused 3" => {
+                        let [_, ledger] = parts(&console::bytes(words[1]).unwrap());
+                        only_equal_neighbours(&ledger).then_some("read").into_iter().collect()
+                    }
+                    _ => vec![],
+                };
+                let lent = ["keep", "drop", "rejudge", "write"].contains(&words[0]);
+                let paths = paths(&before);
+                if lent && paths.windows(2).any(|pair| pair[0].2.last() == pair[1].2.first()) {
+                    kinds.push("equal ends");
+                }
+                kinds.iter().for_each(|kind| *seen.entry(kind).or_default() += 1);
+                Ok(())
+            })
+            .unwrap();
+        }
+        for (kind, least) in [
+            ("run", 1_000),
+            ("no run", 1_000),
+            ("one vanishes", 400),
+            ("two vanish", 100),
+            ("last vanishes", 100),
+            ("the first number before", 100),
+            ("the low byte alone", 20),
+            ("64 left of more", 10),
+            ("65 left", 10),
+            ("fewer left of more", 5),
+            ("run in 1,024 bytes", 40),
+            ("poke", 30),
+            ("read", 12),
+            ("equal ends", 1_000),
+        ] {
+            assert!(seen.get(kind).is_some_and(|count| *count >= least), "{kind}: {seen:?}");
+        }
     }
 
     /// Where a list holds its customer.
