@@ -38,9 +38,9 @@ extern "C" {
 
 /* The version of this header and of the library that is installed with it. */
 #define ASPA_FILTER_VERSION_MAJOR 0
-#define ASPA_FILTER_VERSION_MINOR 4
+#define ASPA_FILTER_VERSION_MINOR 5
 #define ASPA_FILTER_VERSION_PATCH 0
-#define ASPA_FILTER_VERSION "0.4.0"
+#define ASPA_FILTER_VERSION "0.5.0"
 
 /* gcc and clang warn about a call whose result is not used. */
 #if defined(__GNUC__) || defined(__clang__)
@@ -199,7 +199,8 @@ uint32_t aspa_clear(uint32_t *reg, size_t reg_len, uint32_t source, uint32_t out
 
 /*
  * Judges a route by the register: the role and the AS number of the neighbour that sent it, and its AS_PATH attribute
- * value with four-byte numbers. Changes no table. Rows 1, 2, 9 to 17.
+ * value with four-byte numbers. Changes no table. Rows 1, 2, 9 to 17. What is judged is the merged path, in which a run
+ * of one number counts once, over the ends of segments too; before 0.5.0 a run ended with its segment.
  *   out[0]  the verdict: ASPA_VALID, ASPA_INVALID or ASPA_UNKNOWN.
  *   out[1]  the ground of an Invalid, 0 if it has none.
  *   out[2]  place a and
@@ -223,7 +224,9 @@ uint32_t aspa_judge(const uint32_t *reg, size_t reg_len, uint32_t role, uint32_t
 
 /*
  * Judges a route as aspa_judge does, and keeps it in the ledger under a route number of the caller's, with the ground,
- * the verdict and the places of that answer. Rows 1, 2, 3, 9 to 17, 18, 20.
+ * the verdict and the places of that answer and, without a ground, its merged path. Rows 1, 2, 3, 9 to 17, 18, 20. A
+ * ledger in which two equal numbers stand side by side on a path is malformed, in a snapshot too; before 0.5.0 it was
+ * not. The last number of one path and the first of the next may be equal.
  *   out, *gap: as aspa_judge answers.
  */
 ASPA_USE_RESULT

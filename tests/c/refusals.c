@@ -1,7 +1,7 @@
 /*
  * Every refusal of every call, through C: the number that is returned, the words that are written in place of an answer,
- * and that no word of a table and no byte of an output changes. Then snapshots written and read, null with length 0, and
- * the conveniences of the header.
+ * and that no word of a table and no byte of an output changes. Then runs of one number over the ends of segments,
+ * snapshots written and read, null with length 0, and the conveniences of the header.
  */
 #include <inttypes.h>
 #include <stdint.h>
@@ -481,6 +481,275 @@ static void routes(void) {
     CHECK(aspa_drop(ledger, L, 7) == ASPA_OK);
 }
 
+/* Adds one sequence to an attribute that has so many bytes, and gives how many it has then. */
+static size_t add_sequence(uint8_t *attribute, size_t length, const uint32_t *numbers, size_t n) {
+    size_t i;
+    attribute[length] = 2;
+    attribute[length + 1] = (uint8_t)n;
+    for (i = 0; i < n; i++)
+        put(attribute + length + 2, i, numbers[i]);
+    return length + 2 + 4 * n;
+}
+
+static size_t until_zero(const uint32_t *numbers) {
+    size_t n = 0;
+    while (numbers[n] != 0)
+        n++;
+    return n;
+}
+
+/* Sequences from a list of numbers: a 0 ends each, and one more the list. Gives the attribute's length. */
+static size_t sequences(uint8_t *attribute, const uint32_t *numbers) {
+    size_t n, length = 0;
+    for (; (n = until_zero(numbers)) > 0; numbers += n + 1)
+        length = add_sequence(attribute, length, numbers, n);
+    return length;
+}
+
+/* Register D of the worked vectors, and no route. */
+static void register_d(void) {
+    static const uint32_t lists[][4] = {{10, 20, 30}, {20, 40}, {40}, {50, 40}, {70, 80}, {80, 70}};
+    size_t i, n;
+    memset(reg, 0, sizeof reg_before);
+    memset(ledger, 0, sizeof ledger_before);
+    for (i = 0; i < sizeof lists / sizeof *lists; i++) {
+        /* A list without numbers is {0}: nobody. */
+        n = until_zero(lists[i] + 1);
+        CHECK(aspa_file(reg, R, 0, lists[i][0], lists[i] + 1, n > 0 ? n : 1, fresh()) == ASPA_OK);
+    }
+}
+
+/* An attribute is judged and kept, in every role, as one sequence of the numbers to which it merges. */
+static void merges_to(const uint8_t *attribute, size_t length, const uint32_t *merged, size_t n, int line) {
+    uint8_t once[2 + 4 * ASPA_MOST_PATH];
+    uint32_t role, result, words[ASPA_ANSWER_WORDS];
+    int32_t gap;
+    aspa_answer a;
+    size_t once_length = add_sequence(once, 0, merged, n);
+    for (role = ASPA_ROLE_CUSTOMER; role <= ASPA_ROLE_MUTUAL_TRANSIT; role++) {
+        uint8_t *bytes = exactly(from(role, merged[0], attribute, length));
+        remember();
+        a = aspa_judge_route(reg, R, role, merged[0], bytes, length);
+        check(a.refusal == ASPA_OK && a.ground == ASPA_GROUND_NONE && a.verdict != ASPA_NO_VERDICT, "judged", line);
+        check(unchanged(), "tables of a judging", line);
+        result = aspa_judge(reg, R, role, merged[0], once, once_length, words, &gap);
+        same_words(a, result, words, gap, line);
+        result = aspa_keep(reg, R, ledger, L, 0, role, merged[0], bytes, length, words, &gap);
+        same_words(a, result, words, gap, line);
+        check(aspa_route(ledger, 0)[ASPA_ROUTE_COUNT] == n, "the length of the kept path", line);
+        check(memcmp(aspa_path(ledger, 0), merged, n * sizeof *merged) == 0, "the kept path", line);
+        remember();
+        check(aspa_drop(ledger, L, 0) == ASPA_OK, "dropped", line);
+        result = aspa_keep(reg, R, ledger, L, 0, role, merged[0], once, once_length, words, &gap);
+        same_words(a, result, words, gap, line);
+        check(unchanged(), "every word of the ledger", line);
+        check(aspa_drop(ledger, L, 0) == ASPA_OK, "dropped again", line);
+        free(bytes);
+    }
+}
+
+/* A run of one number counts once, also over the ends of segments. */
+static void runs(void) {
+    /* Sequences, and what they merge to. */
+    static const struct {
+        uint32_t numbers[16], merged[8];
+    } cases[] = {
+        {{20, 0, 20, 10}, {20, 10}},
+        {{20, 20, 10}, {20, 10}},
+        {{20, 0, 20, 0, 20, 20, 0, 20, 10}, {20, 10}},
+        /* Whole segments that go: the first, one between, two between, the last, all but one. */
+        {{20, 20, 0, 20, 10, 30}, {20, 10, 30}},
+        {{20, 10, 0, 10, 0, 40}, {20, 10, 40}},
+        {{20, 10, 0, 10, 10, 0, 10, 0, 10, 40}, {20, 10, 40}},
+        {{20, 10, 0, 10, 10, 10}, {20, 10}},
+        {{20, 0, 20, 0, 20, 20}, {20}},
+        /* Runs over both ends of a segment. */
+        {{40, 20, 20, 0, 20, 10, 10, 0, 10, 20, 0, 20, 40}, {40, 20, 10, 20, 40}},
+        /* Nothing to merge: a number that comes back, and numbers that differ in one byte. */
+        {{20, 10, 0, 20, 10}, {20, 10, 20, 10}},
+        {{20, 10, 20, 0, 10, 0, 20}, {20, 10, 20, 10, 20}},
+        {{20, 0, 0x114, 0, 0x1000014, 0, 20}, {20, 0x114, 0x1000014, 20}},
+    };
+    /* The words of route 13, which is vector O. */
+    static const uint32_t kept[] = {1, 2, 13, 1, 20, 0, 0, 0, 0, 0, 2, 20, 10};
+    uint8_t attribute[ASPA_MOST_ATTRIBUTE_BYTES];
+    uint32_t numbers[ASPA_MOST_PATH + 1], run[254], i;
+    size_t length, cut;
+    aspa_answer a;
+    register_d();
+    length = sequences(attribute, cases[0].numbers);
+    remember();
+    a = aspa_judge_route(reg, R, ASPA_ROLE_CUSTOMER, 20, attribute, length);
+    CHECK(a.refusal == ASPA_OK && a.verdict == ASPA_VALID && a.place_a == 0 && a.place_b == 0 && a.has_gap == 0);
+    CHECK(unchanged());
+    a = aspa_keep_route(reg, R, ledger, L, 13, ASPA_ROLE_CUSTOMER, 20, attribute, length);
+    CHECK(a.refusal == ASPA_OK && a.verdict == ASPA_VALID);
+    memcpy(ledger_before, kept, sizeof kept);
+    CHECK(unchanged());
+    CHECK(aspa_drop(ledger, L, 13) == ASPA_OK);
+    for (i = 0; i < sizeof cases / sizeof *cases; i++) {
+        length = sequences(attribute, cases[i].numbers);
+        merges_to(attribute, length, cases[i].merged, until_zero(cases[i].merged), __LINE__);
+    }
+    /* 255 times one number, the most that two segments have room for. */
+    for (i = 0; i < sizeof run / sizeof *run; i++)
+        run[i] = 20;
+    for (cut = 1; cut < 255; cut += 23) {
+        length = add_sequence(attribute, 0, run, cut);
+        length = add_sequence(attribute, length, run, 255 - cut);
+        CHECK(length == ASPA_MOST_ATTRIBUTE_BYTES);
+        merges_to(attribute, length, run, 1, __LINE__);
+    }
+    /* One number more than a path may have, but the one before the cut is there twice: 64 are left. Then 65 are. */
+    for (i = 0; i <= ASPA_MOST_PATH; i++)
+        numbers[i] = 1000 + i;
+    for (cut = 1; cut <= ASPA_MOST_PATH; cut++) {
+        length = add_sequence(attribute, 0, numbers, cut);
+        length = add_sequence(attribute, length, numbers + cut - 1, ASPA_MOST_PATH - cut + 1);
+        CHECK(length == 4 + 4 * (ASPA_MOST_PATH + 1));
+        merges_to(attribute, length, numbers, ASPA_MOST_PATH, __LINE__);
+    }
+    remember();
+    for (cut = 1; cut <= ASPA_MOST_PATH + 1; cut++) {
+        length = add_sequence(attribute, 0, numbers, cut);
+        length = add_sequence(attribute, length, numbers + cut - 1, ASPA_MOST_PATH - cut + 2);
+        REFUSED_ROUTE(from(1, 1000, attribute, length), ASPA_REFUSED_PATH_LENGTH, 0);
+    }
+    /* 65 numbers without a run over the cut are too many. */
+    length = add_sequence(attribute, 0, numbers, 30);
+    length = add_sequence(attribute, length, numbers + 30, ASPA_MOST_PATH + 1 - 30);
+    REFUSED_ROUTE(from(1, 1000, attribute, length), ASPA_REFUSED_PATH_LENGTH, 0);
+    /* Grounds go by the segments, and places by the bytes, as they stand. */
+    length = sequences(attribute, cases[0].numbers);
+    a = aspa_judge_route(reg, R, ASPA_ROLE_CUSTOMER, 30, attribute, length);
+    CHECK(a.refusal == ASPA_OK && a.verdict == ASPA_INVALID && a.ground == ASPA_GROUND_NOT_NEIGHBOUR);
+    attribute[6] = 1;
+    a = aspa_judge_route(reg, R, ASPA_ROLE_CUSTOMER, 20, attribute, length);
+    CHECK(a.refusal == ASPA_OK && a.verdict == ASPA_INVALID && a.ground == ASPA_GROUND_AS_SET);
+    attribute[6] = 2;
+    attribute[length] = 2;
+    REFUSED_ROUTE(from(1, 20, attribute, length + 1), ASPA_REFUSED_CUT_SHORT, 16);
+    put(attribute + 8, 1, 0);
+    REFUSED_ROUTE(from(1, 20, attribute, length), ASPA_REFUSED_AS_ZERO, 12);
+}
+
+/* Five routes: number, role and path. Each path ends with the number that begins the next; route 8 has none, by a ground. */
+static const uint32_t ends[][2 + 5] = {
+    {7, 1, 20, 10, 30, 40}, {8, 3}, {9, 4, 40, 30, 20}, {10, 2, 20}, {11, 6, 20, 10, 40}};
+#define ENDS (sizeof ends / sizeof *ends)
+
+/* Register D and these routes. */
+static void equal_ends(void) {
+    uint8_t attribute[2 + 4 * 5];
+    size_t i, n, length;
+    register_d();
+    for (i = 0; i < ENDS; i++) {
+        n = until_zero(ends[i] + 2);
+        length = n > 0 ? add_sequence(attribute, 0, ends[i] + 2, n) : 0;
+        CHECK(aspa_keep_route(reg, R, ledger, L, ends[i][0], ends[i][1], n > 0 ? ends[i][2] : 20, attribute, length)
+                  .refusal == ASPA_OK);
+    }
+    remember();
+}
+
+/* The calls that are lent the ledger take it: all routes are judged again, one is kept and dropped, and both tables are
+   written and read. */
+static void ledger_taken(int line) {
+    uint8_t file[1000];
+    uint32_t length;
+    check(aspa_rejudge(reg, R, ledger, L, fresh()) == ASPA_OK && out[0] != ASPA_NO_COUNT, "judged again", line);
+    remember();
+    check(aspa_keep_route(reg, R, ledger, L, 1, 1, 20, path, sizeof path).refusal == ASPA_OK, "kept", line);
+    check(!unchanged(), "the route is there", line);
+    check(aspa_drop(ledger, L, 1) == ASPA_OK, "dropped", line);
+    check(unchanged(), "the route is gone", line);
+    check(aspa_write(reg, R, ledger, L, file, sizeof file, fresh()) == ASPA_OK, "written", line);
+    length = out[0];
+    memset(ledger, 0xAA, sizeof ledger_before);
+    check(read_exactly(file, length, R, L, line) == ASPA_OK, "read", line);
+    check(unchanged(), "every word that was written", line);
+}
+
+/* A ledger whose one fault is that this word has the value of the number beside it on the path, and a file of it. */
+static void equal_neighbours(size_t word, uint32_t value, int line) {
+    uint8_t file[1000];
+    uint32_t length, before;
+    size_t in_file;
+    equal_ends();
+    CHECK(aspa_write(reg, R, ledger, L, file, sizeof file, fresh()) == ASPA_OK);
+    length = out[0];
+    in_file = length / 4 - (ASPA_COUNT_WORDS + ASPA_ROUTE_WORDS * ENDS + ledger[ASPA_COUNT_NUMBERS]) + word;
+    put(file, in_file, value);
+    not_read(file, length, R, L, ASPA_REFUSED_LEDGER_MALFORMED, line);
+    before = ledger[word];
+    check(before != value, "another number", line);
+    ledger[word] = value;
+    remember();
+    ledger_refused(L, ASPA_REFUSED_LEDGER_MALFORMED);
+    not_read(file, length, R, L, ASPA_REFUSED_LEDGER_MALFORMED, line);
+    /* The register's fault goes first, and the ledger before the route. */
+    put(file, ASPA_CONTENTS_BYTES / 4 + ASPA_COUNT_WORDS + ASPA_RECORD_CUSTOMER, 0);
+    not_read(file, length, R, L, ASPA_REFUSED_REGISTER_MALFORMED, line);
+    not_kept(R, L, 7, from(9, 0, path, sizeof path), ASPA_REFUSED_LEDGER_MALFORMED, 0, line);
+    /* Who is not lent the ledger does not look at it. */
+    check(aspa_judge_route(reg, R, 1, 20, path, sizeof path).verdict == ASPA_VALID, "judged", line);
+    check(aspa_clear(reg, R, 3, fresh()) == ASPA_OK && out[0] == 0, "cleared", line);
+    check(unchanged(), "tables of a judging and a clearing of nothing", line);
+    /* With another number, or the one that stood there, it is a ledger again, and so is the file's. */
+    ledger[word] = 77;
+    ledger_taken(line);
+    ledger[word] = before;
+    ledger_taken(line);
+    put(file, ASPA_CONTENTS_BYTES / 4 + ASPA_COUNT_WORDS + ASPA_RECORD_CUSTOMER, 10);
+    put(file, in_file, before);
+    equal_ends();
+    memset(reg, 0xAA, sizeof reg_before);
+    memset(ledger, 0xAA, sizeof ledger_before);
+    check(read_exactly(file, length, R, L, line) == ASPA_OK, "mended", line);
+    check(unchanged(), "the tables of the file", line);
+}
+
+/* Two equal numbers side by side on a path are a fault; at the end of one path and the start of the next they are not. */
+static void equal_neighbours_held(void) {
+    /* The file of vector O as a version before 0.5.0 wrote it, and with its path merged. */
+    static const uint32_t unmerged[] = {1, 20, 28, 48, 56, 1,  1, 10, 0, 0, 1, 20, 1,
+                                        3, 13, 1,  20, 0,  1, 3, 0,  0, 3, 20, 20, 10};
+    static const uint32_t mended[] = {1, 20, 28, 48, 52, 1,  1, 10, 0, 0, 1, 20, 1,
+                                      2, 13, 1,  20, 0,  1, 3, 0,  0, 2, 20, 10};
+    uint8_t file[sizeof unmerged];
+    size_t i, j, n, word = ASPA_COUNT_WORDS + ASPA_ROUTE_WORDS * ENDS;
+    equal_ends();
+    ledger_taken(__LINE__);
+    /* Each two neighbours of a path, either made equal to the other. A first number is free only from a route server. */
+    for (i = 0; i < ENDS; i++) {
+        n = until_zero(ends[i] + 2);
+        for (j = 1; j < n; j++) {
+            equal_neighbours(word + j, ends[i][2 + j - 1], __LINE__);
+            if (j > 1 || ends[i][1] == ASPA_ROLE_ROUTE_SERVER)
+                equal_neighbours(word + j - 1, ends[i][2 + j], __LINE__);
+        }
+        word += n;
+    }
+    CHECK(word == ASPA_COUNT_WORDS + ASPA_ROUTE_WORDS * ENDS + ledger[ASPA_COUNT_NUMBERS]);
+    /* Each route goes, and other ends meet. */
+    for (i = 0; i < ENDS; i++) {
+        equal_ends();
+        CHECK(aspa_drop(ledger, L, ends[i][0]) == ASPA_OK);
+        CHECK(ledger[ASPA_COUNT_ENTRIES] == ENDS - 1);
+        ledger_taken(__LINE__);
+    }
+    begin();
+    for (i = 0; i < sizeof unmerged / sizeof *unmerged; i++)
+        put(file, i, unmerged[i]);
+    not_read(file, sizeof unmerged, R, L, ASPA_REFUSED_LEDGER_MALFORMED, __LINE__);
+    for (i = 0; i < sizeof mended / sizeof *mended; i++)
+        put(file, i, mended[i]);
+    CHECK(read_exactly(file, sizeof mended, R, L, __LINE__) == ASPA_OK);
+    CHECK(aspa_route(ledger, 0)[ASPA_ROUTE_NUMBER] == 13 && aspa_route(ledger, 0)[ASPA_ROUTE_VERDICT] == ASPA_INVALID);
+    CHECK(aspa_rejudge(reg, R, ledger, L, fresh()) == ASPA_OK && out[0] == 1);
+    CHECK(aspa_route(ledger, 0)[ASPA_ROUTE_VERDICT] == ASPA_VALID && aspa_route(ledger, 0)[ASPA_ROUTE_PLACE_A] == 0);
+}
+
 /* Writes both tables, into an output with so many bytes more than the file has, and reads the file over other words. */
 static void round_trip(uint32_t length, size_t more, int line) {
     uint8_t *output = output_of(length + more), *again = output_of(length);
@@ -615,6 +884,8 @@ static void snapshots(void) {
     DAMAGED(15, 7, ASPA_REFUSED_LEDGER_MALFORMED);
     DAMAGED(18, ASPA_NO_VERDICT, ASPA_REFUSED_LEDGER_MALFORMED);
     DAMAGED(24, 0, ASPA_REFUSED_LEDGER_MALFORMED);
+    /* Two equal numbers side by side on the path. */
+    DAMAGED(24, 20, ASPA_REFUSED_LEDGER_MALFORMED);
     /* A zero behind a table is none of its words, though the table that it makes is well formed. */
     file_of_begin(file);
     put(file, 2, 32);
@@ -735,6 +1006,8 @@ int main(void) {
     own_customer_filed();
     own_customer_held();
     routes();
+    runs();
+    equal_neighbours_held();
     snapshots();
     null_pointers();
     conveniences();

@@ -75,7 +75,8 @@ impl Tables {
     /// [`TableLength`](Refusal::TableLength); of less than 20 bytes [`SnapshotLength`](Refusal::SnapshotLength);
     /// [`Edition`](Refusal::Edition), [`Contents`](Refusal::Contents), [`SnapshotLength`](Refusal::SnapshotLength); of the tables in it
     /// [`RegisterMalformed`](Refusal::RegisterMalformed), [`LedgerMalformed`](Refusal::LedgerMalformed). Then no word of the tables has
-    /// changed. A version before 0.4.0 may have written a list that holds its own customer: that register is malformed now.
+    /// changed. A version before 0.4.0 may have written a list that holds its own customer, and one before 0.5.0 a path with two equal
+    /// numbers side by side: that register and that ledger are malformed now.
     pub fn read(&mut self, snapshot: &[u8]) -> Result<(), Refusal> {
         let row = ffi::read(snapshot, &mut self.register.0, &mut self.ledger.0);
         Refusal::told(row, 0)

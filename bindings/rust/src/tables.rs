@@ -105,6 +105,9 @@ impl Register {
     /// Judges a route: the role and the number of the neighbour that sent it, and the value of its AS_PATH attribute with four-byte
     /// numbers (see [`PathBuilder`](crate::PathBuilder)). Needs no ledger and changes nothing.
     ///
+    /// What is judged is the merged path, in which a run of one number counts once, over the ends of segments too. Before version 0.5.0 a
+    /// run ended with its segment.
+    ///
     /// # Errors
     ///
     /// [`TableLength`](Refusal::TableLength), [`RegisterMalformed`](Refusal::RegisterMalformed), [`Neighbour`](Refusal::Neighbour),
@@ -172,7 +175,7 @@ impl Ledger {
     }
 
     /// A ledger of any words. Every call tests them first: a wrong length is refused by [`Refusal::TableLength`], words that break the
-    /// rules by [`Refusal::LedgerMalformed`].
+    /// rules by [`Refusal::LedgerMalformed`]. Since version 0.5.0 two equal numbers side by side on a path break them.
     pub fn from_words(words: impl Into<Box<[u32]>>) -> Ledger {
         Ledger(words.into())
     }
@@ -183,6 +186,19 @@ impl Ledger {
     }
 
     /// Judges a route as [`Register::judge`] does, and keeps it under a number that is free, with that verdict and its merged path.
+    ///
+    /// ```
+    /// use aspa_filter::{AsNumber, Ledger, PathBuilder, Register, Role, RouteNumber};
+    ///
+    /// let (register, mut ledger) = (Register::new(), Ledger::new());
+    /// // AS20 prepends its own number, in a segment of its own.
+    /// let path = PathBuilder::new()
+    ///     .sequence(&[AsNumber(20)])?
+    ///     .sequence(&[20, 10].map(AsNumber))?;
+    /// ledger.keep(&register, RouteNumber(7), Role::Customer, AsNumber(20), path.bytes())?;
+    /// assert_eq!(ledger.routes().next().unwrap().path, [20, 10].map(AsNumber));
+    /// # Ok::<(), Box<dyn std::error::Error>>(())
+    /// ```
     ///
     /// # Errors
     ///

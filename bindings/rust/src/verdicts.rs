@@ -57,8 +57,8 @@ pub enum Cause {
 
 /// Whether a path keeps to the records.
 ///
-/// A place counts the merged path from the origin: AS(1) is the origin, the path's right end, and AS(N) is the left end. In the `path` of
-/// a kept [`Route`](crate::Route) AS(u) is `path[path.len() - u]`.
+/// A place counts the merged path from the origin: AS(1) is the origin, the path's right end, and AS(N) is the left end. A run of one
+/// number has one place, over the ends of segments too. In the `path` of a kept [`Route`](crate::Route) AS(u) is `path[path.len() - u]`.
 ///
 /// The text is that of the console, and is read back:
 ///

@@ -1,7 +1,7 @@
 //! The iterators and the short text of tables: good, empty and damaged ones.
 use aspa_filter::{
-    sequence, AsNumber, Cause, Filed, Ground, Ledger, Record, Register, Role, Route, RouteNumber,
-    Verdict, LEDGER_WORDS, REGISTER_WORDS,
+    sequence, AsNumber, Cause, Filed, Ground, Ledger, Record, Refusal, Register, Role, Route,
+    RouteNumber, Verdict, LEDGER_WORDS, REGISTER_WORDS,
 };
 
 const FEW: [AsNumber; 2] = [AsNumber(0), AsNumber(40)];
@@ -249,6 +249,30 @@ fn damaged_routes() {
         assert_eq!(routes_with(&[(word, value)]), 0, "word {word}: {value}");
     }
     assert_eq!(routes_with(&[(5, 3)]), 4, "another ground");
+}
+
+/// A path of a version before 0.5.0, with two equal numbers side by side, is shown as it stands. The calls refuse its ledger, so its
+/// routes are kept anew in another.
+#[test]
+fn equal_neighbours() {
+    let (register, mut words) = (register(), ledger().words().to_vec());
+    // The path 30 20 10 of the second route becomes 30 30 10.
+    words[39] = 30;
+    let mut damaged = Ledger::from_words(words);
+    assert_eq!(damaged.rejudge(&register), Err(Refusal::LedgerMalformed));
+    let routes: Vec<Route> = damaged.routes().collect();
+    assert_eq!(routes.len(), 4);
+    assert_eq!(routes[1].path, [30, 30, 10].map(AsNumber));
+    assert_eq!(routes[2..], ledger().routes().collect::<Vec<_>>()[2..]);
+
+    let mut anew = Ledger::new();
+    for route in &routes[1..] {
+        let path = sequence(route.path).unwrap();
+        anew.keep(&register, route.number, route.role, route.neighbour, &path)
+            .unwrap();
+    }
+    assert_eq!(anew.routes().next().unwrap().path, [30, 10].map(AsNumber));
+    assert_eq!(anew.rejudge(&register), Ok(0));
 }
 
 /// Whatever words are left of a table, reading them ends and shows whole entries alone.

@@ -6,7 +6,7 @@ use aspa_filter::{
     Verdict, LEDGER_WORDS, REGISTER_WORDS, SNAPSHOT_BYTES,
 };
 use reference::random::Random;
-use reference::words::Form;
+use reference::words::{padded, Form};
 use reference::{judge as by, snapshot, Model, Table, GREATEST_SOURCE};
 use std::collections::BTreeMap;
 
@@ -284,18 +284,30 @@ impl History<'_> {
         self.count(&call, answer);
     }
 
+    fn tell(&mut self, key: &str) {
+        *self.tally.entry(key.into()).or_default() += 1;
+    }
+
     fn count(&mut self, call: &Call, answer: Said) {
-        let own = match (call, &answer) {
+        match (call, &answer) {
             (Call::File(_, customer, list), Said::Refused(6, _)) if list.contains(customer) => {
-                Some("own customer filed")
+                self.tell("own customer filed");
             }
             (Call::Read(file), Said::Refused(2, _)) if holds_own(&file_register(file)) => {
-                Some("own customer read")
+                self.tell("own customer read");
             }
-            _ => None,
-        };
-        if let Some(key) = own {
-            *self.tally.entry(key.into()).or_default() += 1;
+            (Call::Read(file), Said::Refused(3, _)) if equal_beside(&file_ledger(file)) => {
+                self.tell("equal neighbours read");
+            }
+            (Call::Read(file), Said::Done) if equal_across(&file_ledger(file)) => {
+                self.tell("equal ends read");
+            }
+            (Call::Judge(r) | Call::Keep(_, r), answer) if merged(answer) => {
+                for key in runs(&r.attribute) {
+                    self.tell(key);
+                }
+            }
+            _ => {}
         }
         let key = match answer {
             Said::Refused(number, _) => format!("refused by {number}"),
@@ -308,7 +320,7 @@ impl History<'_> {
             Said::Judged(Answer { verdict, gap }) => {
                 let way = if gap.is_some() { "down" } else { "up" };
                 if gap.is_some_and(|g| g < 0) {
-                    *self.tally.entry("overlap".into()).or_default() += 1;
+                    self.tell("overlap");
                 }
                 match verdict {
                     Verdict::Valid => format!("valid {way}"),
@@ -318,7 +330,7 @@ impl History<'_> {
                 }
             }
         };
-        *self.tally.entry(key).or_default() += 1;
+        self.tell(&key);
     }
 
     fn compare_tables(&self) {
@@ -392,8 +404,20 @@ impl History<'_> {
         assert!(format!("{:?}", (register, ledger)).len() < 200, "{at}");
     }
 
+    /// Counts ledgers with two equal numbers side by side on a path, which are malformed, and well-formed ones in which a path ends with
+    /// the number that begins the next.
+    fn tell_equal(&mut self) {
+        let well_formed = self.model.ledger.well_formed();
+        if equal_beside(&self.tables.ledger) {
+            assert!(!well_formed, "seed {}, call {}", self.seed, self.calls);
+            self.tell("equal neighbours held");
+        } else if well_formed && equal_across(&self.tables.ledger) {
+            self.tell("equal ends held");
+        }
+    }
+
     /// Damages one table or both, makes every call, and repairs them. Altered words that the word rules allow sometimes stay: verdicts
-    /// that aren't true, other providers.
+    /// that aren't true, other providers, a path that ends with the number that begins the next.
     fn damaged(&mut self) {
         let kept = (self.tables.clone(), self.model.clone());
         let (register, ledger) = self.random.pick(&[
@@ -404,9 +428,17 @@ impl History<'_> {
             (true, true),
         ]);
         if ledger {
-            let change = Change::draw(&mut self.random, &self.model.ledger);
+            let beside = equal_neighbours(&self.tables.ledger);
+            let across = equal_ends(&self.tables.ledger);
+            let (change, ends) = match self.random.below(4) {
+                0 if !beside.is_empty() => (Change::Poke(self.random.pick(&beside)), false),
+                1 if !across.is_empty() => (Change::Poke(self.random.pick(&across)), true),
+                _ => (Change::draw(&mut self.random, &self.model.ledger), false),
+            };
             let words = change.make(&mut self.model.ledger, self.tables.ledger.words());
             self.tables.ledger = Ledger::from_words(words);
+            assert!(!ends || self.model.ledger.well_formed(), "equal ends");
+            self.tell_equal();
         }
         if register {
             let own = own_customers(&self.tables.register);
@@ -418,7 +450,7 @@ impl History<'_> {
             let words = change.make(&mut self.model.register, self.tables.register.words());
             self.tables.register = Register::from_words(words);
             if holds_own(&self.tables.register) {
-                *self.tally.entry("own customer held".into()).or_default() += 1;
+                self.tell("own customer held");
             }
         }
         self.compare_tables();
@@ -427,8 +459,7 @@ impl History<'_> {
             self.call(kind);
         }
         self.compare_tables();
-        let key = if allowed { "altered" } else { "damaged" };
-        *self.tally.entry(key.into()).or_default() += 1;
+        self.tell(if allowed { "altered" } else { "damaged" });
         if !allowed || self.random.percent(50) {
             (self.tables, self.model) = kept;
         }
@@ -516,7 +547,7 @@ impl History<'_> {
     fn changed(&mut self, mut file: Vec<u8>) -> Vec<u8> {
         let any = self.random.draw() as u32;
         let near = |old: u32| [old + 1, old - 1, old + 4, old - 4];
-        match self.random.below(9) {
+        match self.random.below(12) {
             // The edition, and the other contents.
             0 => snapshot::with(&file, &[(0, self.random.pick(&[0, 2, 3, 1 << 24, any]))]),
             1 | 2 => {
@@ -561,6 +592,20 @@ impl History<'_> {
                 }
                 let (index, customer) = self.random.pick(&own);
                 snapshot::with(&file, &[(snapshot::CONTENTS / 4 + index, customer)])
+            }
+            // Equal numbers side by side on a path, or at the end of one and the start of the next.
+            kind @ 8..=10 => {
+                let ledger = file_ledger(&file);
+                let equal = match kind {
+                    8 | 9 => equal_neighbours(&ledger),
+                    _ => equal_ends(&ledger),
+                };
+                if equal.is_empty() {
+                    return file;
+                }
+                let (index, number) = self.random.pick(&equal);
+                let start = snapshot::number_at(&file, 3) as usize / 4;
+                snapshot::with(&file, &[(start + index, number)])
             }
             // A table with a word more or less, and contents that say so.
             _ => {
@@ -722,17 +767,17 @@ impl History<'_> {
     fn attribute(&mut self) -> (u32, Vec<u8>) {
         let path = self.path();
         let first = path[0];
-        // Several segments, numbers repeated within one and over a boundary
-        let mut segments = vec![(2, vec![])];
-        let plain = path.len() > 20;
-        for (i, number) in path.iter().enumerate() {
-            if !plain && i > 0 && self.random.percent(12) {
-                let again = self.random.percent(30);
-                segments.push((2, if again { vec![path[i - 1]] } else { vec![] }));
-            }
+        // Several segments, numbers repeated within one and over boundaries: all are merged.
+        let mut segments: Vec<(u8, Vec<u32>)> = vec![];
+        for number in path {
             let times = self.random.pick(&[1, 1, 1, 1, 1, 2, 3]);
-            let numbers = &mut segments.last_mut().expect("one at least").1;
-            numbers.extend(vec![*number; times]);
+            for nth in 0..times {
+                let cut = if nth == 0 { 12 } else { 40 };
+                match segments.last_mut() {
+                    Some((_, numbers)) if !self.random.percent(cut) => numbers.push(number),
+                    _ => segments.push((2, vec![number])),
+                }
+            }
         }
         let at = self.random.below(segments.len() + 1);
         let two = vec![self.number(), self.number()];
@@ -765,8 +810,11 @@ impl History<'_> {
                 bytes.extend(vec![2; self.random.pick(&[0, 0, 1, 400])]);
             }
             8 => {
-                let path: Vec<u32> = (0..65).map(|i| first ^ i << 8).collect();
-                bytes = segment(2, &path);
+                // 64 or 65 numbers, and one of them on both sides of a boundary.
+                let length = self.random.between(64, 65);
+                let path: Vec<u32> = (0..length as u32).map(|i| first ^ i << 8).collect();
+                let cut = self.random.between(1, length);
+                bytes = [segment(2, &path[..cut]), segment(2, &path[cut - 1..])].concat();
             }
             _ => {}
         }
@@ -852,6 +900,108 @@ fn holds_own(register: &Register) -> bool {
     records.any(|record| record.providers.contains(&record.customer))
 }
 
+/// The ledger's words in such a snapshot.
+fn file_ledger(file: &[u8]) -> Ledger {
+    Ledger::from_words(&snapshot::parts(file)[1][..])
+}
+
+/// Role, index of the first word, and numbers of each path.
+fn paths(ledger: &Ledger) -> Vec<(Role, usize, &[AsNumber])> {
+    let mut start = 2 + 9 * ledger.routes().count();
+    let paths = ledger.routes().map(|route| {
+        start += route.path.len();
+        (route.role, start - route.path.len(), route.path)
+    });
+    paths.filter(|(_, _, path)| !path.is_empty()).collect()
+}
+
+/// Of a well-formed ledger: each word of a path that can become the number beside it with no other fault. The first number of a path is
+/// free only from a route server.
+fn equal_neighbours(ledger: &Ledger) -> Vec<(usize, u32)> {
+    let mut pokes = vec![];
+    for (role, start, path) in paths(ledger) {
+        for i in 1..path.len() {
+            pokes.push((start + i, path[i - 1].0));
+            if i > 1 || role == Role::RouteServer {
+                pokes.push((start + i - 1, path[i].0));
+            }
+        }
+    }
+    pokes
+}
+
+/// The same for the last number of one path and the first of the next, which is no fault.
+fn equal_ends(ledger: &Ledger) -> Vec<(usize, u32)> {
+    let mut pokes = vec![];
+    for pair in paths(ledger).windows(2) {
+        let ((role, start, before), (next_role, next_start, after)) = (pair[0], pair[1]);
+        let (last, next) = (before[before.len() - 1], after[0]);
+        if last == next {
+            continue;
+        }
+        let free = before.len() > 1 || role == Role::RouteServer;
+        if free && before.iter().rev().nth(1) != Some(&next) {
+            pokes.push((start + before.len() - 1, next.0));
+        }
+        if next_role == Role::RouteServer && after.get(1) != Some(&last) {
+            pokes.push((next_start, last.0));
+        }
+    }
+    pokes
+}
+
+/// Whether a path has two equal numbers side by side, and the ledger no other fault: with others in their place it is well formed.
+fn equal_beside(ledger: &Ledger) -> bool {
+    let mut words = padded(ledger.words().to_vec(), LEDGER_WORDS);
+    let mut equal = false;
+    for (_, start, path) in paths(ledger) {
+        let mut others = (1..).filter(|n| !path.contains(&AsNumber(*n)));
+        for i in (1..path.len()).filter(|i| path[i - 1] == path[*i]) {
+            equal = true;
+            if let Some(word) = words.get_mut(start + i) {
+                *word = others.next().expect("more than a path has");
+            }
+        }
+    }
+    equal && <reference::Routes as Form>::well_formed(&words)
+}
+
+/// Whether a path ends with the number that begins the next.
+fn equal_across(ledger: &Ledger) -> bool {
+    let paths = paths(ledger);
+    let mut pairs = paths.windows(2);
+    pairs.any(|pair| pair[0].2.last() == pair[1].2.first())
+}
+
+/// Whether an attribute with this answer had neither a fault nor a ground, so that its path was merged.
+fn merged(answer: &Said) -> bool {
+    match answer {
+        Said::Judged(answer) => !matches!(answer.verdict, Verdict::Invalid(Cause::Ground(_))),
+        Said::Refused(row, _) => *row == 17,
+        _ => false,
+    }
+}
+
+/// What such an attribute has of runs over the ends of segments.
+fn runs(attribute: &[u8]) -> Vec<&'static str> {
+    let segments = by::read(attribute).expect("no fault");
+    let one_by_one = segments.iter().map(std::slice::from_ref);
+    let apart: usize = one_by_one.map(|one| by::merged(one).len()).sum();
+    let left = by::merged(&segments).len();
+    let vanishes = segments.windows(2).any(|pair| {
+        let last = pair[0].numbers[pair[0].numbers.len() - 1];
+        pair[1].numbers.iter().all(|number| *number == last)
+    });
+    let kinds = [
+        ("run over segments", apart > left),
+        ("segment gone", vanishes),
+        ("64 left of more", left == 64 && apart > left),
+        ("65 left of more", left == 65 && apart > left),
+    ];
+    let given = kinds.into_iter().filter(|(_, given)| *given);
+    given.map(|(kind, _)| kind).collect()
+}
+
 /// What every shape must reach, with the refusals below.
 const REACHED: [&str; 21] = [
     "New",
@@ -877,6 +1027,19 @@ const REACHED: [&str; 21] = [
     "own customer read",
 ];
 
+/// What every shape must reach this often: equal numbers over the ends of segments, on stored paths and where two of them meet.
+const OFTEN: usize = 10;
+const REACHED_OFTEN: [&str; 8] = [
+    "run over segments",
+    "segment gone",
+    "64 left of more",
+    "65 left of more",
+    "equal neighbours held",
+    "equal neighbours read",
+    "equal ends held",
+    "equal ends read",
+];
+
 /// `full` are the refusals of a full table that this shape must reach.
 fn histories(first_seed: u64, shape: Shape, full: &[u32]) {
     let mut calls = 0;
@@ -895,6 +1058,10 @@ fn histories(first_seed: u64, shape: Shape, full: &[u32]) {
     let refusals = refusals.map(|number| format!("refused by {number}"));
     for key in REACHED.map(String::from).into_iter().chain(refusals) {
         assert!(tally.contains_key(&key), "never: {key}");
+    }
+    for key in REACHED_OFTEN {
+        let times = tally.get(key).copied().unwrap_or(0);
+        assert!(times >= OFTEN, "{times} times: {key}");
     }
 }
 
@@ -974,6 +1141,7 @@ fn single_words() {
             words[index] = value;
             history.tables.ledger = Ledger::from_words(words);
             assert!(history.model.ledger.poke(index, value));
+            history.tell_equal();
             history.compare_entries();
             history.make(Call::Drop(1));
             history.make(Call::Rejudge);
@@ -989,6 +1157,11 @@ fn single_words() {
         }
     }
     println!("{} calls: {:?}", history.calls, history.tally);
+    // The same numbers are set in the tables and in their snapshot.
+    for key in ["equal neighbours", "equal ends"] {
+        let [held, read] = ["held", "read"].map(|what| history.tally[&format!("{key} {what}")]);
+        assert!(held > 0 && held == read, "{held} and {read} times: {key}");
+    }
 }
 
 #[test]
@@ -997,8 +1170,8 @@ fn many_records() {
         customers: 600,
         routes: 60,
         long_lists: 0,
-        long_paths: 2,
-        weights: [800, 20, 1, 80, 80, 60, 19, 20, 10],
+        long_paths: 8,
+        weights: [1000, 20, 1, 80, 80, 60, 19, 20, 10],
     };
     histories(200, shape, &[8]);
 }

@@ -68,6 +68,9 @@ fn judged() {
     let top = PathBuilder::new().sequence(&[AsNumber(30)]).unwrap();
     let whole = top.clone().sequence(&[20, 20, 10].map(AsNumber)).unwrap();
     assert_eq!(judge(&whole), Verdict::Valid);
+    let prepended = top.clone().sequence(&[30, 20].map(AsNumber)).unwrap();
+    let prepended = prepended.sequence(&[20, 10].map(AsNumber)).unwrap();
+    assert_eq!(judge(&prepended), Verdict::Valid);
     let with_set = top.set(&[20, 10].map(AsNumber)).unwrap();
     assert_eq!(
         judge(&with_set),

@@ -332,6 +332,13 @@ fn every_row() {
     let long = sequence(&numbers(MOST_PATH + 1)).unwrap();
     let calls = vec![judge(1, long.clone()), keep(1, 1, long)];
     seen.all(&some, Refusal::PathLength, calls);
+    // In two segments, the number before the cut in both.
+    let all = numbers(MOST_PATH + 1);
+    for cut in [1, 40, MOST_PATH + 1] {
+        let parts = [&all[..cut], &all[cut - 1..]].map(|part| sequence(part).unwrap());
+        let calls = vec![judge(1, parts.concat()), keep(1, 1, parts.concat())];
+        seen.all(&some, Refusal::PathLength, calls);
+    }
     let calls = vec![keep(1, 20, path()), keep(4, 9, vec![])];
     seen.all(&some, Refusal::RouteTaken, calls);
     seen.all(&full(), Refusal::RouteTaken, vec![keep(1, 20, path())]);
@@ -518,6 +525,115 @@ fn other_customers_held() {
     assert!(after == tables);
 }
 
+/// Routes of which each path ends with the number that begins the next. The second has none, by a ground.
+const ENDS: [(u32, Role, &[u32]); 5] = [
+    (1, Role::Customer, &[20, 10, 30, 40]),
+    (3, Role::Provider, &[]),
+    (4, Role::RouteServer, &[40, 30, 20]),
+    (5, Role::Peer, &[20]),
+    (6, Role::MutualTransit, &[20, 10, 40]),
+];
+
+/// The records of `some` and these routes.
+fn equal_ends() -> Tables {
+    let mut tables = some();
+    tables.ledger = Ledger::new();
+    for (number, role, path) in ENDS {
+        let neighbour = AsNumber(*path.first().unwrap_or(&20));
+        let path: Vec<AsNumber> = path.iter().copied().map(AsNumber).collect();
+        let attribute = sequence(&path).unwrap_or_default();
+        let number = RouteNumber(number);
+        tables
+            .ledger
+            .keep(&tables.register, number, role, neighbour, &attribute)
+            .unwrap();
+    }
+    tables
+}
+
+/// Each word of the ledger of `equal_ends`, and what it has to become to make two neighbours of a path equal and break no other rule: the
+/// first number is free only from a route server.
+fn equal_neighbours() -> Vec<(usize, u32)> {
+    let (mut pokes, mut start) = (vec![], 2 + 9 * ENDS.len());
+    for (_, role, path) in ENDS {
+        for i in 1..path.len() {
+            pokes.push((start + i, path[i - 1]));
+            if i > 1 || role == Role::RouteServer {
+                pokes.push((start + i - 1, path[i]));
+            }
+        }
+        start += path.len();
+    }
+    pokes
+}
+
+/// Ledgers whose one fault is two equal numbers side by side on a path, in words and in a snapshot.
+#[test]
+fn equal_neighbours_held() {
+    let (mut seen, good) = (Seen::default(), equal_ends());
+    let malformed = Refusal::LedgerMalformed;
+    let pokes = equal_neighbours();
+    assert_eq!(pokes.len(), 12);
+    for (index, value) in pokes {
+        let with = |value: u32| {
+            let mut words = good.ledger.words().to_vec();
+            words[index] = value;
+            let register = good.register.clone();
+            let ledger = Ledger::from_words(words);
+            Tables { register, ledger }
+        };
+        let tables = with(value);
+        seen.all(&tables, malformed, on_ledger());
+        // The ledger goes before the route, and behind the register.
+        seen.all(&tables, malformed, vec![keep(1, 0, vec![9])]);
+        let mut both = tables.clone();
+        both.register = Register::from_words(vec![u32::MAX; REGISTER_WORDS]);
+        let calls = vec![keep(2, 20, path()), rejudge(), write(SNAPSHOT_BYTES)];
+        seen.all(&both, Refusal::RegisterMalformed, calls);
+        // Who is not lent it does not look at it.
+        let mut after = tables.clone();
+        for call in [file(0, 9, numbers(1)), withdraw(0, 9), judge(20, path())] {
+            assert_eq!(call(&mut after), Ok(()));
+        }
+        assert!(after == tables);
+
+        // The ledger's words are the last of the file.
+        let mut file = snapshot(&good);
+        let used = 2 + 9 * ENDS.len() + good.ledger.words()[1] as usize;
+        let at = file.len() - 4 * used + 4 * index;
+        file[at..][..4].copy_from_slice(&value.to_be_bytes());
+        seen.all(&some(), malformed, vec![read(file.clone())]);
+        seen.all(&tables, malformed, vec![read(file.clone())]);
+        // With another number it is read, and the ledger is one again.
+        file[at..][..4].copy_from_slice(&77u32.to_be_bytes());
+        let mended = with(77);
+        assert_eq!(read(file)(&mut after), Ok(()));
+        assert!(after == mended);
+        assert_eq!(rejudge()(&mut after), Ok(()));
+        assert_eq!(read(snapshot(&good))(&mut after), Ok(()));
+        assert!(after == good);
+    }
+}
+
+/// The last number of one path and the first of the next may be equal, whichever routes meet.
+#[test]
+fn equal_ends_held() {
+    let tables = equal_ends();
+    for dropped in [1, 3, 4, 5, 6] {
+        let mut after = tables.clone();
+        assert_eq!(rejudge()(&mut after), Ok(()));
+        assert!(after == tables, "they were judged by these records");
+        assert_eq!(drop_route(dropped)(&mut after), Ok(()));
+        assert_eq!(after.ledger.routes().count(), ENDS.len() - 1);
+        for call in [keep(2, 20, path()), rejudge(), write(SNAPSHOT_BYTES)] {
+            assert_eq!(call(&mut after), Ok(()));
+        }
+        let mut again = some();
+        assert_eq!(read(snapshot(&after))(&mut again), Ok(()));
+        assert!(again == after);
+    }
+}
+
 /// What full tables still take.
 #[test]
 fn room() {
@@ -533,6 +649,14 @@ fn room() {
         Err(Refusal::RouteTaken),
         "only 7 was dropped"
     );
+    // Of a path in segments, only what is left of it needs room.
+    let mut tables = full_bodies();
+    assert_eq!(drop_route(7)(&mut tables), Ok(()));
+    let all = numbers(MOST_PATH);
+    let parts = [&all[..], &all[MOST_PATH - 1..]].map(|part| sequence(part).unwrap());
+    assert_eq!(keep(7, 1, parts.concat())(&mut tables), Ok(()));
+    let kept = tables.ledger.routes().nth(6).unwrap();
+    assert_eq!((kept.number, kept.path), (RouteNumber(7), &all[..]));
 }
 
 #[test]

@@ -232,6 +232,63 @@ fn own_customer() {
     }
 }
 
+/// Two equal numbers side by side on a path: the origin becomes the neighbour, and vector O as a version before 0.5.0 kept it.
+#[test]
+fn equal_neighbours() {
+    let directory = Directory::new("equal-neighbours");
+    let mut words = SMALL;
+    words[24] = 20;
+    let [contents, register] = [&SMALL[..4], &SMALL[5..12]];
+    let with_ledger = |ledger: &[u32]| {
+        let length = 4 * ledger.len() as u32;
+        bytes(&[contents, &[length], register, ledger].concat())
+    };
+    let unmerged = with_ledger(&[1, 3, 13, 1, 20, 0, 1, 3, 0, 0, 3, 20, 20, 10]);
+    for damaged in [bytes(&words), unmerged] {
+        for before in [Tables::new(), small(), full(), other()] {
+            let mut tables = before.clone();
+            let read = tables.read(&damaged);
+            assert_eq!(read, Err(Refusal::LedgerMalformed));
+            assert!(tables == before, "both tables stay");
+        }
+        let read = Tables::read_from(&damaged[..]);
+        assert_eq!(refusal(read), Refusal::LedgerMalformed);
+        fs::write(directory.file(), &damaged).unwrap();
+        let loaded = Tables::load(directory.file());
+        assert_eq!(refusal(loaded), Refusal::LedgerMalformed);
+    }
+    // One more, and it is another number.
+    words[24] = 21;
+    let mut tables = other();
+    assert_eq!(tables.read(&bytes(&words)), Ok(()));
+    assert_eq!(written(&tables), bytes(&words));
+    // The path merged: the file is read, and its verdict judged anew.
+    let merged = with_ledger(&[1, 2, 13, 1, 20, 0, 1, 3, 0, 0, 2, 20, 10]);
+    fs::write(directory.file(), &merged).unwrap();
+    let mut tables = Tables::load(directory.file()).unwrap();
+    assert_eq!(written(&tables), merged);
+    assert_eq!(tables.rejudge(), Ok(1));
+    let route = tables.ledger.routes().next().unwrap();
+    assert_eq!(route.verdict.to_string(), "Valid");
+}
+
+/// One path ends with the number that begins the next.
+#[test]
+fn equal_ends() {
+    let mut tables = small();
+    let Tables { register, ledger } = &mut tables;
+    let path = sequence(&[10, 30].map(AsNumber)).unwrap();
+    let (number, role) = (RouteNumber(8), Role::RouteServer);
+    ledger
+        .keep(register, number, role, AsNumber(99), &path)
+        .unwrap();
+    let file = written(&tables);
+    assert_eq!(file[file.len() - 16..], bytes(&[20, 10, 10, 30]));
+    let mut read = other();
+    assert_eq!(read.read(&file), Ok(()));
+    assert!(read == tables);
+}
+
 /// A stored verdict that is not true is read as it stands, and a re-judging puts it right.
 #[test]
 fn verdicts_are_judged_anew() {

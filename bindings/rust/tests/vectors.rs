@@ -1,4 +1,4 @@
-//! The worked vectors A to O, the limits, and the calls on whole tables.
+//! The worked vectors A to O, runs over the ends of segments, the limits, and the calls on whole tables.
 use aspa_filter::{
     Answer, AsNumber, Cause, Filed, Ground, Ledger, Refusal, Register, Role, RouteNumber, Verdict,
     LEDGER_WORDS, MOST_ATTRIBUTE_BYTES, MOST_PATH, MOST_RECORDS, REGISTER_WORDS,
@@ -127,17 +127,103 @@ fn vector_n() {
 fn vector_o() {
     let d = register_d();
     let bytes = [sequence(&[20]), sequence(&[20, 10])].concat();
-    assert_eq!(
-        d.judge(Role::Customer, AsNumber(20), &bytes),
-        invalid(3, 0, None)
-    );
-    // Within one segment the run is merged.
+    let (customer, neighbour) = (Role::Customer, AsNumber(20));
+    assert_eq!(d.judge(customer, neighbour, &bytes), valid(None));
+    // As within one segment.
     assert_eq!(judge(&d, 1, &[20, 20, 10]), valid(None));
-    // No record makes the hop from 20 to itself a good one.
-    let mut register = d.clone();
-    let filed = register.file(5, AsNumber(20), &numbers(&[20]));
-    assert_eq!(refused(filed), (6, None));
-    assert_eq!(register, d);
+    let mut ledger = Ledger::new();
+    let kept = ledger.keep(&d, RouteNumber(13), customer, neighbour, &bytes);
+    assert_eq!(kept, valid(None));
+    let mut words = vec![1, 2, 13, 1, 20, 0, 0, 0, 0, 0, 2, 20, 10];
+    words.resize(LEDGER_WORDS, 0);
+    assert_eq!(ledger.words(), words);
+}
+
+/// Sequences are judged and kept, in every role, as one of the numbers to which they merge.
+fn merge_to(register: &Register, parts: &[&[u32]], merged: &[u32]) {
+    let bytes = parts.iter().map(|part| sequence(part)).collect::<Vec<_>>();
+    let (bytes, once) = (bytes.concat(), sequence(merged));
+    let neighbour = AsNumber(merged[0]);
+    for role in Role::ALL {
+        let judged = register.judge(role, neighbour, &bytes);
+        assert!(judged.is_ok(), "{parts:?}");
+        assert_eq!(judged, register.judge(role, neighbour, &once), "{parts:?}");
+        let [kept, plainly] = [&bytes, &once].map(|attribute| {
+            let mut ledger = Ledger::new();
+            let answer = ledger.keep(register, RouteNumber(1), role, neighbour, attribute);
+            assert_eq!(answer, judged, "{parts:?}");
+            ledger
+        });
+        assert_eq!(kept, plainly, "{parts:?}");
+        assert_eq!(kept.routes().next().unwrap().path, numbers(merged));
+    }
+}
+
+/// A run of one number counts once, also over the ends of segments.
+#[test]
+fn runs_over_segments() {
+    let d = register_d();
+    merge_to(&d, &[&[20], &[20, 10]], &[20, 10]);
+    merge_to(&d, &[&[20], &[20], &[20, 20], &[20, 10]], &[20, 10]);
+    // Whole segments that go: the first, one between, two between, the last, all but one.
+    merge_to(&d, &[&[20, 20], &[20, 10, 30]], &[20, 10, 30]);
+    merge_to(&d, &[&[20, 10], &[10], &[40]], &[20, 10, 40]);
+    merge_to(&d, &[&[20, 10], &[10, 10], &[10], &[10, 40]], &[20, 10, 40]);
+    merge_to(&d, &[&[20, 10], &[10, 10]], &[20, 10]);
+    merge_to(&d, &[&[20], &[20], &[20, 20]], &[20]);
+    // Runs over both ends of a segment.
+    merge_to(
+        &d,
+        &[&[40, 20, 20], &[20, 10, 10], &[10, 20], &[20, 40]],
+        &[40, 20, 10, 20, 40],
+    );
+    // Nothing to merge: a number that comes back, and numbers that differ in one byte.
+    merge_to(&d, &[&[20, 10], &[20, 10]], &[20, 10, 20, 10]);
+    merge_to(&d, &[&[20, 10, 20], &[10], &[20]], &[20, 10, 20, 10, 20]);
+    merge_to(
+        &d,
+        &[&[20], &[0x114], &[0x100_0014], &[20]],
+        &[20, 0x114, 0x100_0014, 20],
+    );
+    // Grounds and faults go by the segments as they stand.
+    let judge_bytes = |bytes: Vec<u8>| d.judge(Role::Customer, AsNumber(20), &bytes);
+    let set = [vec![1, 1, 0, 0, 0, 20], sequence(&[20, 10])];
+    assert_eq!(
+        judge_bytes([sequence(&[20]), set.concat()].concat()),
+        ground(Ground::AsSet)
+    );
+    assert_eq!(
+        judge_bytes([sequence(&[30]), sequence(&[30, 20])].concat()),
+        ground(Ground::NotNeighbour)
+    );
+    assert_eq!(
+        refused(judge_bytes([sequence(&[20]), sequence(&[20, 0])].concat())),
+        (16, Some(12))
+    );
+}
+
+/// The limit is on the merged path, wherever the number before the cut is there twice.
+#[test]
+fn limit_over_segments() {
+    let d = register_d();
+    let path: Vec<u32> = (0..=MOST_PATH as u32).map(|i| 1000 + i).collect();
+    for cut in 1..=MOST_PATH {
+        // 65 numbers, of which 64 are left.
+        let parts = [&path[..cut], &path[cut - 1..MOST_PATH]];
+        merge_to(&d, &parts, &path[..MOST_PATH]);
+    }
+    for cut in 1..=MOST_PATH + 1 {
+        // 66 numbers, of which 65 are left.
+        let bytes = [sequence(&path[..cut]), sequence(&path[cut - 1..])].concat();
+        for role in Role::ALL {
+            let judged = d.judge(role, AsNumber(1000), &bytes);
+            assert_eq!(refused(judged), (17, None), "{cut}");
+            let mut ledger = Ledger::new();
+            let kept = ledger.keep(&d, RouteNumber(1), role, AsNumber(1000), &bytes);
+            assert_eq!(refused(kept), (17, None), "{cut}");
+            assert_eq!(ledger, Ledger::new());
+        }
+    }
 }
 
 #[test]
@@ -157,6 +243,11 @@ fn grounds_and_limits() {
     let mut bytes = [sequence(&[20; 200]), sequence(&[10; 55])].concat();
     assert_eq!(bytes.len(), MOST_ATTRIBUTE_BYTES);
     assert_eq!(judge_bytes(&bytes), valid(None));
+    // The same, cut within a run.
+    let run = [vec![20; 100], vec![10; 55]].concat();
+    let cut = [sequence(&[20; 100]), sequence(&run)].concat();
+    assert_eq!(cut.len(), MOST_ATTRIBUTE_BYTES);
+    assert_eq!(judge_bytes(&cut), valid(None));
     bytes.push(2);
     assert_eq!(refused(judge_bytes(&bytes)), (11, None));
 
