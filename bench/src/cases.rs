@@ -2,8 +2,8 @@
 use crate::plain::{self, RECORD, ROUTE};
 use crate::work::{self, attribute, numbers, Random, Work, ROUTES};
 use aspa_filter::{
-    AsNumber, Filed, Ledger, Refusal, Register, Role, MOST_PROVIDERS, MOST_PROVIDER_WORDS,
-    MOST_RECORDS,
+    AsNumber, Filed, Ledger, Refusal, Register, Role, RouteNumber, MOST_PROVIDERS,
+    MOST_PROVIDER_WORDS, MOST_RECORDS,
 };
 use std::cell::RefCell;
 use std::fmt;
@@ -112,7 +112,7 @@ impl Cases {
             });
         }
         let long = &tables[tables.len() - 1].register;
-        let calls = calls(&work, &tables[0].register, long).into_iter();
+        let calls = calls(&work, &tables[0], long).into_iter();
         #[cfg(feature = "snapshots")]
         let calls = calls.chain(crate::snapshots::calls(
             &tables[0].register,
@@ -217,6 +217,28 @@ impl Cases {
         register.records().count()
     }
 
+    /// Each path of the main ledger in turn with two equal numbers side by side: refused by 3, by both. Apart for the same reason. Answers
+    /// how many paths there are.
+    pub fn compare_equal_neighbours(&self) -> usize {
+        let Tables {
+            register, stale, ..
+        } = &self.tables[0];
+        let mut start = 2 + ROUTE * stale.routes().count();
+        for (i, route) in stale.routes().enumerate() {
+            let at = start + i % (route.path.len() - 1);
+            let mut words = stale.words().to_vec();
+            words[at + 1] = words[at];
+            start += route.path.len();
+            for (_, rejudge) in PLAIN {
+                let mut ledger = words.clone();
+                assert_eq!(rejudge(register.words(), &mut ledger), Err(3), "plain Rust");
+            }
+            let answer = Ledger::from_words(words).rejudge(register);
+            assert_eq!(answer, Err(Refusal::LedgerMalformed), "the library");
+        }
+        stale.routes().count()
+    }
+
     /// The same of snapshots, written of changed tables and read when they are changed. Answers how many were refused.
     #[cfg(feature = "snapshots")]
     pub fn compare_snapshots(&self) -> usize {
@@ -239,9 +261,10 @@ fn check(register: &Register) -> Timed {
     Timed { nanoseconds, check }
 }
 
-/// Over the main register and over one of the longest lists. A processor comes to know the branches of a register that is checked again
+/// Over the main tables and over a register of the longest lists. A processor comes to know the branches of a register that is checked again
 /// and again; "new lists" are other ones in every run.
-fn calls(work: &Work, register: &Register, long: &Register) -> Vec<Call> {
+fn calls(work: &Work, tables: &Tables, long: &Register) -> Vec<Call> {
+    let register = &tables.register;
     fn call(name: &'static str, run: impl Fn(usize) -> Timed + 'static) -> Call {
         Call {
             name,
@@ -249,14 +272,15 @@ fn calls(work: &Work, register: &Register, long: &Register) -> Vec<Call> {
             plain: None,
         }
     }
-    // Paths longer than those of the routes go on with the next ones.
-    let judge = |register: &Register, role: Role, length: usize| {
+    // Paths longer than those of the routes go on with the next ones. They are cut into segments of so many numbers.
+    let judge = |register: &Register, role: Role, length: usize, segment: usize| {
         let register = register.clone();
         let paths: Vec<_> = (0..ROUTES)
             .map(|first| {
                 let next = work.paths.iter().cycle().skip(first).flatten();
                 let path: Vec<u32> = next.copied().take(length).collect();
-                (AsNumber(path[0]), attribute(&path))
+                let bytes: Vec<u8> = path.chunks(segment).flat_map(attribute).collect();
+                (AsNumber(path[0]), bytes)
             })
             .collect();
         move |round: usize| {
@@ -332,6 +356,19 @@ fn calls(work: &Work, register: &Register, long: &Register) -> Vec<Call> {
             Timed { nanoseconds, check }
         }
     };
+    // The check of a full ledger.
+    let drop_none = {
+        let whole = tables.stale.clone();
+        move |_| {
+            let mut ledger = whole.clone();
+            // The routes are numbered from 0.
+            let none = RouteNumber(ROUTES as u32);
+            let (nanoseconds, r) = time(|| black_box(&mut ledger).drop_route(none));
+            assert_eq!(r, Err(Refusal::NoRoute));
+            let check = hash(ledger.words());
+            Timed { nanoseconds, check }
+        }
+    };
     vec![
         call("re-judge of no route", rejudge_none(register)),
         call(
@@ -356,24 +393,29 @@ fn calls(work: &Work, register: &Register, long: &Register) -> Vec<Call> {
         ),
         call(
             "judge, path of 5, role 1",
-            judge(register, Role::Customer, 5),
+            judge(register, Role::Customer, 5, 5),
         ),
         call(
             "judge, path of 5, role 3",
-            judge(register, Role::Provider, 5),
+            judge(register, Role::Provider, 5, 5),
         ),
         call(
             "judge, path of 5, empty register",
-            judge(&Register::new(), Role::Provider, 5),
+            judge(&Register::new(), Role::Provider, 5, 5),
         ),
         call(
             "judge, path of 64, role 1",
-            judge(register, Role::Customer, 64),
+            judge(register, Role::Customer, 64, 64),
         ),
         call(
             "judge, path of 64, role 3",
-            judge(register, Role::Provider, 64),
+            judge(register, Role::Provider, 64, 64),
         ),
+        call(
+            "judge, path of 64 in segments of 1, empty register",
+            judge(&Register::new(), Role::Customer, 64, 1),
+        ),
+        call("drop of no route, full ledger", drop_none),
         call("file at the front, up to a full register", file),
         call("file a list of 256, empty register", file_long),
         call("withdraw at the front of a full register", withdraw),

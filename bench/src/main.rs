@@ -159,6 +159,10 @@ fn main() {
         "no register with a list that holds its own customer is taken ({} lists)",
         cases.compare_own_customers()
     );
+    println!(
+        "no ledger with two equal numbers side by side on a path is taken ({} paths)",
+        cases.compare_equal_neighbours()
+    );
     #[cfg(feature = "snapshots")]
     println!(
         "same snapshots, also of {CHANGED} changed tables and of as many changed ones ({} refused)",

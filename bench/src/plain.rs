@@ -87,6 +87,7 @@ pub fn is_ledger(ledger: &[u32]) -> bool {
         let sound = if ground == 0 {
             (1..=MOST_PATH).contains(&count)
                 && path.iter().all(|&x| x != 0)
+                && path.windows(2).all(|two| two[0] != two[1])
                 && (role == 4 || path[0] == neighbour)
         } else {
             count == 0 && verdict == 1 && a == 0 && b == 0 && !(ground == 2 && role == 4)
