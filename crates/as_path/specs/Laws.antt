@@ -84,7 +84,7 @@ pub record PathLaws : Type 0 where
   -- Of an attribute without a fault: no number is 0;
   pub no-zero : (w : ℕ) (a : List ℕ) → firstFault w a ≡ Clean → (i : ℕ) → i < length (mergedPath (segments w a))
       → getD (mergedPath (segments w a)) i 0 ≡ 0 → ⊥
-  -- if it has bytes, its path has numbers, and the first is the first segment's.
+  -- if it has bytes, its path has numbers, and the first is the attribute's first.
   pub first-number : (w : ℕ) (a : List ℕ) → firstFault w a ≡ Clean → 0 < length a
       → (0 < length (mergedPath (segments w a))) × (getD (mergedPath (segments w a)) 0 0 ≡ numberAt w a 2)
   -- No two neighbours are equal, wherever segments end.

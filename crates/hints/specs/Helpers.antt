@@ -1,4 +1,4 @@
--- The words of hints, of which the functions speak to each other. No promise of a look-up speaks of it.
+-- The words of hints, of which the functions speak to each other. No promise of a look-up speaks of them.
 use Prim.Native.Nat.{ℕ, _+_, _*_}
 use Rattle.register.specs.Register.{mostRecords}
 

@@ -10,7 +10,10 @@ use borrow.Author.Tests.{le-leb, eqb-true, eqb-false, eq-eqb, ne-eqb, not-true}
 use lib.Dec.{eqb, leb}
 use lib.ListN.{length, getD}
 use Rattle.types.specs.Roles.{isRouteServer}
+use Rattle.as_path.specs.Merging.{mergeRuns}
 use Rattle.as_path.specs.Reading.{mostNumbers}
+use Rattle.as_path.proofs.MergedPaths.{merged-no-runs}
+use Rattle.as_path.proofs.Laws.{path-laws}
 use Rattle.keyed.proofs.Orders.{both-left, both-right, both-intro}
 use Rattle.keyed.proofs.Finds.{every-at}
 use Rattle.ledger.specs.Routes.{Route, routesOf, routeAt, noZero, noRepeat, noRuns, pathOk, groundOk, routeOk, ledgerOk}
@@ -51,6 +54,9 @@ at-runs : (l : List ℕ) → ((i : ℕ) → i + 1 < length l → getD l i 0 ≡ 
 unfolding noRuns
 at-runs [] f = refl
 at-runs (x ∷ l) f = at-repeats x l (λ i h. rw (add-one i) at (f i (omega arith)))
+
+left-by-merging : (l : List ℕ) → (noRuns l ≡ true) ↔ (mergeRuns l ≡ l)
+left-by-merging l = ((λ e. path-laws .left-alone l (runs-at l e)), (λ e. at-runs l (rw e at (merged-no-runs l))))
 
 path-rules : (role neighbour : ℕ) (path : List ℕ) → (pathOk role neighbour path ≡ true) ↔ PathRules role neighbour path
 unfolding pathOk
@@ -110,4 +116,4 @@ side-by-side ws i j h k q = go (ledgerOk ws) refl
     go true e = absurd (apart (routeAt (routesOf ws) i) (every-at routeOk (routesOf ws) _ (each-ok (routesOf ws) (routes-ok ws e)) i h) j k q)
 
 pub route-laws : RouteLaws
-route-laws = record { path-rules = path-rules; side-by-side = side-by-side }
+route-laws = record { path-rules = path-rules; left-by-merging = left-by-merging; side-by-side = side-by-side }

@@ -6,8 +6,9 @@ use mathlib.Core.List.{List}
 use mathlib.Core.Logic.{_⊎_, _↔_}
 use lib.ListN.{length, getD}
 use Rattle.types.specs.Roles.{isRouteServer}
+use Rattle.as_path.specs.Merging.{mergeRuns}
 use Rattle.as_path.specs.Reading.{mostNumbers}
-use Rattle.ledger.specs.Routes.{routesOf, routeAt, pathOk, ledgerOk}
+use Rattle.ledger.specs.Routes.{routesOf, routeAt, noRuns, pathOk, ledgerOk}
 
 -- The rules of a path, by its numbers.
 pub record PathRules (role neighbour : ℕ) (path : List ℕ) : Type 0 where
@@ -20,6 +21,8 @@ pub record PathRules (role neighbour : ℕ) (path : List ℕ) : Type 0 where
 pub record RouteLaws : Type 0 where
   -- A path passes exactly by these rules.
   pub path-rules : (role neighbour : ℕ) (path : List ℕ) → (pathOk role neighbour path ≡ true) ↔ PathRules role neighbour path
+  -- The clause on equal neighbours passes just the lists that merging leaves as they are.
+  pub left-by-merging : (l : List ℕ) → (noRuns l ≡ true) ↔ (mergeRuns l ≡ l)
   -- Words with a route in whose path two equal numbers stand side by side are no ledger, whatever else they hold.
   pub side-by-side : (ws : List ℕ) (i j : ℕ) → i < length (routesOf ws) → j + 1 < length (routeAt (routesOf ws) i .path)
       → getD (routeAt (routesOf ws) i .path) j 0 ≡ getD (routeAt (routesOf ws) i .path) (j + 1) 0 → ledgerOk ws ≡ false
