@@ -10,6 +10,7 @@ pub mod attributes;
 pub mod console;
 pub mod judge;
 pub mod random;
+pub mod samples;
 pub mod snapshot;
 pub mod words;
 

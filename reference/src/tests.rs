@@ -2,6 +2,7 @@ use crate::attributes::{hex, segment, sequences};
 use crate::console::answer;
 use crate::judge::{self, slow, Hop};
 use crate::random::Random;
+use crate::samples::{REGISTER_D, SEAMS};
 use crate::snapshot::{number_at, parts, with};
 use crate::words::{padded, Form};
 use crate::*;
@@ -24,10 +25,7 @@ fn sequence(numbers: &[u32]) -> String {
 
 fn with_register_d() -> Model {
     let mut model = Model::new();
-    for command in [
-        "file 0 10 20 30", "file 0 20 40", "file 0 40 0", "file 0 50 40", "file 0 70 80",
-        "file 0 80 70",
-    ] {
+    for command in REGISTER_D {
         check(&mut model, &[(command, "new")]);
     }
     model
@@ -789,18 +787,6 @@ fn word_rules() {
         assert!(model.rejudge().is_ok(), "{poke}");
     }
 }
-
-/// Paths that end with the number that the next one begins with, over an entry
-/// without a path too, and two of one number.
-const SEAMS: [(u32, u32, u32, &[u32]); 7] = [
-    (5, 1, 20, &[20, 10, 30, 40]),
-    (6, 3, 40, &[40, 20, 10, 50]),
-    (7, 4, 9, &[]),
-    (8, 4, 99, &[50, 10, 20]),
-    (9, 2, 20, &[20]),
-    (10, 5, 20, &[20]),
-    (11, 6, 20, &[20, 10, 40, 30]),
-];
 
 fn with_seams() -> Model {
     let mut model = with_register_d();

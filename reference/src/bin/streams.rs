@@ -6,6 +6,7 @@
 use reference::attributes::{hex, segment, sequences};
 use reference::console;
 use reference::random::Random;
+use reference::samples::{REGISTER_D, SEAMS};
 use reference::snapshot::{self, number_at, parts, with, CONTENTS};
 use reference::words::{padded, Form};
 use reference::{
@@ -1382,11 +1383,6 @@ const BAD_LINES: [&str; 58] = [
 
 // Fixed vectors
 
-const REGISTER_D: [&str; 6] = [
-    "file 0 10 20 30", "file 0 20 40", "file 0 40 0", "file 0 50 40", "file 0 70 80",
-    "file 0 80 70",
-];
-
 /// Role, neighbour, path of the vectors A to L, all over register D.
 const A_TO_L: [(u32, u32, &[u32]); 12] = [
     (1, 20, &[20, 10]),
@@ -2153,18 +2149,6 @@ fn own_customers_stored(lines: &mut Lines) {
         lines.say("register");
     }
 }
-
-/// Paths that end with the number that the next one begins with, over an entry
-/// without a path too, and two of one number.
-const SEAMS: [(u32, u32, u32, &[u32]); 7] = [
-    (5, 1, 20, &[20, 10, 30, 40]),
-    (6, 3, 40, &[40, 20, 10, 50]),
-    (7, 4, 9, &[]),
-    (8, 4, 99, &[50, 10, 20]),
-    (9, 2, 20, &[20]),
-    (10, 5, 20, &[20]),
-    (11, 6, 20, &[20, 10, 40, 30]),
-];
 
 fn seams(lines: &mut Lines) {
     lines.all(&REGISTER_D);
