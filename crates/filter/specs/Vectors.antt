@@ -6,13 +6,12 @@ use mathlib.Core.Option.{none}
 use lib.ListN.{length, replicate}
 use Rattle.types.specs.declared.Judged.{Judged}
 use Rattle.types.specs.Rows.{firstGiven}
-use Rattle.rules.specs.Records.{hopOf}
+use Rattle.rules.specs.Records.{Record, isIn, hopOf}
 use Rattle.rules.specs.Judging.{unlessGiven, judgedRoute}
 use Rattle.rules.specs.Vectors as rules
 use Rattle.rules.specs.Vectors.{registerD, sequence, Vector, vectors, wanted, sequences, CutVector, cutVectors, wantedCut}
 use Rattle.table.specs.Table.{slots, bodies, pad, encode, decodeSlots, decode, slotsOk, allZero, wellFormed}
 use Rattle.keyed.specs.Keyed.{ascendsFrom, ascends, holds, put, every}
-use Rattle.rules.specs.Records.{isIn}
 use Rattle.register.specs.Register.{registerWords, recordsOf, registerOf, listed, risesFrom, rises, listOk, recordOk, roomFor, recordsOk, registerOk}
 use Rattle.register.specs.Calls.{fileEffect}
 use Rattle.filter.specs.Calls.{registerRows, judgeAnswer}
@@ -106,12 +105,16 @@ records-d : recordsOf packedD ≡ registerD
 unfolding recordsOf decodeSlots decode
 records-d = refl
 
--- Over them Judge answers as the definitions do over register D.
-over-d : (role neighbour : ℕ) (attribute : List ℕ) → judgeAnswer wordsD role neighbour attribute ≡ judgedRoute (hopOf registerD) role neighbour attribute
+-- Over words that pass both rows Judge answers as the definitions do over their records,
+pub over : (ws : List ℕ) (rs : List Record) → firstGiven (registerRows ws) ≡ none → recordsOf ws ≡ rs
+    → (role neighbour : ℕ) (attribute : List ℕ) → judgeAnswer ws role neighbour attribute ≡ judgedRoute (hopOf rs) role neighbour attribute
 unfolding judgeAnswer
+over ws rs p e role neighbour attribute = λ i. unlessGiven (p i) (judgedRoute (hopOf (e i)) role neighbour attribute)
+
+-- and so over these.
+over-d : (role neighbour : ℕ) (attribute : List ℕ) → judgeAnswer wordsD role neighbour attribute ≡ judgedRoute (hopOf registerD) role neighbour attribute
 over-d role neighbour attribute =
-    ap (λ ws. judgeAnswer ws role neighbour attribute) whole-register
-    ∙ (λ i. unlessGiven (passed i) (judgedRoute (hopOf (records-d i)) role neighbour attribute))
+    ap (λ ws. judgeAnswer ws role neighbour attribute) whole-register ∙ over packedD registerD passed records-d role neighbour attribute
 
 -- What Judge answers to a vector.
 abbrev pub given : Vector → Judged

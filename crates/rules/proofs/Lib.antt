@@ -6,4 +6,5 @@ pub mod Locality
 pub mod Drafting
 pub mod Judges
 pub mod Laws
+pub mod Sequences
 pub mod Edges
