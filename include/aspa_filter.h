@@ -38,9 +38,9 @@ extern "C" {
 
 /* The version of this header and of the library that is installed with it. */
 #define ASPA_FILTER_VERSION_MAJOR 0
-#define ASPA_FILTER_VERSION_MINOR 5
+#define ASPA_FILTER_VERSION_MINOR 6
 #define ASPA_FILTER_VERSION_PATCH 0
-#define ASPA_FILTER_VERSION "0.5.0"
+#define ASPA_FILTER_VERSION "0.6.0"
 
 /* gcc and clang warn about a call whose result is not used. */
 #if defined(__GNUC__) || defined(__clang__)
@@ -92,10 +92,14 @@ extern "C" {
 
 /* Sources are numbered from 0 to this. */
 #define ASPA_GREATEST_SOURCE 7
-/* The most providers in one list, bytes of an attribute, and numbers of a merged path. */
+/*
+ * The most providers in one list, bytes of an attribute, and numbers of a merged path. A segment's count is one byte, so
+ * a path of more than 255 numbers comes in several. Before 0.6.0 the last two were 1024 and 64: such a version refuses
+ * by 3 a ledger, and a snapshot, with a longer path or a place above 64.
+ */
 #define ASPA_MOST_PROVIDERS 256
-#define ASPA_MOST_ATTRIBUTE_BYTES 1024
-#define ASPA_MOST_PATH 64
+#define ASPA_MOST_ATTRIBUTE_BYTES 4096
+#define ASPA_MOST_PATH 512
 
 /* The role of the neighbour: 1, 2, 4 and 5 are judged upstream, 3 and 6 downstream. */
 #define ASPA_ROLE_CUSTOMER 1
@@ -242,7 +246,7 @@ uint32_t aspa_drop(uint32_t *ledger, size_t ledger_len, uint32_t route);
  * Judges every kept route that has no ground again by the register, and rewrites its verdict and both places in the
  * ledger. Rows 1, 2, 3.
  *   out[0]: how many routes changed in any of those three words. On a refusal ASPA_NO_COUNT.
- * It takes some 17 KiB of stack, and aspa_read more; every other call takes less than 2 KiB.
+ * It takes some 17 KiB of stack, and aspa_read more; every other call takes less than 3 KiB.
  */
 ASPA_USE_RESULT
 uint32_t aspa_rejudge(const uint32_t *reg, size_t reg_len, uint32_t *ledger, size_t ledger_len, uint32_t out[1]);

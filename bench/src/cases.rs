@@ -2,7 +2,7 @@
 use crate::plain::{self, RECORD, ROUTE};
 use crate::work::{self, attribute, numbers, Random, Work, ROUTES};
 use aspa_filter::{
-    AsNumber, Filed, Ledger, Refusal, Register, Role, RouteNumber, MOST_PROVIDERS,
+    AsNumber, Filed, Ledger, Refusal, Register, Role, RouteNumber, MOST_PATH, MOST_PROVIDERS,
     MOST_PROVIDER_WORDS, MOST_RECORDS,
 };
 use std::cell::RefCell;
@@ -79,7 +79,8 @@ impl fmt::Display for What {
 }
 
 pub struct Cases {
-    /// The first are those of the main figure, the others those of the table of medians, the longest lists last.
+    /// The first are those of the main figure, the others those of the table of medians. The longest paths are last, and so are the calls
+    /// with them: earlier libraries do not take them.
     pub tables: Vec<Tables>,
     pub calls: Vec<Call>,
     random: Random,
@@ -118,8 +119,18 @@ impl Cases {
             &tables[0].register,
             &tables[0].stale,
         ));
+        let mut calls: Vec<Call> = calls.collect();
+        if let Some(stale) = work.longest_paths() {
+            let register = tables[0].register.clone();
+            calls.extend(calls_on_longest_paths(&work, &register));
+            tables.push(Tables {
+                name: format!("{} routes of {MOST_PATH}", stale.routes().count()),
+                register,
+                stale,
+            });
+        }
         Cases {
-            calls: calls.collect(),
+            calls,
             tables,
             random: changes,
         }
@@ -261,36 +272,64 @@ fn check(register: &Register) -> Timed {
     Timed { nanoseconds, check }
 }
 
+fn call(name: &'static str, run: impl Fn(usize) -> Timed + 'static) -> Call {
+    Call {
+        name,
+        run: Box::new(run),
+        plain: None,
+    }
+}
+
+/// Judges paths of so many numbers, cut into segments of so many.
+fn judge(
+    work: &Work,
+    register: &Register,
+    role: Role,
+    length: usize,
+    segment: usize,
+) -> impl Fn(usize) -> Timed + 'static {
+    let register = register.clone();
+    let paths: Vec<_> = (0..ROUTES)
+        .map(|first| {
+            let path = work.joined(first, length);
+            let bytes: Vec<u8> = path.chunks(segment).flat_map(attribute).collect();
+            (AsNumber(path[0]), bytes)
+        })
+        .collect();
+    move |round| {
+        let (neighbour, bytes) = &paths[round % ROUTES];
+        let (nanoseconds, r) =
+            time(|| black_box(&register).judge(role, *neighbour, black_box(bytes)));
+        let check = hash(r.expect("judged"));
+        Timed { nanoseconds, check }
+    }
+}
+
+fn calls_on_longest_paths(work: &Work, register: &Register) -> [Call; 3] {
+    let judge =
+        |register: &Register, role, segment| judge(work, register, role, MOST_PATH, segment);
+    [
+        call(
+            "judge, path of 512, role 1",
+            judge(register, Role::Customer, MOST_PATH),
+        ),
+        call(
+            "judge, path of 512, role 3",
+            judge(register, Role::Provider, MOST_PATH),
+        ),
+        call(
+            "judge, path of 512 in segments of 1, empty register",
+            judge(&Register::new(), Role::Customer, 1),
+        ),
+    ]
+}
+
 /// Over the main tables and over a register of the longest lists. A processor comes to know the branches of a register that is checked again
 /// and again; "new lists" are other ones in every run.
 fn calls(work: &Work, tables: &Tables, long: &Register) -> Vec<Call> {
     let register = &tables.register;
-    fn call(name: &'static str, run: impl Fn(usize) -> Timed + 'static) -> Call {
-        Call {
-            name,
-            run: Box::new(run),
-            plain: None,
-        }
-    }
-    // Paths longer than those of the routes go on with the next ones. They are cut into segments of so many numbers.
-    let judge = |register: &Register, role: Role, length: usize, segment: usize| {
-        let register = register.clone();
-        let paths: Vec<_> = (0..ROUTES)
-            .map(|first| {
-                let next = work.paths.iter().cycle().skip(first).flatten();
-                let path: Vec<u32> = next.copied().take(length).collect();
-                let bytes: Vec<u8> = path.chunks(segment).flat_map(attribute).collect();
-                (AsNumber(path[0]), bytes)
-            })
-            .collect();
-        move |round: usize| {
-            let (neighbour, bytes) = &paths[round % ROUTES];
-            let (nanoseconds, r) =
-                time(|| black_box(&register).judge(role, *neighbour, black_box(bytes)));
-            let check = hash(r.expect("judged"));
-            Timed { nanoseconds, check }
-        }
-    };
+    let judge =
+        |register: &Register, role, length, segment| judge(work, register, role, length, segment);
     let rejudge_none = |register: &Register| {
         let register = register.clone();
         move |_| check(&register)

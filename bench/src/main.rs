@@ -77,11 +77,19 @@ impl Timer<'_> {
         }
     }
 
-    /// How many calls its library has. Later ones are not in earlier libraries.
+    /// How many calls its library takes. Later ones are not for earlier libraries.
     fn calls(&mut self) -> usize {
         match self {
             Timer::Here(cases) => cases.calls.len(),
             Timer::Worker(worker) => worker.calls(),
+        }
+    }
+
+    /// How many tables it takes, likewise.
+    fn tables(&mut self) -> usize {
+        match self {
+            Timer::Here(cases) => cases.tables.len(),
+            Timer::Worker(worker) => worker.tables(),
         }
     }
 }
@@ -93,17 +101,24 @@ struct Way {
     timer: usize,
 }
 
-/// How long each way takes on these tables.
+/// How long each way takes on these tables; nothing where its library does not take them.
 fn time_rejudges(
     timers: &mut [Timer],
     ways: &[Way],
     rounds: usize,
     tables: usize,
 ) -> Vec<Vec<f64>> {
-    interleaved(ways.len(), rounds, |which, round| {
-        let Way { plain, timer, .. } = ways[which];
+    let takes = |way: &usize| tables < timers[ways[*way].timer].tables();
+    let there: Vec<usize> = (0..ways.len()).filter(takes).collect();
+    let times = interleaved(there.len(), rounds, |which, round| {
+        let Way { plain, timer, .. } = ways[there[which]];
         timers[timer].time(What::Rejudge(tables, plain), round)
-    })
+    });
+    let mut all = vec![Vec::new(); ways.len()];
+    for (way, times) in there.into_iter().zip(times) {
+        all[way] = times;
+    }
+    all
 }
 
 /// The program with another library, and the rounds.
@@ -204,7 +219,10 @@ fn main() {
     for (i, tables) in cases.tables.iter().enumerate().skip(1) {
         print!("{:<42}", tables.name);
         for samples in &mut time_rejudges(&mut timers, &ways, rounds.div_ceil(5), i) {
-            print!(" {:>9.1}", spread(samples)[1]);
+            match samples[..] {
+                [] => print!(" {:>9}", "-"),
+                _ => print!(" {:>9.1}", spread(samples)[1]),
+            }
         }
         println!();
     }

@@ -1,5 +1,7 @@
 //! The tables that are measured, made from the same random numbers in every run.
-use aspa_filter::{AsNumber, Ledger, Register, Role, RouteNumber, MOST_ROUTES};
+use aspa_filter::{
+    AsNumber, Ledger, Refusal, Register, Role, RouteNumber, MOST_PATH, MOST_PATH_WORDS, MOST_ROUTES,
+};
 
 /// xorshift64*.
 #[derive(Clone)]
@@ -228,27 +230,31 @@ pub fn numbers(words: &[u32]) -> Vec<AsNumber> {
     words.iter().copied().map(AsNumber).collect()
 }
 
-/// One AS_SEQUENCE.
+/// One AS_SEQUENCE, or as few as a longer path needs.
 pub fn attribute(path: &[u32]) -> Vec<u8> {
-    aspa_filter::sequence(&numbers(path)).expect("a short path")
+    aspa_filter::sequence(&numbers(path)).expect("a path")
+}
+
+/// Routes that were kept before any record was filed.
+fn ledger(paths: &[Vec<u32>]) -> Result<Ledger, Refusal> {
+    let (register, mut ledger) = (Register::new(), Ledger::new());
+    for (route, path) in paths.iter().enumerate() {
+        let (number, neighbour) = (RouteNumber(route as u32), AsNumber(path[0]));
+        ledger.keep(
+            &register,
+            number,
+            role_of(route),
+            neighbour,
+            &attribute(path),
+        )?;
+    }
+    Ok(ledger)
 }
 
 impl Work {
-    /// The register, and a ledger whose routes were kept before any record was filed.
+    /// The register, and a ledger of the routes.
     pub fn tables(&self) -> (Register, Ledger) {
-        let (mut register, mut ledger) = (Register::new(), Ledger::new());
-        for (route, path) in self.paths.iter().enumerate() {
-            let (number, neighbour) = (RouteNumber(route as u32), AsNumber(path[0]));
-            ledger
-                .keep(
-                    &register,
-                    number,
-                    role_of(route),
-                    neighbour,
-                    &attribute(path),
-                )
-                .expect("kept");
-        }
+        let (mut register, ledger) = (Register::new(), ledger(&self.paths).expect("kept"));
         for (customer, list) in self.customers.iter().zip(&self.lists) {
             register
                 .file(0, AsNumber(*customer), &numbers(list))
@@ -261,5 +267,29 @@ impl Work {
         );
         assert_eq!(ledger.words()[..2], [ROUTES as u32, (ROUTES * PATH) as u32]);
         (register, ledger)
+    }
+
+    /// A path of so many numbers: a route's, and where they end the next ones'. As in these, no two neighbours are equal.
+    pub fn joined(&self, first: usize, length: usize) -> Vec<u32> {
+        let mut path = Vec::new();
+        for &number in self.paths.iter().cycle().skip(first).flatten() {
+            if path.len() == length {
+                break;
+            }
+            if path.last() != Some(&number) {
+                path.push(number);
+            }
+        }
+        path
+    }
+
+    /// A ledger that the longest paths fill. Nothing if the library takes no attributes of that length.
+    pub fn longest_paths(&self) -> Option<Ledger> {
+        let firsts = (0..MOST_PATH_WORDS / MOST_PATH).map(|route| route * MOST_PATH / PATH);
+        let paths: Vec<Vec<u32>> = firsts.map(|first| self.joined(first, MOST_PATH)).collect();
+        match ledger(&paths) {
+            Err(Refusal::AttributeLength) => None,
+            ledger => Some(ledger.expect("kept")),
+        }
     }
 }

@@ -1,8 +1,8 @@
 //! Processes that time one library each, so that two builds of it can be compared: their names are the same, and one program cannot hold
 //! both.
 //!
-//! A worker reads lines: what to time and the round, `calls`, or `compare`. It answers each by a line: the nanoseconds and the check, how
-//! many calls its library has, or the hash of the comparison. It ends at the end of its input.
+//! A worker reads lines: what to time and the round, `calls`, `tables`, or `compare`. It answers each by a line: the nanoseconds and the
+//! check, how many calls or tables its library takes, or the hash of the comparison. It ends at the end of its input.
 use crate::cases::{Cases, Timed, What};
 use std::io::{BufRead, BufReader, Write};
 use std::path::Path;
@@ -24,6 +24,10 @@ pub fn serve(cases: &Cases) {
             "plain-call" => (What::PlainCall(number(1)), number(2)),
             "calls" => {
                 println!("{}", cases.calls.len());
+                continue;
+            }
+            "tables" => {
+                println!("{}", cases.tables.len());
                 continue;
             }
             "compare" => {
@@ -83,6 +87,11 @@ impl Worker {
     pub fn calls(&mut self) -> usize {
         let [calls] = self.ask("calls");
         calls as usize
+    }
+
+    pub fn tables(&mut self) -> usize {
+        let [tables] = self.ask("tables");
+        tables as usize
     }
 
     pub fn compare(&mut self) -> u64 {

@@ -15,22 +15,28 @@ static uint32_t ledger[ASPA_LEDGER_WORDS];
 /* A segment's count is one byte. */
 #define MOST_IN_SEGMENT 255
 
-/* An AS_PATH attribute of one sequence. */
+/* An AS_PATH attribute. */
 typedef struct attribute {
-    uint8_t bytes[2 + 4 * MOST_IN_SEGMENT];
+    uint8_t bytes[ASPA_MOST_ATTRIBUTE_BYTES];
     size_t length;
 } attribute;
 
-/* One sequence of four-byte numbers, the neighbour first and the origin last. Returns 0 if there are none, or too many for one. */
-static int sequence(attribute *to, const uint32_t *path, size_t n) {
-    size_t at = 0;
-    if (n == 0 || n > MOST_IN_SEGMENT)
+/*
+ * A path of four-byte numbers, the neighbour first and the origin last: one sequence, or several if it is too long for one. Returns 0 if
+ * there are no numbers, or too many for an attribute.
+ */
+static int sequences(attribute *to, const uint32_t *path, size_t n) {
+    size_t at = 0, segments = n / MOST_IN_SEGMENT + (n % MOST_IN_SEGMENT != 0);
+    if (n == 0 || n > sizeof to->bytes / 4 || 2 * segments + 4 * n > sizeof to->bytes)
         return 0;
-    to->bytes[at++] = 2;
-    to->bytes[at++] = (uint8_t)n;
-    for (size_t i = 0; i < n; i++)
+    for (size_t i = 0; i < n; i++) {
+        if (i % MOST_IN_SEGMENT == 0) {
+            to->bytes[at++] = 2;
+            to->bytes[at++] = (uint8_t)(n - i < MOST_IN_SEGMENT ? n - i : MOST_IN_SEGMENT);
+        }
         for (int shift = 24; shift >= 0; shift -= 8)
             to->bytes[at++] = (uint8_t)(path[i] >> shift);
+    }
     to->length = at;
     return 1;
 }
@@ -80,8 +86,8 @@ static void file(uint32_t source, uint32_t customer, const uint32_t *providers, 
 
 static void judge(uint32_t role, const uint32_t *path, size_t n) {
     attribute a;
-    if (!sequence(&a, path, n)) {
-        printf("judge: %zu numbers make no sequence\n", n);
+    if (!sequences(&a, path, n)) {
+        printf("judge: %zu numbers make no attribute\n", n);
         return;
     }
     print_answer("judge", aspa_judge_route(reg, ASPA_REGISTER_WORDS, role, path[0], a.bytes, a.length));
@@ -89,8 +95,8 @@ static void judge(uint32_t role, const uint32_t *path, size_t n) {
 
 static void keep(uint32_t route, uint32_t role, const uint32_t *path, size_t n) {
     attribute a;
-    if (!sequence(&a, path, n)) {
-        printf("keep: %zu numbers make no sequence\n", n);
+    if (!sequences(&a, path, n)) {
+        printf("keep: %zu numbers make no attribute\n", n);
         return;
     }
     print_answer("keep", aspa_keep_route(reg, ASPA_REGISTER_WORDS, ledger, ASPA_LEDGER_WORDS, route, role, path[0], a.bytes, a.length));
@@ -140,8 +146,11 @@ static void save_and_restore(void) {
 int main(void) {
     static const uint32_t of_10[] = {20, 30}, of_20[] = {40}, of_20_too[] = {50}, of_40[] = {0}, of_50[] = {40};
     static const uint32_t of_60[] = {50, 60};
-    static const uint32_t up[] = {50, 20, 10}, peak[] = {20, 10, 30}, over[] = {50, 40, 20, 10}, many[256] = {20};
+    static const uint32_t up[] = {50, 20, 10}, peak[] = {20, 10, 30}, over[] = {50, 40, 20, 10};
     static const uint8_t cut[] = {2};
+    static uint32_t many[ASPA_MOST_PATH + 1];
+    for (uint32_t i = 0; i <= ASPA_MOST_PATH; i++)
+        many[i] = 1000 + i;
 
     printf("ASPA filter %s\n", ASPA_FILTER_VERSION);
     file(0, 10, of_10, 2);
@@ -155,7 +164,10 @@ int main(void) {
     judge(ASPA_ROLE_CUSTOMER, up, 3);
     judge(ASPA_ROLE_PROVIDER, peak, 3);
     judge(ASPA_ROLE_PROVIDER, over, 4);
-    judge(ASPA_ROLE_CUSTOMER, many, 256);
+    /* The longest path that is judged, one with a number more, and one without numbers. */
+    judge(ASPA_ROLE_CUSTOMER, many, ASPA_MOST_PATH);
+    judge(ASPA_ROLE_CUSTOMER, many, ASPA_MOST_PATH + 1);
+    judge(ASPA_ROLE_CUSTOMER, many, 0);
     print_answer("judge", aspa_judge_route(reg, ASPA_REGISTER_WORDS, ASPA_ROLE_CUSTOMER, 20, cut, sizeof cut));
     print_answer("judge", aspa_judge_route(reg, ASPA_REGISTER_WORDS, ASPA_ROLE_CUSTOMER, 20, NULL, 0));
 

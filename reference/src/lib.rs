@@ -28,8 +28,8 @@ pub const MOST_RECORDS: usize = 1_024;
 pub const MOST_PROVIDERS: usize = 256;
 pub const MOST_ROUTES: usize = 512;
 pub const MOST_BODY_WORDS: usize = 8_192;
-pub const LONGEST_ATTRIBUTE: usize = 1_024;
-pub const LONGEST_PATH: usize = 64;
+pub const LONGEST_ATTRIBUTE: usize = 4_096;
+pub const LONGEST_PATH: usize = 512;
 
 /// Provider lists by customer, then source: the order of the register's entries.
 pub type Records = BTreeMap<(AsNumber, u32), Vec<AsNumber>>;

@@ -17,3 +17,25 @@ pub const SEAMS: [(u32, u32, u32, &[u32]); 7] = [
     (10, 5, 20, &[20]),
     (11, 6, 20, &[20, 10, 40, 30]),
 ];
+
+/// 1 to `last`.
+pub fn upto(last: u32) -> Vec<u32> {
+    (1..=last).collect()
+}
+
+/// 1 to `last`, those up to `twice` two times each.
+pub fn doubled(last: u32, twice: u32) -> Vec<u32> {
+    (1..=last).flat_map(|n| vec![n; if n <= twice { 2 } else { 1 }]).collect()
+}
+
+/// `count` numbers, 1 to `last` in runs about as long as each other.
+pub fn spread(last: usize, count: usize) -> Vec<u32> {
+    (0..count).map(|i| 1 + (i * last / count) as u32).collect()
+}
+
+/// Filings, in their order, by which each of 1 to `last` lists the numbers beside it.
+pub fn chain(last: u32) -> Vec<String> {
+    let beside = |n: u32| [n - 1, n + 1].into_iter().filter(|n| (1..=last).contains(n));
+    let list = |n: u32| beside(n).map(|n| format!(" {n}")).collect::<String>();
+    (1..=last).map(|n| format!("file 3 {n}{}", list(n))).collect()
+}

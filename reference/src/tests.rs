@@ -1,8 +1,8 @@
-use crate::attributes::{hex, segment, sequences};
+use crate::attributes::{cut, hex, overlapping, segment, sequence, sequences, LONGEST_SEGMENT};
 use crate::console::answer;
 use crate::judge::{self, slow, Hop};
 use crate::random::Random;
-use crate::samples::{REGISTER_D, SEAMS};
+use crate::samples::{chain, doubled, spread, upto, REGISTER_D, SEAMS};
 use crate::snapshot::{number_at, parts, with};
 use crate::words::{padded, Form};
 use crate::*;
@@ -18,9 +18,9 @@ fn run(steps: &[(&str, &str)]) {
     check(&mut Model::new(), steps);
 }
 
-/// One sequence, as hex.
-fn sequence(numbers: &[u32]) -> String {
-    hex(&segment(2, numbers))
+/// A path in as few sequences as hold it, as hex.
+fn in_hex(path: &[u32]) -> String {
+    hex(&sequence(path))
 }
 
 fn with_register_d() -> Model {
@@ -51,14 +51,14 @@ const VECTORS: [(&str, u32, u32, &[u32], &str); 12] = [
 #[test]
 fn vectors_a_to_l() {
     let mut model = with_register_d();
-    assert_eq!(sequence(&[20, 10]), "0202000000140000000a");
+    assert_eq!(in_hex(&[20, 10]), "0202000000140000000a");
     for (name, role, neighbour, path, expected) in VECTORS {
-        let command = format!("judge {role} {neighbour} {}", sequence(path));
+        let command = format!("judge {role} {neighbour} {}", in_hex(path));
         assert_eq!(answer(&mut model, command.as_bytes()), expected, "vector {name}");
     }
     check(&mut model, &[("ledger", "0 0")]);
     for (i, (name, role, neighbour, path, expected)) in VECTORS.iter().enumerate() {
-        let command = format!("keep {} {role} {neighbour} {}", i + 1, sequence(path));
+        let command = format!("keep {} {role} {neighbour} {}", i + 1, in_hex(path));
         assert_eq!(answer(&mut model, command.as_bytes()), *expected, "vector {name}");
     }
     let entries = [
@@ -77,9 +77,9 @@ fn vectors_a_to_l() {
 #[test]
 fn vectors_m_to_o() {
     let mut model = with_register_d();
-    let g = format!("judge 3 20 {}", sequence(&[20, 10, 30]));
-    let b = format!("judge 1 40 {}", sequence(&[40, 20, 10]));
-    let c = format!("judge 1 50 {}", sequence(&[50, 20, 10]));
+    let g = format!("judge 3 20 {}", in_hex(&[20, 10, 30]));
+    let b = format!("judge 1 40 {}", in_hex(&[40, 20, 10]));
+    let c = format!("judge 1 50 {}", in_hex(&[50, 20, 10]));
     let o = hex(&sequences(&[&[20], &[20, 10]]));
     assert_eq!(o, "0201000000140202000000140000000a");
     check(
@@ -205,8 +205,8 @@ fn grounds_in_order() {
     let set_first = of(&[(1, &[20]), (2, &[99])]);
     let stranger_and_set = of(&[(2, &[99]), (1, &[20])]);
     let set_last = of(&[(2, &[20]), (1, &[10])]);
-    let long: Vec<u32> = (1..=65).collect();
-    let long_set = of(&[(2, &long), (1, &[3])]);
+    let long = in_hex(&upto(513));
+    let long_set = format!("{long}{}", of(&[(1, &[3])]));
     for (role, neighbour, bytes, expected) in [
         (4, 20, "-", "Invalid ground 1"),
         (3, 20, "-", "Invalid ground 1"),
@@ -219,43 +219,161 @@ fn grounds_in_order() {
         // a ground goes before row 17
         (1, 1, &long_set, "Invalid ground 3"),
         (1, 2, &long_set, "Invalid ground 2"),
-        (1, 2, &sequence(&long), "Invalid ground 2"),
-        (4, 2, &sequence(&long), "refused 17"),
-        (1, 1, &sequence(&long), "refused 17"),
+        (1, 2, &long, "Invalid ground 2"),
+        (4, 2, &long, "refused 17"),
+        (1, 1, &long, "refused 17"),
     ] {
         check(&mut model, &[(&format!("judge {role} {neighbour} {bytes}"), expected)]);
     }
 }
 
+/// Judges in an empty register, where the answer to role 3 tells how many numbers are left.
+fn judged(role: u32, neighbour: u32, attribute: &[u8]) -> String {
+    answer(&mut Model::new(), format!("judge {role} {neighbour} {}", hex(attribute)).as_bytes())
+}
+
 #[test]
-fn merging_and_bounds() {
-    let mut model = Model::new();
-    let mut judge = |role: u32, neighbour: u32, bytes: &[u8]| {
-        answer(&mut model, format!("judge {role} {neighbour} {}", hex(bytes)).as_bytes())
-    };
-    let upto = |n: u32| (1..=n).collect::<Vec<u32>>();
-    assert_eq!(judge(1, 1, &segment(2, &upto(64))), "Unknown 2 0");
-    assert_eq!(judge(3, 1, &segment(2, &upto(64))), "Unknown 1 64 gap 63");
-    assert_eq!(judge(3, 1, &segment(2, &upto(65))), "refused 17");
-    // 128 numbers, each twice: 64 merged; one more segment, with the last number or another
-    let twice: Vec<u32> = upto(64).iter().flat_map(|n| [*n, *n]).collect();
-    assert_eq!(judge(1, 1, &segment(2, &twice)), "Unknown 2 0");
-    assert_eq!(judge(3, 1, &sequences(&[&twice, &[64]])), "Unknown 1 64 gap 63");
-    assert_eq!(judge(3, 1, &sequences(&[&twice, &[63]])), "refused 17");
-    // 2 + 4 * 200 + 2 + 4 * 55 = 1,024 bytes
-    for (second, [up, down]) in [(7, ["Valid", "Valid gap 0"]), (8, ["Unknown 2 0", "Valid gap 1"])]
-    {
-        let most = sequences(&[&[7; 200], &[second; 55]]);
-        assert_eq!(most.len(), 1_024);
-        assert_eq!(judge(1, 7, &most), up);
-        assert_eq!(judge(3, 7, &most), down);
-        assert_eq!(judge(1, 7, &[most, vec![2]].concat()), "refused 11");
+fn path_lengths() {
+    for (length, downstream) in [
+        (1, "Valid gap 0"),
+        (2, "Valid gap 1"),
+        (63, "Unknown 1 63 gap 62"),
+        (64, "Unknown 1 64 gap 63"),
+        (65, "Unknown 1 65 gap 64"),
+        (254, "Unknown 1 254 gap 253"),
+        (255, "Unknown 1 255 gap 254"),
+        (256, "Unknown 1 256 gap 255"),
+        (257, "Unknown 1 257 gap 256"),
+        (511, "Unknown 1 511 gap 510"),
+        (512, "Unknown 1 512 gap 511"),
+        (513, "refused 17"),
+        (1_021, "refused 17"),
+    ] {
+        let upstream = match length {
+            1 => "Valid",
+            513.. => "refused 17",
+            _ => "Unknown 2 0",
+        };
+        let path = sequence(&upto(length));
+        for (role, expected) in [(1, upstream), (3, downstream), (4, upstream), (6, downstream)] {
+            assert_eq!(judged(role, 1, &path), expected, "{length}");
+        }
+        // a ground goes before row 17
+        assert_eq!(judged(3, 9, &path), "Invalid ground 2");
+        if length <= 513 {
+            assert_eq!(judged(4, 9, &[path, segment(1, &[1])].concat()), "Invalid ground 3");
+        }
     }
-    assert_eq!(judge(1, 7, &[0; 1_025]), "refused 11");
-    assert_eq!(judge(1, 7, &[0; 1_024]), "refused 13 at 0");
-    // one number
-    assert_eq!(judge(1, 7, &segment(2, &[7, 7, 7])), "Valid");
-    assert_eq!(judge(6, 7, &segment(2, &[7])), "Valid gap 0");
+    assert_eq!(judged(1, 7, &sequence(&[7, 7, 7])), "Valid");
+    // 1,020 numbers, 512 of them left; then the last one again, and another
+    let twice = sequence(&doubled(512, 508));
+    assert_eq!(twice.len(), 4 * 1_022);
+    let longest = "Unknown 1 512 gap 511";
+    for (behind, expected) in [(&[][..], longest), (&[512], longest), (&[511], "refused 17")] {
+        assert_eq!(judged(3, 1, &[twice.clone(), sequence(behind)].concat()), expected);
+    }
+}
+
+#[test]
+fn segments_hold_255() {
+    let full = sequence(&upto(255));
+    assert_eq!((full.len(), full[1]), (1_022, 255));
+    assert_eq!(sequence(&upto(256))[1_022..], [2, 1, 0, 0, 1, 0]);
+    assert_eq!(sequence(&upto(512)).len(), 3 * 2 + 4 * 512);
+    for (last, expected) in [(512, "Unknown 1 512 gap 511"), (513, "refused 17")] {
+        for sizes in [&[255, 255][..], &[2, 255, 255], &[255, 2, 255], &[1; 512], &[2; 256]] {
+            assert_eq!(judged(3, 1, &sequences(&cut(&upto(last), sizes))), expected, "{sizes:?}");
+        }
+        // a run over the end of each segment, of 255 numbers or fewer
+        for step in [2, 253, 254] {
+            assert_eq!(judged(3, 1, &overlapping(last, step)), expected, "{step}");
+        }
+    }
+    let equal = [7; 255];
+    assert_eq!(judged(3, 7, &sequences(&[&equal])), "Valid gap 0");
+    assert_eq!(judged(3, 7, &sequences(&[&equal[..]; 4])), "Valid gap 0");
+    assert_eq!(judged(3, 7, &sequences(&[&equal, &[8], &equal])), "Unknown 1 3 gap 2");
+    // of another type, alone and behind a full sequence
+    for (kind, first, second) in [
+        (0, "refused 13 at 0", "refused 13 at 1022"),
+        (1, "Invalid ground 3", "Invalid ground 3"),
+        (3, "refused 14 at 0", "refused 14 at 1022"),
+        (4, "refused 14 at 0", "refused 14 at 1022"),
+    ] {
+        let other = segment(kind, &upto(255));
+        assert_eq!(judged(1, 1, &other), first);
+        assert_eq!(judged(1, 1, &[full.clone(), other].concat()), second);
+    }
+    // a count of one fewer leaves a header of zeros, one of one more a short segment
+    let count = |numbers: u32, count: u8| {
+        let mut bytes = sequence(&upto(numbers));
+        bytes[1] = count;
+        bytes
+    };
+    assert_eq!(judged(1, 1, &count(255, 254)), "refused 13 at 1018");
+    assert_eq!(judged(1, 1, &count(254, 255)), "refused 12 at 0");
+    assert_eq!(judged(1, 1, &full[..1_021]), "refused 12 at 0");
+}
+
+#[test]
+#[should_panic(expected = "a count fits one byte")]
+fn no_segment_of_256() {
+    segment(2, &upto(256));
+}
+
+/// Six segments of 1,021 numbers: 12 + 4,084 bytes.
+#[test]
+fn longest_attributes() {
+    let most = |left: usize| sequences(&cut(&spread(left, 1_021), &[255, 255, 255, 254, 1]));
+    for (left, expected) in [
+        (1, "Valid gap 0"),
+        (2, "Valid gap 1"),
+        (511, "Unknown 1 511 gap 510"),
+        (512, "Unknown 1 512 gap 511"),
+        (513, "refused 17"),
+    ] {
+        assert_eq!(most(left).len(), 4_096);
+        assert_eq!(judged(3, 1, &most(left)), expected);
+        assert_eq!(judged(3, 1, &[most(left), vec![2]].concat()), "refused 11");
+    }
+    // a byte more hides a ground and a fault
+    let mut set = most(513);
+    set[0] = 1;
+    assert_eq!(judged(1, 1, &set), "Invalid ground 3");
+    assert_eq!(judged(1, 1, &[set, vec![0]].concat()), "refused 11");
+    assert_eq!(judged(1, 2, &most(513)), "Invalid ground 2");
+    assert_eq!(judged(1, 2, &[most(513), vec![0]].concat()), "refused 11");
+    assert_eq!(judged(1, 7, &[0; 4_096]), "refused 13 at 0");
+    assert_eq!(judged(1, 7, &[0; 4_097]), "refused 11");
+    // the last number begins at 4,092
+    let mut zero = most(3);
+    zero[4_095] = 0;
+    assert_eq!(judged(1, 1, &zero), "refused 16 at 4092");
+    // four full segments are 4,088 bytes, six bytes more a fifth
+    let full = sequence(&spread(3, 1_020));
+    for (end, expected) in [
+        (&[2, 1, 0, 0, 0, 3][..], "Unknown 1 3 gap 2"),
+        (&[2, 1, 0, 0, 0, 3, 2], "refused 12 at 4094"),
+        (&[2, 1, 0, 0, 0, 3, 2, 1], "refused 12 at 4094"),
+        (&[2, 1, 0, 0, 0, 3, 0, 0], "refused 13 at 4094"),
+        (&[2, 1, 0, 0, 0, 3, 4, 0], "refused 14 at 4094"),
+        (&[2, 1, 0, 0, 0, 3, 2, 0], "refused 15 at 4094"),
+        (&[2, 1, 0, 0, 0, 0, 2, 0], "refused 16 at 4090"),
+        (&[2, 2, 0, 0, 0, 0, 0, 0], "refused 12 at 4088"),
+        (&[2, 1, 0, 0, 0, 0, 2, 0, 0], "refused 11"),
+    ] {
+        assert_eq!(judged(3, 1, &[&full, end].concat()), expected);
+    }
+    // 682 segments of one number are 4,092 bytes
+    for (segments, expected) in [(682, "Valid gap 0"), (683, "refused 11")] {
+        assert_eq!(judged(3, 7, &sequences(&vec![&[7][..]; segments])), expected);
+    }
+    // 2 + 4 * 200 + 2 + 4 * 55 = 1,024 bytes, once the most
+    let once = sequences(&[&[7; 200], &[8; 55]]);
+    assert_eq!(once.len(), 1_024);
+    assert_eq!(judged(3, 7, &once), "Valid gap 1");
+    assert_eq!(judged(3, 7, &[once, vec![2]].concat()), "refused 12 at 1024");
+    assert_eq!(judged(3, 7, &[0; 1_025]), "refused 13 at 0");
 }
 
 #[test]
@@ -297,7 +415,7 @@ fn runs_go_on_over_boundaries() {
             let [mut cut, mut whole] = [with_register_d(), with_register_d()];
             for call in ["judge", "keep 7"] {
                 let line = |hex: &str| format!("{call} {role} {neighbour} {hex}");
-                let expected = answer(&mut whole, line(&sequence(path)).as_bytes());
+                let expected = answer(&mut whole, line(&in_hex(path)).as_bytes());
                 check(&mut cut, &[(&line(&hex(&bytes)), &expected)]);
             }
             assert!(same_words(&cut, &whole));
@@ -311,12 +429,13 @@ fn cuts_do_not_matter() {
     let mut random = Random::new(12);
     let mut over = 0;
     for _ in 0..5_000 {
-        let length = random.pick(&[1, 2, 3, 5, 8, 20, 100]);
+        let length = random.pick(&[1, 2, 3, 5, 8, 20, 100, 255, 256, 700]);
         let numbers: Vec<u32> = (0..length).map(|_| random.between(1, 3) as u32).collect();
-        let mut parts = vec![Vec::new()];
-        let often = random.pick(&[5, 30, 90]);
+        let mut parts: Vec<Vec<u32>> = vec![Vec::new()];
+        let often = random.pick(&[0, 5, 30, 90]);
         for (i, number) in numbers.iter().enumerate() {
-            if i > 0 && random.percent(often) {
+            let full = parts[parts.len() - 1].len() == LONGEST_SEGMENT;
+            if full || (i > 0 && random.percent(often)) {
                 parts.push(Vec::new());
                 over += usize::from(*number == numbers[i - 1]);
             }
@@ -329,7 +448,7 @@ fn cuts_do_not_matter() {
                 path.push(AsNumber(*number));
             }
         }
-        for bytes in [segment(2, &numbers), sequences(&parts)] {
+        for bytes in [sequence(&numbers), sequences(&parts)] {
             assert_eq!(judge::merged(&judge::read(&bytes).unwrap()), path);
         }
     }
@@ -338,40 +457,26 @@ fn cuts_do_not_matter() {
 
 #[test]
 fn bounds_over_boundaries() {
-    let mut model = Model::new();
-    let mut judge = |neighbour: u32, bytes: &[u8]| {
-        answer(&mut model, format!("judge 3 {neighbour} {}", hex(bytes)).as_bytes())
-    };
-    // the last number of a segment again at the start of the next
-    let upto = |n: u32| (1..=n).collect::<Vec<u32>>();
-    for cut in [1, 2, 32, 63, 64] {
-        let two = |last: u32| sequences(&[&upto(cut), &(cut..=last).collect::<Vec<u32>>()]);
-        assert_eq!(judge(1, &two(64)), "Unknown 1 64 gap 63");
-        assert_eq!(judge(1, &two(65)), "refused 17");
-        assert_eq!(judge(2, &two(65)), "Invalid ground 2");
+    let each = |parts: &[Vec<u32>]| -> Vec<u8> { parts.iter().flat_map(|p| sequence(p)).collect() };
+    for (last, expected) in [(512, "Unknown 1 512 gap 511"), (513, "refused 17")] {
+        // the last number before a cut again behind it
+        for cut in [1, 2, 64, 254, 255, 256, 511, 512] {
+            let two = each(&[upto(cut), (cut..=last).collect()]);
+            assert_eq!(judged(3, 1, &two), expected);
+            assert_eq!(judged(3, 2, &two), "Invalid ground 2");
+        }
+        // segments of one, 160 of their numbers twice; the ends in many segments
+        let ones: Vec<Vec<u32>> = doubled(last, 160).iter().map(|n| vec![*n]).collect();
+        assert_eq!(judged(3, 1, &each(&ones)), expected);
+        assert_eq!(judged(3, 1, &each(&[vec![vec![1]; 60], vec![upto(last)]].concat())), expected);
+        assert_eq!(
+            judged(3, 1, &each(&[vec![upto(last)], vec![vec![last]; 60]].concat())),
+            expected
+        );
     }
-    // segments of one, of two with the last one's number, of one number each twice
-    let each = |numbers: Vec<Vec<u32>>| -> Vec<u8> {
-        numbers.iter().flat_map(|numbers| segment(2, numbers)).collect()
-    };
-    for (last, expected) in [(64, "Unknown 1 64 gap 63"), (65, "refused 17")] {
-        assert_eq!(judge(1, &each(upto(last).iter().map(|n| vec![*n]).collect())), expected);
-        assert_eq!(judge(1, &each((2..=last).map(|n| vec![n - 1, n]).collect())), expected);
-        let twice = upto(last).iter().flat_map(|n| [vec![*n], vec![*n]]).collect();
-        assert_eq!(judge(1, &each(twice)), expected);
-    }
-    // 170 segments are 1,020 bytes
-    assert_eq!(judge(7, &each(vec![vec![7]; 170])), "Valid gap 0");
-    assert_eq!(judge(7, &each(vec![vec![7]; 171])), "refused 11");
-    assert_eq!(judge(1, &each(upto(170).iter().map(|n| vec![*n]).collect())), "refused 17");
-    // 8 + 4 * 254 = 1,024 bytes: 64 numbers, each about four times, in four segments
-    let fours = |numbers: u32| -> Vec<u32> { (0..254).map(|i| i * numbers / 254 + 1).collect() };
-    for (numbers, expected) in [(64, "Unknown 1 64 gap 63"), (65, "refused 17")] {
-        let all = fours(numbers);
-        let most = sequences(&[&all[..66], &all[66..130], &all[130..131], &all[131..]]);
-        assert_eq!(most.len(), 1_024);
-        assert_eq!(judge(1, &most), expected);
-    }
+    // pairs that overlap: 409 are 4,090 bytes
+    assert_eq!(judged(3, 1, &overlapping(410, 1)), "Unknown 1 410 gap 409");
+    assert_eq!(judged(3, 1, &overlapping(411, 1)), "refused 11");
 }
 
 /// A set between equal numbers, and faults behind a run: as without merging.
@@ -403,18 +508,71 @@ fn grounds_and_faults_beside_runs() {
     check(&mut model, &[(&format!("judge 1 20 {}", hex(&set)), "Invalid ground 3")]);
 }
 
+/// Over the numbers 1 to 512, each of which lists both its neighbours: n is AS(513 - n).
 #[test]
-fn widest_overlap() {
+fn widest_gaps() {
+    let path = in_hex(&upto(512));
+    let filings = chain(512);
     let mut model = Model::new();
-    for i in 1..=64u32 {
-        let list: Vec<String> =
-            [i - 1, i + 1].iter().filter(|n| (1..=64).contains(*n)).map(u32::to_string).collect();
-        let command = format!("file 3 {i} {}", list.join(" "));
-        check(&mut model, &[(&command, "new")]);
+    for filing in &filings {
+        check(&mut model, &[(filing, "new")]);
     }
-    let path: Vec<u32> = (1..=64).collect();
-    let command = format!("judge 6 1 {}", sequence(&path));
-    check(&mut model, &[(&command, "Valid gap -63")]);
+    assert_eq!((&filings[0][..], &filings[255][..]), ("file 3 1 2", "file 3 256 255 257"));
+    for (changes, upstream, downstream, [verdict, a, b]) in [
+        (&[][..], "Valid", "Valid gap -511", [0, 0, 0]),
+        // one ramp or both end before the path does
+        (&["file 3 511 510"], "Valid", "Valid gap -510", [0, 0, 0]),
+        (&["file 3 2 3"], "Invalid 512 0", "Valid gap -510", [0, 0, 0]),
+        (&["file 3 511 510", "file 3 2 3"], "Invalid 512 0", "Valid gap -509", [0, 0, 0]),
+        // no providers
+        (&["file 3 2 0"], "Invalid 512 0", "Valid gap 0", [0, 0, 0]),
+        (&["file 3 512 0"], "Invalid 2 0", "Valid gap 0", [0, 0, 0]),
+        (&["file 3 256 0", "file 3 257 0"], "Invalid 257 0", "Valid gap 1", [0, 0, 0]),
+        (
+            &["file 3 255 0", "file 3 257 0"],
+            "Invalid 257 0",
+            "Invalid 257 257 gap 2",
+            [1, 257, 257],
+        ),
+        (
+            &["file 3 256 0", "file 3 258 0"],
+            "Invalid 256 0",
+            "Invalid 256 256 gap 2",
+            [1, 256, 256],
+        ),
+        (&["file 3 1 0", "file 3 3 0"], "Invalid 511 0", "Invalid 511 511 gap 2", [1, 511, 511]),
+        (&["file 3 510 0", "file 3 512 0"], "Invalid 2 0", "Invalid 2 2 gap 2", [1, 2, 2]),
+        (&["file 3 1 0", "file 3 512 0"], "Invalid 2 0", "Invalid 2 511 gap 511", [1, 2, 511]),
+        // no record
+        (&["withdraw 3 2"], "Unknown 512 0", "Valid gap 0", [0, 0, 0]),
+        (
+            &["withdraw 3 1", "withdraw 3 3"],
+            "Unknown 511 0",
+            "Unknown 510 512 gap 2",
+            [2, 510, 512],
+        ),
+        (&["withdraw 3 1", "withdraw 3 512"], "Unknown 2 0", "Unknown 1 512 gap 511", [2, 1, 512]),
+        (&["withdraw 3 1", "withdraw 3 511"], "Unknown 3 0", "Unknown 2 512 gap 510", [2, 2, 512]),
+    ] {
+        let mut model = model.clone();
+        check(&mut model, &[(&format!("keep 7 3 1 {path}"), "Valid gap -511")]);
+        for change in changes {
+            assert_ne!(answer(&mut model, change.as_bytes()), "error");
+        }
+        for (role, expected) in [(1, upstream), (4, upstream), (3, downstream), (6, downstream)] {
+            check(&mut model, &[(&format!("judge {role} 1 {path}"), expected)]);
+        }
+        // kept under these records, and judged again
+        let changed = if verdict == 0 { "changed 0" } else { "changed 1" };
+        check(&mut model, &[(&format!("keep 8 6 1 {path}"), downstream), ("rejudge", changed)]);
+        let words = model.ledger.used_words();
+        assert_eq!(words[..2], [2, 1_024]);
+        assert_eq!(
+            words[2..20],
+            [7, 3, 1, 0, verdict, a, b, 0, 512, 8, 6, 1, 0, verdict, a, b, 512, 512]
+        );
+        assert_eq!(words[20..], [upto(512), upto(512)].concat());
+    }
 }
 
 // Refusals
@@ -422,9 +580,9 @@ fn widest_overlap() {
 #[test]
 fn refusals_in_order() {
     let list = |n: usize| (2..).take(n).map(|i| format!(" {i}")).collect::<String>();
-    let long = "02".repeat(1_025);
-    let five = sequence(&[5]);
-    let many = sequence(&(1..=65).collect::<Vec<u32>>());
+    let long = "02".repeat(4_097);
+    let five = in_hex(&[5]);
+    let many = in_hex(&upto(513));
     run(&[
         ("file 8 0", "refused 4"),
         ("file 7 0", "refused 5"),
@@ -689,7 +847,7 @@ fn table_refusals_in_order() {
 #[test]
 fn a_poked_table_is_read_again() {
     let mut model = with_register_d();
-    let g = format!("keep 4294967295 3 20 {}", sequence(&[20, 10, 30]));
+    let g = format!("keep 4294967295 3 20 {}", in_hex(&[20, 10, 30]));
     let words = "1 3 4294967295 3 20 0 2 1 3 0 3 20 10 30";
     check(
         &mut model,
@@ -698,16 +856,16 @@ fn a_poked_table_is_read_again() {
             ("ledger", words),
             // an untrue verdict is no damage
             ("poke ledger 6 0", "done"),
-            ("poke ledger 7 64", "done"),
-            ("poke ledger 8 64", "done"),
+            ("poke ledger 7 512", "done"),
+            ("poke ledger 8 512", "done"),
             ("drop 0", "refused 19"),
-            ("ledger", "1 3 4294967295 3 20 0 0 64 64 0 3 20 10 30"),
+            ("ledger", "1 3 4294967295 3 20 0 0 512 512 0 3 20 10 30"),
             ("rejudge", "changed 1"),
             ("rejudge", "changed 0"),
             ("ledger", words),
-            ("poke ledger 7 65", "done"),
+            ("poke ledger 7 513", "done"),
             ("rejudge", "refused 3"),
-            ("words ledger", "12802 1 3 4294967295 3 20 0 2 65 3 0 3 20 10 30"),
+            ("words ledger", "12802 1 3 4294967295 3 20 0 2 513 3 0 3 20 10 30"),
             ("poke ledger 7 1", "done"),
             // the provider 30 of 10 becomes 31, and the number 30 of the path 31 too
             ("poke register 27 31", "done"),
@@ -738,9 +896,9 @@ fn word_rules() {
         &[
             ("file 1 10 7", "new"),
             ("register", "7 8 10 0 0 2 10 1 2 1 20 0 3 1 40 0 4 1 50 0 5 1 70 0 6 1 80 0 7 1 20 30 7 40 0 40 80 70"),
-            (&format!("keep 3 1 20 {}", sequence(&[20, 10])), "Valid"),
+            (&format!("keep 3 1 20 {}", in_hex(&[20, 10])), "Valid"),
             ("keep 5 4 9 -", "Invalid ground 1"),
-            (&format!("keep 6 4 30 {}", sequence(&[20, 10])), "Valid"),
+            (&format!("keep 6 4 30 {}", in_hex(&[20, 10])), "Valid"),
             ("ledger", "3 4 3 1 20 0 0 0 0 0 2 5 4 9 1 1 0 0 2 0 6 4 30 0 0 0 0 2 2 20 10 20 10"),
         ],
     );
@@ -759,18 +917,18 @@ fn word_rules() {
         "ledger 1 8193", "ledger 2 5", "ledger 2 6", "ledger 11 3", "ledger 3 0", "ledger 3 7",
         "ledger 4 0", "ledger 4 21", "ledger 13 0", "ledger 22 0", "ledger 5 1", "ledger 5 4",
         "ledger 14 0", "ledger 14 2", "ledger 14 4", "ledger 6 3", "ledger 15 0", "ledger 15 2",
-        "ledger 16 1", "ledger 17 1", "ledger 7 65", "ledger 8 65", "ledger 9 1", "ledger 18 0",
-        "ledger 18 1", "ledger 10 1", "ledger 10 0", "ledger 10 65", "ledger 19 1", "ledger 29 21",
-        "ledger 29 0", "ledger 30 0", "ledger 32 0", "ledger 33 1", "ledger 12801 1",
-        "ledger 21 1", // equal neighbours
+        "ledger 16 1", "ledger 17 1", "ledger 7 513", "ledger 8 513", "ledger 9 1", "ledger 18 0",
+        "ledger 18 1", "ledger 10 1", "ledger 10 0", "ledger 10 512", "ledger 10 513",
+        "ledger 19 1", "ledger 29 21", "ledger 29 0", "ledger 30 0", "ledger 32 0", "ledger 33 1",
+        "ledger 12801 1", "ledger 21 1", // equal neighbours
         "ledger 30 20", "ledger 31 10", "ledger 32 20",
     ];
     let harmless = [
         "register 2 1", "register 3 0", "register 26 4294967295", "register 32 0",
         "register 31 4294967295", "register 30 0", "register 34 3", "register 7 7", "ledger 2 0",
-        "ledger 2 4", "ledger 20 4294967295", "ledger 6 2", "ledger 7 64", "ledger 8 64",
-        "ledger 13 1", "ledger 14 3", "ledger 12 1", "ledger 22 1", "ledger 31 1", "ledger 32 9",
-        "ledger 30 21", "ledger 3 6", "ledger 3 4",
+        "ledger 2 4", "ledger 20 4294967295", "ledger 6 2", "ledger 7 64", "ledger 7 65",
+        "ledger 7 512", "ledger 8 65", "ledger 8 512", "ledger 13 1", "ledger 14 3", "ledger 12 1",
+        "ledger 22 1", "ledger 31 1", "ledger 32 9", "ledger 30 21", "ledger 3 6", "ledger 3 4",
     ];
     for poke in damaged {
         let mut model = sound.clone();
@@ -791,9 +949,8 @@ fn word_rules() {
 fn with_seams() -> Model {
     let mut model = with_register_d();
     for (route, role, neighbour, path) in SEAMS {
-        let attribute = if path.is_empty() { "-".to_string() } else { sequence(path) };
-        let answer =
-            answer(&mut model, format!("keep {route} {role} {neighbour} {attribute}").as_bytes());
+        let line = format!("keep {route} {role} {neighbour} {}", in_hex(path));
+        let answer = answer(&mut model, line.as_bytes());
         assert!(!answer.starts_with("refused"), "{answer}");
     }
     model
@@ -820,7 +977,7 @@ fn equal_numbers_of_two_paths() {
     }
     // the first number of the first path is the word before it
     run(&[
-        (&format!("keep 1 1 2 {}", sequence(&[2, 3])), "Unknown 2 0"),
+        (&format!("keep 1 1 2 {}", in_hex(&[2, 3])), "Unknown 2 0"),
         ("poke ledger 12 4", "done"),
         ("rejudge", "changed 0"),
         ("ledger", "1 2 1 1 2 0 2 2 0 0 2 2 4"),
@@ -919,8 +1076,8 @@ fn a_ledger_with_equal_neighbours() {
 #[test]
 fn equal_neighbours_by_the_counts() {
     run(&[
-        (&format!("keep 1 1 20 {}", sequence(&[20, 10])), "Unknown 2 0"),
-        (&format!("keep 2 4 5 {}", sequence(&[10, 30])), "Unknown 2 0"),
+        (&format!("keep 1 1 20 {}", in_hex(&[20, 10])), "Unknown 2 0"),
+        (&format!("keep 2 4 5 {}", in_hex(&[10, 30])), "Unknown 2 0"),
         ("rejudge", "changed 0"),
         // the second path's first number goes to the first path
         ("poke ledger 10 3", "done"),
@@ -998,7 +1155,7 @@ fn room_in_the_ledger() {
     for route in 0..512 {
         check(&mut model, &[(&format!("keep {route} 1 5 -"), "Invalid ground 1")]);
     }
-    let five = sequence(&[5]);
+    let five = in_hex(&[5]);
     check(
         &mut model,
         &[
@@ -1008,36 +1165,96 @@ fn room_in_the_ledger() {
             ("drop 0", "done"),
             (&format!("keep 512 1 5 {five}"), "Valid"),
             ("keep 513 1 5 -", "refused 20"),
-            ("empty", "done"),
         ],
     );
-    let path = sequence(&(1..=64).collect::<Vec<u32>>());
-    for route in 0..128 {
-        check(&mut model, &[(&format!("keep {route} 1 1 {path}"), "Unknown 2 0")]);
+}
+
+/// 8,192 numbers, in paths of 64 and of 512.
+#[test]
+fn a_ledger_full_of_paths() {
+    let [one, two, many] = [&upto(1), &upto(2), &upto(513)].map(|path| in_hex(path));
+    for (length, routes, next, longer) in
+        [(64, 128, [128, 129, 130], "refused 20"), (512, 16, [16, 17, 18], "refused 17")]
+    {
+        let mut model = Model::new();
+        let path = in_hex(&upto(length));
+        for route in 0..routes {
+            check(&mut model, &[(&format!("keep {route} 1 1 {path}"), "Unknown 2 0")]);
+        }
+        let keep = |route: u32, attribute: &str| format!("keep {route} 1 1 {attribute}");
+        check(
+            &mut model,
+            &[
+                (&keep(next[0], &one), "refused 20"),
+                (&keep(next[0], &many), "refused 17"),
+                (&keep(3, &one), "refused 18"),
+                // a ground needs no body word
+                (&keep(next[1], "-"), "Invalid ground 1"),
+                (&format!("keep {} 1 9 {path}", next[2]), "Invalid ground 2"),
+                ("drop 3", "done"),
+                (&keep(next[0], &one), "Valid"),
+                (&keep(3, &path), "refused 20"),
+                (&format!("drop {}", next[0]), "done"),
+                (&keep(3, &many), "refused 17"),
+                // the last number again, in a segment of its own, needs no body word
+                (&keep(3, &format!("{path}{}", in_hex(&[length - 1]))), longer),
+                (&keep(3, &format!("{path}{}", in_hex(&[length]))), "Unknown 2 0"),
+                (&keep(next[0], &one), "refused 20"),
+                // a number fewer is room for one
+                ("drop 5", "done"),
+                (&keep(5, &in_hex(&upto(length - 1))), "Unknown 2 0"),
+                (&keep(next[0], &two), "refused 20"),
+                (&keep(next[0], &one), "Valid"),
+                // all but the one that hasn't this number, and the one of one number
+                (&format!("file 0 {length} 7"), "new"),
+                ("rejudge", &format!("changed {}", routes - 1)),
+                ("rejudge", "changed 0"),
+            ],
+        );
+        let words = model.ledger.words();
+        assert_eq!(words[..2], [routes + 3, 8_192]);
+        assert!(Routes::well_formed(&words));
+        let mut read = Model::new();
+        assert_eq!(read.read(&written(&mut model)), Ok(()));
+        assert!(same_words(&read, &model));
     }
-    check(
-        &mut model,
-        &[
-            (&format!("keep 128 1 5 {five}"), "refused 20"),
-            // a ground needs no body word
-            ("keep 129 1 5 -", "Invalid ground 1"),
-            ("drop 3", "done"),
-            (&format!("keep 128 1 5 {five}"), "Valid"),
-            (&format!("keep 3 1 1 {path}"), "refused 20"),
-            ("drop 128", "done"),
-            // the last number again, in a segment of its own: no body word
-            (&format!("keep 3 1 1 {path}{}", sequence(&[64])), "Unknown 2 0"),
-            (&format!("keep 130 1 5 {five}"), "refused 20"),
-        ],
-    );
+}
+
+/// By pokes and as snapshots: places and counts of 512, and of one more.
+#[test]
+fn bounds_in_the_words() {
+    let words = |count: u32, a: u32, b: u32| {
+        [vec![1, count, 7, 3, 1, 0, 2, a, b, 0, count], upto(count)].concat()
+    };
+    for (count, a, b, expected) in [
+        (1, 0, 512, 0),
+        (64, 64, 65, 0),
+        (65, 512, 512, 0),
+        (511, 1, 511, 0),
+        (512, 512, 512, 0),
+        (512, 1, 513, 3),
+        (512, 513, 512, 3),
+        (513, 1, 512, 3),
+        (8_192, 1, 512, 3),
+    ] {
+        let ledger = words(count, a, b);
+        let mut read = small_tables();
+        assert_eq!(row(read.read(&snapshot::file(&[0, 0], &ledger))), expected, "{count} {a} {b}");
+        assert_eq!(read.ledger.used_words() == ledger, expected == 0);
+        let mut poked = Model::new();
+        for (index, word) in ledger.iter().enumerate() {
+            assert!(poked.ledger.poke(index, *word));
+        }
+        assert_eq!(row(poked.rejudge()), expected, "{count} {a} {b}");
+    }
 }
 
 // Re-judging
 
 #[test]
 fn rejudging_counts_changed_entries() {
-    let two = sequence(&[20, 10]);
-    let j = sequence(&[80, 70]);
+    let two = in_hex(&[20, 10]);
+    let j = in_hex(&[80, 70]);
     run(&[
         (&format!("keep 1 1 20 {two}"), "Unknown 2 0"),
         (&format!("keep 2 1 30 {two}"), "Invalid ground 2"),
@@ -1176,8 +1393,8 @@ fn writing_in_order() {
         assert_eq!(output, vec![0xa5; 200]);
     }
     // other words, still well formed, are the ones written
-    check(&mut model, &[("poke register 10 0", "done"), ("poke ledger 7 64", "done")]);
-    assert_eq!(written(&mut model), with(&file, &[(15, 0), (25, 64)]));
+    check(&mut model, &[("poke register 10 0", "done"), ("poke ledger 7 512", "done")]);
+    assert_eq!(written(&mut model), with(&file, &[(15, 0), (25, 512)]));
 }
 
 /// Each row of a read given beside all those after it.
@@ -1361,7 +1578,7 @@ fn a_full_snapshot() {
     }
     for route in 0..512 {
         let path: Vec<u32> = (route + 1..=route + 16).collect();
-        model.keep(RouteNumber(route), 1, AsNumber(route + 1), &segment(2, &path)).unwrap();
+        model.keep(RouteNumber(route), 1, AsNumber(route + 1), &sequence(&path)).unwrap();
     }
     let file = written(&mut model);
     assert_eq!(file.len(), 100_388);
@@ -1546,7 +1763,7 @@ fn compare_verdicts(path: &[AsNumber], hop: impl Fn(AsNumber, AsNumber) -> Hop) 
         assert_eq!(word, slow::steps(role, path, &hop), "role {role} {path:?}");
         assert_eq!((a, b, gap), slow::places(role, word, path, &hop), "role {role} {path:?}");
         if let Some(gap) = gap {
-            assert!((-63..=63).contains(&gap));
+            assert!((-511..=511).contains(&gap));
         }
     }
 }
@@ -1572,7 +1789,7 @@ fn every_short_path() {
 #[test]
 fn random_paths_and_hops() {
     let mut random = Random::new(5);
-    for _ in 0..6_000 {
+    for nth in 0..6_000 {
         let numbers = random.between(1, 12);
         let providers = random.pick(&[20, 60, 90, 100]);
         let table: Vec<Hop> = (0..numbers * numbers)
@@ -1581,7 +1798,8 @@ fn random_paths_and_hops() {
                 false => random.pick(&HOPS),
             })
             .collect();
-        let length = random.pick(&[1, 2, 3, 4, 6, 9, 20, 64]);
+        // few of the longest, for which the slow ones take long
+        let length = if nth % 300 == 0 { 512 } else { random.pick(&[1, 2, 3, 4, 6, 9, 20, 64]) };
         let path: Vec<AsNumber> =
             (0..length).map(|_| AsNumber(random.below(numbers) as u32)).collect();
         let hop = |x: AsNumber, y: AsNumber| table[x.0 as usize * numbers + y.0 as usize];
@@ -1656,10 +1874,10 @@ fn random_routes(random: &mut Random) -> Routes {
         let role = random.between(1, 6) as u32;
         let ground = random.pick(&[0, 0, 0, 1, 2, 3]);
         let ground = if ground == 2 && role == 4 { 3 } else { ground };
-        let count = if ground == 0 { random.pick(&[1, 2, 3, 64]) } else { 0 };
+        let count = if ground == 0 { random.pick(&[1, 2, 3, 64, 512]) } else { 0 };
         let path = random_path(random, count);
         let neighbour = path.first().copied().unwrap_or(AsNumber(3));
-        let mut place = || if ground == 0 { random.pick(&[0, 1, 64]) } else { 0 };
+        let mut place = || if ground == 0 { random.pick(&[0, 1, 64, 512]) } else { 0 };
         let (place_a, place_b) = (place(), place());
         let verdict = if ground == 0 { random.below(3) as u32 } else { 1 };
         let route = Route { role, neighbour, ground, verdict, place_a, place_b, path };
@@ -1726,14 +1944,14 @@ fn ledger_by_rewriting(words: &[u32]) -> bool {
         let Some(path) = at.checked_add(count).and_then(|end| words.get(at..end)) else {
             return false;
         };
-        if e[1] == 0 || e[1] > 6 || e[2] == 0 || e[4] > 2 || e[5] > 64 || e[6] > 64 {
+        if e[1] == 0 || e[1] > 6 || e[2] == 0 || e[4] > 2 || e[5] > 512 || e[6] > 512 {
             return false;
         }
         let mut merged = path.to_vec();
         merged.retain(|number| *number != 0);
         merged.dedup();
         let fits = match e[3] {
-            0 => count > 0 && count < 65 && merged == path && (e[1] == 4 || e[2] == path[0]),
+            0 => count > 0 && count < 513 && merged == path && (e[1] == 4 || e[2] == path[0]),
             1 | 3 => count == 0 && e[4..7] == [1, 0, 0],
             2 => e[1] != 4 && count == 0 && e[4..7] == [1, 0, 0],
             _ => false,
@@ -1775,10 +1993,11 @@ fn pokes(random: &mut Random, words: &mut [u32], used: usize) {
             4,
             7,
             8,
-            64,
             65,
             256,
             257,
+            512,
+            513,
             u32::MAX,
         ]);
     }

@@ -1,7 +1,7 @@
 /*
  * Every refusal of every call, through C: the number that is returned, the words that are written in place of an answer,
- * and that no word of a table and no byte of an output changes. Then runs of one number over the ends of segments,
- * snapshots written and read, null with length 0, and the conveniences of the header.
+ * and that no word of a table and no byte of an output changes. Then runs of one number over the ends of segments, the
+ * longest attributes and paths, snapshots written and read, null with length 0, and the conveniences of the header.
  */
 #include <inttypes.h>
 #include <stdint.h>
@@ -445,13 +445,41 @@ static void own_customer_held(void) {
     CHECK(aspa_clear(reg, R, 0, fresh()) == ASPA_OK && out[0] == 3);
 }
 
+/* A segment's count is one byte. */
+#define MOST_IN_SEGMENT 255
+
+/*
+ * Adds numbers to an attribute that has so many bytes, as a sequence, or as several if they are too many for one. Gives
+ * how many bytes it has then.
+ */
+static size_t add_sequence(uint8_t *attribute, size_t length, const uint32_t *numbers, size_t n) {
+    size_t i, part;
+    for (; n > 0; n -= part) {
+        part = n < MOST_IN_SEGMENT ? n : MOST_IN_SEGMENT;
+        attribute[length++] = 2;
+        attribute[length++] = (uint8_t)part;
+        for (i = 0; i < part; i++)
+            put(attribute + length, i, *numbers++);
+        length += 4 * part;
+    }
+    return length;
+}
+
+/* So many numbers, from the first on, no two equal. */
+static const uint32_t *ascending(uint32_t *numbers, size_t n, uint32_t first) {
+    size_t i;
+    for (i = 0; i < n; i++)
+        numbers[i] = first + (uint32_t)i;
+    return numbers;
+}
+
 static void routes(void) {
     static const uint8_t lone[] = {2}, cut[] = {2, 1, 0, 0, 0, 20, 2, 1, 0, 0, 0}, unknown[] = {5, 1, 0, 0, 0, 20};
     static const uint8_t confederation[] = {2, 1, 0, 0, 0, 20, 3, 1, 0, 0, 0, 10}, empty[] = {2, 0};
     static const uint8_t zero[] = {2, 2, 0, 0, 0, 20, 0, 0, 0, 0};
     static uint8_t bytes[ASPA_MOST_ATTRIBUTE_BYTES + 1];
-    size_t i;
-    uint32_t n;
+    uint32_t n, numbers[ASPA_MOST_PATH + 1];
+    size_t length;
     begin();
     REFUSED_ROUTE(from(0, 20, path, sizeof path), ASPA_REFUSED_ROLE, 0);
     REFUSED_ROUTE(from(7, 20, path, sizeof path), ASPA_REFUSED_ROLE, 0);
@@ -463,12 +491,9 @@ static void routes(void) {
     REFUSED_ROUTE(from(1, 20, confederation, sizeof confederation), ASPA_REFUSED_CONFEDERATION, 6);
     REFUSED_ROUTE(from(1, 20, empty, sizeof empty), ASPA_REFUSED_SEGMENT_EMPTY, 0);
     REFUSED_ROUTE(from(1, 20, zero, sizeof zero), ASPA_REFUSED_AS_ZERO, 6);
-    /* One number more than a path may have, no two equal. */
-    bytes[0] = 2;
-    bytes[1] = ASPA_MOST_PATH + 1;
-    for (i = 0; i <= ASPA_MOST_PATH; i++)
-        bytes[2 + 4 * i + 3] = (uint8_t)(20 + i);
-    REFUSED_ROUTE(from(1, 20, bytes, 2 + 4 * (ASPA_MOST_PATH + 1)), ASPA_REFUSED_PATH_LENGTH, 0);
+    /* One number more than a path may have. */
+    length = add_sequence(bytes, 0, ascending(numbers, ASPA_MOST_PATH + 1, 20), ASPA_MOST_PATH + 1);
+    REFUSED_ROUTE(from(1, 20, bytes, length), ASPA_REFUSED_PATH_LENGTH, 0);
     not_kept(R, L, 7, good, ASPA_REFUSED_ROUTE_TAKEN, 0, __LINE__);
     REFUSED(aspa_drop(ledger, L, 8), ASPA_REFUSED_NO_ROUTE);
     /* Route 7 and all others that there is room for. */
@@ -479,16 +504,6 @@ static void routes(void) {
     CHECK(aspa_rejudge(reg, R, ledger, L, fresh()) == ASPA_OK);
     CHECK(out[0] == 0);
     CHECK(aspa_drop(ledger, L, 7) == ASPA_OK);
-}
-
-/* Adds one sequence to an attribute that has so many bytes, and gives how many it has then. */
-static size_t add_sequence(uint8_t *attribute, size_t length, const uint32_t *numbers, size_t n) {
-    size_t i;
-    attribute[length] = 2;
-    attribute[length + 1] = (uint8_t)n;
-    for (i = 0; i < n; i++)
-        put(attribute + length + 2, i, numbers[i]);
-    return length + 2 + 4 * n;
 }
 
 static size_t until_zero(const uint32_t *numbers) {
@@ -519,9 +534,9 @@ static void register_d(void) {
     }
 }
 
-/* An attribute is judged and kept, in every role, as one sequence of the numbers to which it merges. */
+/* An attribute is judged and kept, in every role, as the sequence, or as few sequences, of what it merges to. */
 static void merges_to(const uint8_t *attribute, size_t length, const uint32_t *merged, size_t n, int line) {
-    uint8_t once[2 + 4 * ASPA_MOST_PATH];
+    uint8_t once[ASPA_MOST_ATTRIBUTE_BYTES];
     uint32_t role, result, words[ASPA_ANSWER_WORDS];
     int32_t gap;
     aspa_answer a;
@@ -573,8 +588,8 @@ static void runs(void) {
     /* The words of route 13, which is vector O. */
     static const uint32_t kept[] = {1, 2, 13, 1, 20, 0, 0, 0, 0, 0, 2, 20, 10};
     uint8_t attribute[ASPA_MOST_ATTRIBUTE_BYTES];
-    uint32_t numbers[ASPA_MOST_PATH + 1], run[254], i;
-    size_t length, cut;
+    uint32_t numbers[ASPA_MOST_PATH + 1];
+    size_t length, i, cut, begun;
     aspa_answer a;
     register_d();
     length = sequences(attribute, cases[0].numbers);
@@ -591,34 +606,20 @@ static void runs(void) {
         length = sequences(attribute, cases[i].numbers);
         merges_to(attribute, length, cases[i].merged, until_zero(cases[i].merged), __LINE__);
     }
-    /* 255 times one number, the most that two segments have room for. */
-    for (i = 0; i < sizeof run / sizeof *run; i++)
-        run[i] = 20;
-    for (cut = 1; cut < 255; cut += 23) {
-        length = add_sequence(attribute, 0, run, cut);
-        length = add_sequence(attribute, length, run, 255 - cut);
-        CHECK(length == ASPA_MOST_ATTRIBUTE_BYTES);
-        merges_to(attribute, length, run, 1, __LINE__);
-    }
-    /* One number more than a path may have, but the one before the cut is there twice: 64 are left. Then 65 are. */
-    for (i = 0; i <= ASPA_MOST_PATH; i++)
-        numbers[i] = 1000 + i;
-    for (cut = 1; cut <= ASPA_MOST_PATH; cut++) {
-        length = add_sequence(attribute, 0, numbers, cut);
-        length = add_sequence(attribute, length, numbers + cut - 1, ASPA_MOST_PATH - cut + 1);
-        CHECK(length == 4 + 4 * (ASPA_MOST_PATH + 1));
-        merges_to(attribute, length, numbers, ASPA_MOST_PATH, __LINE__);
-    }
-    remember();
+    /* The number before the cut is there twice: 512 are left of 513, and 513 of 514. Without it 513 are too many too. */
+    ascending(numbers, ASPA_MOST_PATH + 1, 1000);
     for (cut = 1; cut <= ASPA_MOST_PATH + 1; cut++) {
-        length = add_sequence(attribute, 0, numbers, cut);
-        length = add_sequence(attribute, length, numbers + cut - 1, ASPA_MOST_PATH - cut + 2);
+        begun = add_sequence(attribute, 0, numbers, cut);
+        remember();
+        length = add_sequence(attribute, begun, numbers + cut, ASPA_MOST_PATH + 1 - cut);
         REFUSED_ROUTE(from(1, 1000, attribute, length), ASPA_REFUSED_PATH_LENGTH, 0);
+        length = add_sequence(attribute, begun, numbers + cut - 1, ASPA_MOST_PATH + 2 - cut);
+        REFUSED_ROUTE(from(1, 1000, attribute, length), ASPA_REFUSED_PATH_LENGTH, 0);
+        if (cut <= ASPA_MOST_PATH) {
+            length = add_sequence(attribute, begun, numbers + cut - 1, ASPA_MOST_PATH + 1 - cut);
+            merges_to(attribute, length, numbers, ASPA_MOST_PATH, __LINE__);
+        }
     }
-    /* 65 numbers without a run over the cut are too many. */
-    length = add_sequence(attribute, 0, numbers, 30);
-    length = add_sequence(attribute, length, numbers + 30, ASPA_MOST_PATH + 1 - 30);
-    REFUSED_ROUTE(from(1, 1000, attribute, length), ASPA_REFUSED_PATH_LENGTH, 0);
     /* Grounds go by the segments, and places by the bytes, as they stand. */
     length = sequences(attribute, cases[0].numbers);
     a = aspa_judge_route(reg, R, ASPA_ROLE_CUSTOMER, 30, attribute, length);
@@ -631,6 +632,140 @@ static void runs(void) {
     REFUSED_ROUTE(from(1, 20, attribute, length + 1), ASPA_REFUSED_CUT_SHORT, 16);
     put(attribute + 8, 1, 0);
     REFUSED_ROUTE(from(1, 20, attribute, length), ASPA_REFUSED_AS_ZERO, 12);
+}
+
+/* Six segments are the fewest that have 4,096 bytes, and then hold 1,021 numbers. */
+#define MOST_NUMBERS 1021
+
+/* An attribute of six segments with so many numbers each. Gives its length. */
+static size_t in_segments(uint8_t *attribute, const uint32_t *numbers, const uint8_t counts[6]) {
+    size_t i, length = 0;
+    for (i = 0; i < 6; i++) {
+        length = add_sequence(attribute, length, numbers, counts[i]);
+        numbers += counts[i];
+    }
+    return length;
+}
+
+/* 1,021 numbers in runs, so that so many are left when they are merged. */
+static const uint32_t *runs_of(uint32_t *numbers, size_t merged) {
+    size_t i;
+    for (i = 0; i < MOST_NUMBERS; i++)
+        numbers[i] = (uint32_t)(1 + i * merged / MOST_NUMBERS);
+    return numbers;
+}
+
+/* 4,096 bytes are read, and 4,097 are not. */
+static void longest_attributes(void) {
+    static const uint8_t counts[][6] = {{255, 255, 255, 254, 1, 1},
+                                        {1, 1, 254, 255, 255, 255},
+                                        {255, 1, 255, 255, 1, 254},
+                                        {170, 170, 170, 170, 170, 171}};
+    /* The last bytes; whole segments have even lengths, so the last place is 4,094. */
+    static const struct {
+        uint8_t bytes[2];
+        size_t length;
+        uint32_t row;
+    } faults[] = {
+        {{2, 0}, 1, ASPA_REFUSED_CUT_SHORT},     {{2, 1}, 2, ASPA_REFUSED_CUT_SHORT},
+        {{0, 1}, 2, ASPA_REFUSED_SEGMENT_TYPE},  {{5, 0}, 2, ASPA_REFUSED_SEGMENT_TYPE},
+        {{3, 0}, 2, ASPA_REFUSED_CONFEDERATION}, {{4, 1}, 2, ASPA_REFUSED_CONFEDERATION},
+        {{2, 0}, 2, ASPA_REFUSED_SEGMENT_EMPTY}, {{1, 0}, 2, ASPA_REFUSED_SEGMENT_EMPTY},
+    };
+    uint8_t attribute[ASPA_MOST_ATTRIBUTE_BYTES + 1];
+    uint32_t numbers[MOST_NUMBERS], merged[ASPA_MOST_PATH];
+    size_t i, length;
+    aspa_answer a;
+    CHECK(ASPA_MOST_ATTRIBUTE_BYTES == 4096);
+    register_d();
+    ascending(merged, ASPA_MOST_PATH, 1);
+    for (i = 0; i < sizeof counts / sizeof *counts; i++) {
+        length = in_segments(attribute, runs_of(numbers, 1), counts[i]);
+        CHECK(length == 4096);
+        merges_to(attribute, length, merged, 1, __LINE__);
+        in_segments(attribute, runs_of(numbers, ASPA_MOST_PATH), counts[i]);
+        merges_to(attribute, length, merged, ASPA_MOST_PATH, __LINE__);
+        remember();
+        attribute[length] = 2;
+        REFUSED_ROUTE(from(1, 1, attribute, length + 1), ASPA_REFUSED_ATTRIBUTE_LENGTH, 0);
+        in_segments(attribute, runs_of(numbers, ASPA_MOST_PATH + 1), counts[i]);
+        REFUSED_ROUTE(from(1, 1, attribute, length), ASPA_REFUSED_PATH_LENGTH, 0);
+        /* The last number is 0. A fault goes before a path that is too long, and so does a ground. */
+        put(attribute + length - 4, 0, 0);
+        REFUSED_ROUTE(from(1, 1, attribute, length), ASPA_REFUSED_AS_ZERO, 4092);
+        put(attribute + length - 4, 0, 1);
+        a = aspa_judge_route(reg, R, 1, 2, attribute, length);
+        CHECK(a.refusal == ASPA_OK && a.verdict == ASPA_INVALID && a.ground == ASPA_GROUND_NOT_NEIGHBOUR);
+        attribute[2 + 4 * (size_t)counts[i][0]] = 1;
+        a = aspa_judge_route(reg, R, 1, 1, attribute, length);
+        CHECK(a.refusal == ASPA_OK && a.verdict == ASPA_INVALID && a.ground == ASPA_GROUND_AS_SET);
+    }
+    length = add_sequence(attribute, 0, ascending(numbers, MOST_NUMBERS, 1), MOST_NUMBERS);
+    CHECK(length == 4094);
+    for (i = 0; i < sizeof faults / sizeof *faults; i++) {
+        memcpy(attribute + length, faults[i].bytes, 2);
+        REFUSED_ROUTE(from(1, 1, attribute, length + faults[i].length), faults[i].row, 4094);
+    }
+}
+
+/* The verdict and the places of a route, as they stand in the ledger. */
+static int stands(uint32_t i, uint32_t verdict, uint32_t place_a, uint32_t place_b) {
+    const uint32_t *slot = aspa_route(ledger, i);
+    return slot[ASPA_ROUTE_VERDICT] == verdict && slot[ASPA_ROUTE_PLACE_A] == place_a &&
+           slot[ASPA_ROUTE_PLACE_B] == place_b;
+}
+
+/* The farthest places and the widest gaps, on the path 1 to 512: 512 is the origin. */
+static void longest_paths(void) {
+    static const size_t widths[] = {1, 2, 3, 128, 254, 255};
+    static const uint32_t nobody[] = {0};
+    uint8_t attribute[ASPA_MOST_ATTRIBUTE_BYTES];
+    uint32_t numbers[ASPA_MOST_PATH], n;
+    size_t i, at, length;
+    aspa_answer a;
+    CHECK(ASPA_MOST_PATH == 512);
+    ascending(numbers, 512, 1);
+    register_d();
+    for (i = 0; i < sizeof widths / sizeof *widths; i++) {
+        for (at = 0, length = 0; at < 512; at += widths[i])
+            length = add_sequence(attribute, length, numbers + at, at + widths[i] < 512 ? widths[i] : 512 - at);
+        merges_to(attribute, length, numbers, 512, __LINE__);
+    }
+    /* 255, 255 and 2. */
+    CHECK(length == 3 * 2 + 4 * 512 && attribute[1] == 255 && attribute[2 + 4 * 255 + 1] == 255 &&
+          attribute[2 * (2 + 4 * 255) + 1] == 2);
+    memset(reg, 0, sizeof reg_before);
+    memset(ledger, 0, sizeof ledger_before);
+    a = aspa_keep_route(reg, R, ledger, L, 7, ASPA_ROLE_PROVIDER, 1, attribute, length);
+    CHECK(a.refusal == ASPA_OK && a.verdict == ASPA_UNKNOWN && a.place_a == 1 && a.place_b == 512);
+    CHECK(a.has_gap == 1 && a.gap == 511 && stands(0, ASPA_UNKNOWN, 1, 512));
+    /* Every number but 2 and 1, the last two from the origin, has the next as its provider. */
+    for (n = 3; n <= 512; n++)
+        CHECK(aspa_file(reg, R, 0, n, numbers + n - 2, 1, fresh()) == ASPA_OK);
+    a = aspa_keep_route(reg, R, ledger, L, 8, ASPA_ROLE_CUSTOMER, 1, attribute, length);
+    CHECK(a.refusal == ASPA_OK && a.verdict == ASPA_UNKNOWN && a.place_a == 512 && a.place_b == 0 && a.has_gap == 0);
+    CHECK(stands(1, ASPA_UNKNOWN, 512, 0));
+    CHECK(aspa_file(reg, R, 0, 2, nobody, 1, fresh()) == ASPA_OK);
+    CHECK(aspa_rejudge(reg, R, ledger, L, fresh()) == ASPA_OK && out[0] == 2);
+    CHECK(stands(0, ASPA_VALID, 0, 0) && stands(1, ASPA_INVALID, 512, 0));
+    /* Nobody is a provider of either end. */
+    memset(reg, 0, sizeof reg_before);
+    for (n = 1; n <= 512; n += 511)
+        CHECK(aspa_file(reg, R, 0, n, nobody, 1, fresh()) == ASPA_OK);
+    a = aspa_judge_route(reg, R, ASPA_ROLE_PROVIDER, 1, attribute, length);
+    CHECK(a.verdict == ASPA_INVALID && a.place_a == 2 && a.place_b == 511 && a.gap == 511);
+    /* Each has both its neighbours as providers. */
+    for (n = 1; n <= 512; n++) {
+        uint32_t beside[2];
+        i = 0;
+        if (n > 1)
+            beside[i++] = n - 1;
+        if (n < 512)
+            beside[i++] = n + 1;
+        CHECK(aspa_file(reg, R, 0, n, beside, i, fresh()) == ASPA_OK);
+    }
+    a = aspa_judge_route(reg, R, ASPA_ROLE_PROVIDER, 1, attribute, length);
+    CHECK(a.refusal == ASPA_OK && a.verdict == ASPA_VALID && a.has_gap == 1 && a.gap == -511);
 }
 
 /* Five routes: number, role and path. Each path ends with the number that begins the next; route 8 has none, by a ground. */
@@ -655,7 +790,7 @@ static void equal_ends(void) {
 /* The calls that are lent the ledger take it: all routes are judged again, one is kept and dropped, and both tables are
    written and read. */
 static void ledger_taken(int line) {
-    uint8_t file[1000];
+    static uint8_t file[ASPA_SNAPSHOT_BYTES];
     uint32_t length;
     check(aspa_rejudge(reg, R, ledger, L, fresh()) == ASPA_OK && out[0] != ASPA_NO_COUNT, "judged again", line);
     remember();
@@ -750,6 +885,53 @@ static void equal_neighbours_held(void) {
     CHECK(aspa_route(ledger, 0)[ASPA_ROUTE_VERDICT] == ASPA_VALID && aspa_route(ledger, 0)[ASPA_ROUTE_PLACE_A] == 0);
 }
 
+/* The file of both tables, made without the library, which writes none of malformed ones. Gives its length. */
+static size_t file_of(uint8_t *file) {
+    uint32_t reg_words = ASPA_COUNT_WORDS + ASPA_RECORD_WORDS * reg[ASPA_COUNT_ENTRIES] + reg[ASPA_COUNT_NUMBERS];
+    uint32_t ledger_words = ASPA_COUNT_WORDS + ASPA_ROUTE_WORDS * ledger[ASPA_COUNT_ENTRIES] + ledger[ASPA_COUNT_NUMBERS];
+    uint32_t i;
+    put(file, 0, 1);
+    put(file, 1, ASPA_CONTENTS_BYTES);
+    put(file, 2, 4 * reg_words);
+    put(file, 3, ASPA_CONTENTS_BYTES + 4 * reg_words);
+    put(file, 4, 4 * ledger_words);
+    for (i = 0; i < reg_words; i++)
+        put(file + ASPA_CONTENTS_BYTES, i, reg[i]);
+    for (i = 0; i < ledger_words; i++)
+        put(file + ASPA_CONTENTS_BYTES + 4 * reg_words, i, ledger[i]);
+    return ASPA_CONTENTS_BYTES + 4 * (size_t)(reg_words + ledger_words);
+}
+
+/* A path of 512 numbers and places of 512, on a path of any length, are the farthest that a ledger holds. */
+static void farthest_held(void) {
+    /* The count of a route's path, both places, and whether a ledger may hold them. */
+    static const uint32_t cases[][4] = {{512, 512, 512, 1}, {512, 0, 0, 1},   {1, 512, 0, 1},   {1, 0, 512, 1},
+                                        {513, 1, 512, 0},   {512, 513, 0, 0}, {1, 513, 512, 0}, {1, 512, 513, 0}};
+    static uint8_t file[ASPA_SNAPSHOT_BYTES];
+    size_t i, length;
+    for (i = 0; i < sizeof cases / sizeof *cases; i++) {
+        const uint32_t *c = cases[i];
+        const uint32_t slot[] = {7, ASPA_ROLE_PROVIDER, 20, ASPA_GROUND_NONE, ASPA_UNKNOWN, c[1], c[2], 0, c[0]};
+        begin();
+        ledger[ASPA_COUNT_NUMBERS] = c[0];
+        memcpy(ledger + ASPA_COUNT_WORDS, slot, sizeof slot);
+        /* The path that `begin` keeps has two numbers. */
+        ledger[ASPA_COUNT_WORDS + ASPA_ROUTE_WORDS + 1] = 0;
+        ascending(ledger + ASPA_COUNT_WORDS + ASPA_ROUTE_WORDS, c[0], 20);
+        length = file_of(file);
+        remember();
+        if (c[3]) {
+            memset(ledger, 0xAA, sizeof ledger_before);
+            CHECK(read_exactly(file, length, R, L, __LINE__) == ASPA_OK);
+            CHECK(unchanged());
+            ledger_taken(__LINE__);
+        } else {
+            ledger_refused(L, ASPA_REFUSED_LEDGER_MALFORMED);
+            not_read(file, length, R, L, ASPA_REFUSED_LEDGER_MALFORMED, __LINE__);
+        }
+    }
+}
+
 /* Writes both tables, into an output with so many bytes more than the file has, and reads the file over other words. */
 static void round_trip(uint32_t length, size_t more, int line) {
     uint8_t *output = output_of(length + more), *again = output_of(length);
@@ -818,10 +1000,10 @@ static void every_bit(void) {
     }
     /*
      * Accepted: every bit of the customer, the provider, the route's number and the origin; the sources 1, 2 and 4, the
-     * roles 3 and 5, the verdicts 1 and 2, and for each place 1, 2, 4 and so on to 64. The first number of a path is the
-     * neighbour, so neither can change alone.
+     * roles 3 and 5, the verdicts 1 and 2, and for each place 1, 2, 4 and so on to 512. The first number of a path is
+     * the neighbour, so neither can change alone.
      */
-    CHECK(accepted == 4 * 32 + 3 + 2 + 2 + 2 * 7);
+    CHECK(accepted == 4 * 32 + 3 + 2 + 2 + 2 * 10);
 }
 
 static void snapshots(void) {
@@ -931,6 +1113,36 @@ static void snapshots(void) {
     round_trip(ASPA_SNAPSHOT_BYTES, 1, __LINE__);
 }
 
+/* Sixteen routes of 512 numbers fill a ledger. */
+static void sixteen_routes(void) {
+    uint8_t attribute[ASPA_MOST_ATTRIBUTE_BYTES], one[2 + 4];
+    uint32_t numbers[ASPA_MOST_PATH], n;
+    size_t length;
+    begin();
+    CHECK(aspa_drop(ledger, L, 7) == ASPA_OK);
+    add_sequence(one, 0, ascending(numbers, ASPA_MOST_PATH, 20), 1);
+    length = add_sequence(attribute, 0, numbers, ASPA_MOST_PATH);
+    for (n = 0; n < 16; n++)
+        CHECK(aspa_keep_route(reg, R, ledger, L, n, 1 + n % 6, 20, attribute, length).refusal == ASPA_OK);
+    CHECK(ledger[ASPA_COUNT_ENTRIES] == 16 && ledger[ASPA_COUNT_NUMBERS] == 8192);
+    remember();
+    not_kept(R, L, 16, from(1, 20, one, sizeof one), ASPA_REFUSED_LEDGER_FULL, 0, __LINE__);
+    not_kept(R, L, 16, from(1, 20, attribute, length), ASPA_REFUSED_LEDGER_FULL, 0, __LINE__);
+    round_trip(ASPA_CONTENTS_BYTES + 4 * (7 + 2 + 16 * 9 + 8192), 0, __LINE__);
+    /* A route with a ground has no path to keep. */
+    CHECK(aspa_keep_route(reg, R, ledger, L, 16, 1, 21, attribute, length).ground == ASPA_GROUND_NOT_NEIGHBOUR);
+    CHECK(ledger[ASPA_COUNT_ENTRIES] == 17 && ledger[ASPA_COUNT_NUMBERS] == 8192);
+    CHECK(aspa_rejudge(reg, R, ledger, L, fresh()) == ASPA_OK && out[0] == 0);
+    /* What a drop leaves free is taken to the last word. */
+    CHECK(aspa_drop(ledger, L, 5) == ASPA_OK);
+    CHECK(aspa_keep_route(reg, R, ledger, L, 17, 1, 20, one, sizeof one).refusal == ASPA_OK);
+    remember();
+    not_kept(R, L, 5, from(1, 20, attribute, length), ASPA_REFUSED_LEDGER_FULL, 0, __LINE__);
+    length = add_sequence(attribute, 0, numbers, ASPA_MOST_PATH - 1);
+    CHECK(aspa_keep_route(reg, R, ledger, L, 5, 1, 20, attribute, length).refusal == ASPA_OK);
+    CHECK(ledger[ASPA_COUNT_NUMBERS] == 8192);
+}
+
 /* Where a length is 0 nothing is read, so the pointer may be null. */
 static void null_pointers(void) {
     uint32_t words[ASPA_ANSWER_WORDS];
@@ -1007,8 +1219,12 @@ int main(void) {
     own_customer_held();
     routes();
     runs();
+    longest_attributes();
+    longest_paths();
     equal_neighbours_held();
+    farthest_held();
     snapshots();
+    sixteen_routes();
     null_pointers();
     conveniences();
     for (row = 1; row <= LAST_ROW; row++)

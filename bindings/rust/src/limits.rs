@@ -12,10 +12,11 @@ pub const GREATEST_SOURCE: u32 = 7;
 pub const MOST_ROUTES: usize = 512;
 /// The most numbers of all paths of a ledger together.
 pub const MOST_PATH_WORDS: usize = 8192;
-/// The most bytes of an attribute.
-pub const MOST_ATTRIBUTE_BYTES: usize = 1024;
-/// The most numbers of a merged path.
-pub const MOST_PATH: usize = 64;
+/// The most bytes of an attribute. Before version 0.6.0 they were 1,024.
+pub const MOST_ATTRIBUTE_BYTES: usize = 4096;
+/// The most numbers of a merged path, which is also the farthest place. Before version 0.6.0 it was 64: such a version refuses a ledger,
+/// and a snapshot, with a longer path or a place above that.
+pub const MOST_PATH: usize = 512;
 
 /// The words of a register.
 pub const REGISTER_WORDS: usize =

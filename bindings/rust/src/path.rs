@@ -13,7 +13,7 @@ pub const MOST_SEGMENT: usize = u8::MAX as usize;
 /// The value of an AS_PATH attribute with four-byte numbers, made segment by segment from the left.
 ///
 /// The left end is the neighbour's side, the right end the origin. Without a segment the attribute is empty. The builder tests nothing
-/// but the length of a segment; what else is wrong with a path is for a judging to tell.
+/// but that a segment has numbers, and a set no more than fit; what else is wrong with a path is for a judging to tell.
 ///
 /// ```
 /// use aspa_filter::{AsNumber, PathBuilder};
@@ -38,13 +38,18 @@ impl PathBuilder {
         PathBuilder::default()
     }
 
-    /// Adds an AS_SEQUENCE on the right.
+    /// Adds an AS_SEQUENCE on the right. More than [`MOST_SEGMENT`] numbers become several, all but the last of that many: merged, they
+    /// are the same path.
     ///
     /// # Errors
     ///
-    /// [`SegmentLengthError`] if there are no numbers or more than [`MOST_SEGMENT`].
+    /// [`SegmentLengthError`] if there are no numbers.
     pub fn sequence(self, numbers: &[AsNumber]) -> Result<PathBuilder, SegmentLengthError> {
-        self.segment(SEQUENCE, numbers)
+        if numbers.is_empty() {
+            return Err(SegmentLengthError(0));
+        }
+        let mut parts = numbers.chunks(MOST_SEGMENT);
+        parts.try_fold(self, |path, part| path.segment(SEQUENCE, part))
     }
 
     /// Adds an AS_SET on the right. A route with a set is Invalid, by [`Ground::AsSet`](crate::Ground::AsSet) if by no earlier one.
@@ -84,7 +89,7 @@ impl From<PathBuilder> for Vec<u8> {
     }
 }
 
-/// The attribute's bytes for one AS_SEQUENCE, which is what most paths are; left end first.
+/// The attribute's bytes for one AS_SEQUENCE, which is what most paths are, or for a path too long for one; left end first.
 ///
 /// ```
 /// use aspa_filter::{sequence, AsNumber};
@@ -95,7 +100,7 @@ impl From<PathBuilder> for Vec<u8> {
 ///
 /// # Errors
 ///
-/// [`SegmentLengthError`] if there are no numbers or more than [`MOST_SEGMENT`].
+/// [`SegmentLengthError`] if there are no numbers.
 pub fn sequence(numbers: &[AsNumber]) -> Result<Vec<u8>, SegmentLengthError> {
     Ok(PathBuilder::new().sequence(numbers)?.into())
 }

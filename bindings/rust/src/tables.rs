@@ -232,7 +232,7 @@ impl Ledger {
     }
 
     /// Judges every kept route without a ground again by the register as it is now, and answers how many changed in their verdict or
-    /// its places. It takes some 17 KiB of stack, and [`Tables::read`](crate::Tables::read) more; every other call takes less than 2 KiB.
+    /// its places. It takes some 17 KiB of stack, and [`Tables::read`](crate::Tables::read) more; every other call takes less than 3 KiB.
     ///
     /// # Errors
     ///

@@ -247,9 +247,9 @@ mod tests {
             [0, 0, 0, 0, TOP, 0],
             [1, 4, 0, 0, 0, 0],
             [1, 1, 2, 0, 0, 0],
-            [1, 0, 65, 0, 0, 0],
+            [1, 0, 513, 0, 0, 0],
             [2, 1, 0, 0, 0, 0],
-            [2, 0, 1, 65, 0, 0],
+            [2, 0, 1, 513, 0, 0],
         ] {
             let refusal = Answer::told((0, words, 0)).expect_err("no answer");
             assert_eq!(refusal, Refusal::NoAnswer { number: 0 }, "{words:?}");
@@ -258,15 +258,27 @@ mod tests {
                 "no answer: the library returned 0 and words that mean nothing here"
             );
         }
-        let text = |has_gap, gap| {
-            let answer = Answer::told((0, [0, 0, 0, 0, has_gap, 0], gap));
-            answer.map(|answer| answer.to_string())
-        };
-        assert_eq!(text(0, 9), Ok("Valid".into()));
-        assert_eq!(text(1, 63), Ok("Valid gap 63".into()));
-        assert_eq!(text(1, -63), Ok("Valid gap -63".into()));
-        for gap in [64, -64, i32::MIN] {
-            assert_eq!(text(1, gap), Err(Refusal::NoAnswer { number: 0 }));
+        for gap in [512, -512, i32::MIN] {
+            let refusal = text([0, 0, 0, 0, 1, 0], gap);
+            assert_eq!(refusal, Err(Refusal::NoAnswer { number: 0 }));
+        }
+    }
+
+    fn text(words: [u32; answer::WORDS], gap: i32) -> Result<String, Refusal> {
+        Answer::told((0, words, gap)).map(|answer| answer.to_string())
+    }
+
+    /// The farthest places and the widest gaps; a gap that is not given does not count.
+    #[test]
+    fn farthest_answers() {
+        for (words, gap, told) in [
+            ([0, 0, 0, 0, 0, 0], 512, "Valid"),
+            ([0, 0, 0, 0, 1, 0], -511, "Valid gap -511"),
+            ([1, 0, 512, 0, 0, 0], 0, "Invalid 512 0"),
+            ([1, 0, 512, 512, 1, 0], 511, "Invalid 512 512 gap 511"),
+            ([2, 0, 1, 512, 1, 0], 511, "Unknown 1 512 gap 511"),
+        ] {
+            assert_eq!(text(words, gap), Ok(told.into()));
         }
     }
 }

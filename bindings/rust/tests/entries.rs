@@ -221,9 +221,10 @@ fn damaged_routes() {
         (15, 2, 4),
         (15, 3, 1),
         (15, TOP, 1),
-        (16, 64, 4),
-        (16, 65, 1),
-        (17, 64, 4),
+        (16, 512, 4),
+        (16, 513, 1),
+        (17, 512, 4),
+        (17, 513, 1),
         (17, TOP, 1),
         (18, 5, 4),
         (18, 6, 1),
@@ -235,6 +236,9 @@ fn damaged_routes() {
     ] {
         assert_eq!(routes_with(&[(word, value)]), left, "word {word}: {value}");
     }
+    // A count above the most of a path.
+    assert_eq!(routes_with(&[(1, 600), (19, 512)]), 4);
+    assert_eq!(routes_with(&[(1, 600), (19, 513)]), 1);
     // The first route has a ground: no path, no other verdict, no places; a start past the end is none in the table.
     for (word, value) in [
         (5, 0),

@@ -3,7 +3,8 @@
 //! damaged. The same seed gives the same history.
 use aspa_filter::{
     Answer, AsNumber, Cause, Filed, Ground, Ledger, Refusal, Register, Role, RouteNumber, Tables,
-    Verdict, LEDGER_WORDS, REGISTER_WORDS, SNAPSHOT_BYTES,
+    Verdict, LEDGER_WORDS, MOST_ATTRIBUTE_BYTES, MOST_PATH, MOST_SEGMENT, REGISTER_WORDS,
+    SNAPSHOT_BYTES,
 };
 use reference::random::Random;
 use reference::words::{padded, Form};
@@ -15,6 +16,9 @@ const HISTORIES: u64 = 3;
 const CALLS: usize = 3000;
 const BETWEEN_TABLES: usize = 50;
 const BETWEEN_DAMAGE: usize = 60;
+/// The farthest place, and one above it.
+const FAR: u32 = MOST_PATH as u32;
+const TOO_FAR: u32 = FAR + 1;
 
 // Calls and what they say, in words that both sides share
 
@@ -204,7 +208,7 @@ struct Shape {
     customers: usize,
     /// Route numbers are mostly below this.
     routes: usize,
-    /// Percent of lists near 256 providers and of paths near 64 numbers.
+    /// Percent of lists near 256 providers, and of paths near 64 numbers, one segment, two segments or the most.
     long_lists: usize,
     long_paths: usize,
     /// Weights of the calls, in the order of `Call`.
@@ -321,6 +325,12 @@ impl History<'_> {
                 let way = if gap.is_some() { "down" } else { "up" };
                 if gap.is_some_and(|g| g < 0) {
                     self.tell("overlap");
+                }
+                if gap.is_some_and(|g| g.unsigned_abs() as usize == MOST_PATH - 1) {
+                    self.tell("widest gap");
+                }
+                if farthest(verdict) as usize > MOST_SEGMENT {
+                    self.tell("far place");
                 }
                 match verdict {
                     Verdict::Valid => format!("valid {way}"),
@@ -581,7 +591,7 @@ impl History<'_> {
                 let old = snapshot::number_at(&file, index);
                 let value = self
                     .random
-                    .pick(&[old ^ 1, old ^ (1 << 31), 0, 1, 2, 65, any]);
+                    .pick(&[old ^ 1, old ^ (1 << 31), 0, 1, 2, TOO_FAR, any]);
                 snapshot::with(&file, &[(index, value)])
             }
             // A list with its own customer, if it has a list.
@@ -743,7 +753,10 @@ impl History<'_> {
     /// Left end first: what descends, then what climbs from the origin.
     fn path(&mut self) -> Vec<u32> {
         if self.random.percent(self.shape.long_paths) {
-            let length = self.random.pick(&[40, 63, 64, 64, 64, 64, 65]);
+            let whole = MOST_SEGMENT;
+            let near = [64, whole, 2 * whole, MOST_PATH, MOST_PATH, MOST_PATH];
+            let near = self.random.pick(&near);
+            let length = self.random.pick(&[near - 1, near, near, near + 1]);
             let mut path: Vec<u32> = vec![];
             while path.len() < length {
                 let number = self.random.between(1, 12) as u32;
@@ -767,14 +780,19 @@ impl History<'_> {
     fn attribute(&mut self) -> (u32, Vec<u8>) {
         let path = self.path();
         let first = path[0];
-        // Several segments, numbers repeated within one and over boundaries: all are merged.
+        // Several segments, or no more than there must be; numbers repeated within one and over boundaries: all are merged.
+        let cuts = self.random.pick(&[[12, 40], [12, 40], [12, 40], [0, 0]]);
         let mut segments: Vec<(u8, Vec<u32>)> = vec![];
         for number in path {
             let times = self.random.pick(&[1, 1, 1, 1, 1, 2, 3]);
             for nth in 0..times {
-                let cut = if nth == 0 { 12 } else { 40 };
+                let cut = cuts[usize::from(nth > 0)];
                 match segments.last_mut() {
-                    Some((_, numbers)) if !self.random.percent(cut) => numbers.push(number),
+                    Some((_, numbers))
+                        if numbers.len() < MOST_SEGMENT && !self.random.percent(cut) =>
+                    {
+                        numbers.push(number)
+                    }
                     _ => segments.push((2, vec![number])),
                 }
             }
@@ -804,28 +822,52 @@ impl History<'_> {
             5 => bytes.clear(),
             6 => bytes = (0..40).map(|_| self.random.below(6) as u8).collect(),
             7 => {
-                // 2 + 4n + 2 + 4(255 - n) is 1024, the longest.
-                let n = self.random.between(1, 254);
-                bytes = [segment(2, &vec![first; n]), segment(2, &vec![7; 255 - n])].concat();
+                bytes = self.longest(first);
                 bytes.extend(vec![2; self.random.pick(&[0, 0, 1, 400])]);
             }
             8 => {
-                // 64 or 65 numbers, and one of them on both sides of a boundary.
-                let length = self.random.between(64, 65);
+                // The most numbers or one more, and one of them on both sides of a boundary.
+                let length = self.random.between(MOST_PATH, MOST_PATH + 1);
                 let path: Vec<u32> = (0..length as u32).map(|i| first ^ i << 8).collect();
                 let cut = self.random.between(1, length);
-                bytes = [segment(2, &path[..cut]), segment(2, &path[cut - 1..])].concat();
+                bytes = [sequences(&path[..cut]), sequences(&path[cut - 1..])].concat();
             }
             _ => {}
         }
         (first, bytes)
     }
+
+    /// As many bytes as there may be, in six segments, which is the fewest, or more. The numbers come in runs.
+    fn longest(&mut self, first: u32) -> Vec<u8> {
+        let segments = self.random.pick(&[6, 6, 8, 50, 682]);
+        let all = (MOST_ATTRIBUTE_BYTES - 2 * segments) / 4;
+        let merged = self.random.pick(&[1, 2, MOST_PATH, MOST_PATH + 1]);
+        let numbers = (0..all).map(|i| first ^ ((i * merged / all) as u32) << 8);
+        let numbers: Vec<u32> = numbers.collect();
+        let (mut rest, mut bytes) = (&numbers[..], vec![]);
+        for behind in (0..segments).rev() {
+            // Those behind have at least one number each, and no more than they have room for.
+            let least = rest.len().saturating_sub(behind * MOST_SEGMENT).max(1);
+            let most = MOST_SEGMENT.min(rest.len() - behind);
+            let (part, left) = rest.split_at(self.random.between(least, most));
+            bytes.extend(segment(2, part));
+            rest = left;
+        }
+        assert_eq!(bytes.len(), MOST_ATTRIBUTE_BYTES);
+        bytes
+    }
 }
 
 fn segment(kind: u8, numbers: &[u32]) -> Vec<u8> {
-    let mut bytes = vec![kind, numbers.len() as u8];
+    let mut bytes = vec![kind, u8::try_from(numbers.len()).expect("one segment's")];
     bytes.extend(numbers.iter().flat_map(|n| n.to_be_bytes()));
     bytes
+}
+
+/// A path in as few segments as there can be.
+fn sequences(path: &[u32]) -> Vec<u8> {
+    let parts = path.chunks(MOST_SEGMENT);
+    parts.flat_map(|part| segment(2, part)).collect()
 }
 
 /// One word of a table altered, or its length.
@@ -853,7 +895,22 @@ impl Change {
         let near = [old.wrapping_add(1), old.wrapping_sub(1), old ^ (1 << 31)];
         let value = match random.below(3) {
             0 => random.pick(&near),
-            _ => random.pick(&[0, 1, 2, 3, 4, 6, 7, 8, 64, 65, 257, 8193, u32::MAX, any]),
+            _ => random.pick(&[
+                0,
+                1,
+                2,
+                3,
+                4,
+                6,
+                7,
+                8,
+                257,
+                FAR,
+                TOO_FAR,
+                8193,
+                u32::MAX,
+                any,
+            ]),
         };
         Change::Poke((index, value))
     }
@@ -973,6 +1030,14 @@ fn equal_across(ledger: &Ledger) -> bool {
     pairs.any(|pair| pair[0].2.last() == pair[1].2.first())
 }
 
+/// The farther place of a verdict.
+fn farthest(verdict: Verdict) -> u32 {
+    match verdict {
+        Verdict::Invalid(Cause::Hops { a, b }) | Verdict::Unknown { a, b } => a.max(b),
+        _ => 0,
+    }
+}
+
 /// Whether an attribute with this answer had neither a fault nor a ground, so that its path was merged.
 fn merged(answer: &Said) -> bool {
     match answer {
@@ -992,18 +1057,21 @@ fn runs(attribute: &[u8]) -> Vec<&'static str> {
         let last = pair[0].numbers[pair[0].numbers.len() - 1];
         pair[1].numbers.iter().all(|number| *number == last)
     });
+    let whole = |segment: &by::Segment| segment.numbers.len() == MOST_SEGMENT;
     let kinds = [
         ("run over segments", apart > left),
         ("segment gone", vanishes),
-        ("64 left of more", left == 64 && apart > left),
-        ("65 left of more", left == 65 && apart > left),
+        ("most left of more", left == MOST_PATH && apart > left),
+        ("too many of more", left == MOST_PATH + 1 && apart > left),
+        ("whole segment", segments.iter().any(whole)),
+        ("longest attribute", attribute.len() == MOST_ATTRIBUTE_BYTES),
     ];
     let given = kinds.into_iter().filter(|(_, given)| *given);
     given.map(|(kind, _)| kind).collect()
 }
 
 /// What every shape must reach, with the refusals below.
-const REACHED: [&str; 21] = [
+const REACHED: [&str; 24] = [
     "New",
     "Replaced",
     "cleared",
@@ -1015,6 +1083,9 @@ const REACHED: [&str; 21] = [
     "unknown up",
     "unknown down",
     "overlap",
+    "widest gap",
+    "far place",
+    "longest attribute",
     "Empty",
     "NotNeighbour",
     "AsSet",
@@ -1027,13 +1098,15 @@ const REACHED: [&str; 21] = [
     "own customer read",
 ];
 
-/// What every shape must reach this often: equal numbers over the ends of segments, on stored paths and where two of them meet.
+/// What every shape must reach this often: equal numbers over the ends of segments, on stored paths and where two of them meet, and
+/// segments that have no room for another number.
 const OFTEN: usize = 10;
-const REACHED_OFTEN: [&str; 8] = [
+const REACHED_OFTEN: [&str; 9] = [
     "run over segments",
     "segment gone",
-    "64 left of more",
-    "65 left of more",
+    "most left of more",
+    "too many of more",
+    "whole segment",
     "equal neighbours held",
     "equal neighbours read",
     "equal ends held",
@@ -1118,7 +1191,7 @@ fn single_words() {
     let values = |old: u32| {
         let near = [old.wrapping_add(1), old.wrapping_sub(1), old ^ (1 << 31)];
         (0..=9)
-            .chain([64, 65, 256, 257, 8193, u32::MAX])
+            .chain([256, 257, FAR, TOO_FAR, 8193, u32::MAX])
             .chain(near)
     };
     let used = kept.1.register.used_words().len();
@@ -1204,7 +1277,7 @@ fn many_routes() {
 fn long_paths() {
     let shape = Shape {
         customers: 12,
-        routes: 450,
+        routes: 150,
         long_lists: 10,
         long_paths: 75,
         weights: [150, 50, 5, 150, 450, 60, 135, 20, 30],

@@ -1,6 +1,7 @@
 //! The builder's bytes, and the segments that it refuses.
 use aspa_filter::{
-    sequence, AsNumber, Cause, Ground, PathBuilder, Register, Role, Verdict, MOST_SEGMENT,
+    sequence, AsNumber, Cause, Ground, Ledger, PathBuilder, Refusal, Register, Role, RouteNumber,
+    Verdict, MOST_SEGMENT,
 };
 
 #[test]
@@ -28,31 +29,72 @@ fn shortcut() {
     assert_eq!(sequence(&numbers).unwrap()[..6], [2, 4, 0, 0, 0, 30]);
 }
 
+/// The bytes of segments of one type.
+fn segments(kind: u8, parts: &[&[AsNumber]]) -> Vec<u8> {
+    let mut bytes = vec![];
+    for part in parts {
+        bytes.extend([kind, part.len() as u8]);
+        bytes.extend(part.iter().flat_map(|number| number.0.to_be_bytes()));
+    }
+    bytes
+}
+
 #[test]
 fn lengths() {
     assert_eq!(MOST_SEGMENT, 255);
-    let numbers = [AsNumber(9); 256];
+    let numbers: Vec<AsNumber> = (1..=513).map(AsNumber).collect();
+    let start = || PathBuilder::new().sequence(&[AsNumber(9)]).unwrap();
     for length in [1, 254, 255] {
-        for path in [
-            PathBuilder::new().sequence(&numbers[..length]).unwrap(),
-            PathBuilder::new().set(&numbers[..length]).unwrap(),
-        ] {
-            assert_eq!(path.bytes().len(), 2 + 4 * length);
-            assert_eq!(path.bytes()[1] as usize, length);
-            assert_eq!(path.bytes()[2..], [0, 0, 0, 9].repeat(length));
-        }
-        assert!(sequence(&numbers[..length]).is_ok());
+        let numbers = &numbers[..length];
+        assert_eq!(sequence(numbers).unwrap(), segments(2, &[numbers]));
+        let set = PathBuilder::new().set(numbers).unwrap();
+        assert_eq!(set.bytes(), segments(1, &[numbers]));
     }
-    for length in [0, 256] {
-        let refused = sequence(&numbers[..length]).unwrap_err();
-        assert_eq!(
-            refused.to_string(),
-            format!("a segment of {length} numbers: its count byte says 1 to 255")
-        );
-        let good = || PathBuilder::new().sequence(&numbers[..1]).unwrap();
-        assert_eq!(good().sequence(&numbers[..length]), Err(refused));
-        assert_eq!(good().set(&numbers[..length]), Err(refused));
+    // A path that is too long for one segment goes on in the next.
+    for counts in [
+        &[255, 1][..],
+        &[255, 254],
+        &[255, 255],
+        &[255, 255, 1],
+        &[255, 255, 2],
+        &[255, 255, 3],
+    ] {
+        let numbers = &numbers[..counts.iter().sum()];
+        let mut rest = numbers;
+        let parts = counts.iter().map(|count| rest.split_off(..*count).unwrap());
+        let parts: Vec<&[AsNumber]> = parts.collect();
+        assert_eq!(sequence(numbers).unwrap(), segments(2, &parts));
+        let later = start().sequence(numbers).unwrap();
+        assert_eq!(later.bytes()[6..], segments(2, &parts));
     }
+    let length_error =
+        |length| format!("a segment of {length} numbers: its count byte says 1 to 255");
+    let refused = sequence(&[]).unwrap_err();
+    assert_eq!(refused.to_string(), length_error(0));
+    assert_eq!(start().sequence(&[]), Err(refused));
+    assert_eq!(start().set(&[]), Err(refused));
+    for length in [256, 510, 513] {
+        let refused = start().set(&numbers[..length]).unwrap_err();
+        assert_eq!(refused.to_string(), length_error(length));
+    }
+}
+
+/// However long it is, a path is read as it was built.
+#[test]
+fn kept() {
+    let (register, role) = (Register::new(), Role::Customer);
+    let path: Vec<AsNumber> = (1..=513).map(AsNumber).collect();
+    for length in [1, 254, 255, 256, 509, 510, 511, 512] {
+        let mut ledger = Ledger::new();
+        let attribute = sequence(&path[..length]).unwrap();
+        let (number, neighbour) = (RouteNumber(1), path[0]);
+        ledger
+            .keep(&register, number, role, neighbour, &attribute)
+            .unwrap();
+        assert_eq!(ledger.routes().next().unwrap().path, &path[..length]);
+    }
+    let refused = register.judge(role, path[0], &sequence(&path).unwrap());
+    assert_eq!(refused, Err(Refusal::PathLength));
 }
 
 /// What is built is read as it was meant.

@@ -23,13 +23,13 @@ const TEXTS: [&str; 24] = [
     "refused by 8: the register would hold more than 1024 records or 8192 provider numbers",
     "refused by 9: the role is not 1 to 6",
     "refused by 10: the neighbour is 0",
-    "refused by 11: the attribute is longer than 1024 bytes",
+    "refused by 11: the attribute is longer than 4096 bytes",
     "refused by 12: a segment is cut short",
     "refused by 13: a segment has an unknown type",
     "refused by 14: a segment is of a confederation",
     "refused by 15: a segment has no numbers",
     "refused by 16: an AS number is 0",
-    "refused by 17: the merged path has more than 64 numbers",
+    "refused by 17: the merged path has more than 512 numbers",
     "refused by 18: the route number is taken",
     "refused by 19: there is no such route",
     "refused by 20: the ledger would hold more than 512 routes or 8192 path numbers",
@@ -92,7 +92,7 @@ fn full_bodies() -> Tables {
         register.file(1, AsNumber(customer), &providers).unwrap();
     }
     let path = sequence(&numbers(MOST_PATH)).unwrap();
-    for number in 1..=128 {
+    for number in 1..=16 {
         let number = RouteNumber(number);
         ledger
             .keep(&register, number, Role::Peer, AsNumber(1), &path)
@@ -332,9 +332,9 @@ fn every_row() {
     let long = sequence(&numbers(MOST_PATH + 1)).unwrap();
     let calls = vec![judge(1, long.clone()), keep(1, 1, long)];
     seen.all(&some, Refusal::PathLength, calls);
-    // In two segments, the number before the cut in both.
+    // Cut once more, and the number before the cut on both sides.
     let all = numbers(MOST_PATH + 1);
-    for cut in [1, 40, MOST_PATH + 1] {
+    for cut in [1, 40, 255, 256, MOST_PATH, MOST_PATH + 1] {
         let parts = [&all[..cut], &all[cut - 1..]].map(|part| sequence(part).unwrap());
         let calls = vec![judge(1, parts.concat()), keep(1, 1, parts.concat())];
         seen.all(&some, Refusal::PathLength, calls);
@@ -346,11 +346,9 @@ fn every_row() {
     seen.all(&some, Refusal::NoRoute, calls);
     let calls = vec![keep(2, 20, path()), keep(2, 20, vec![])];
     seen.all(&full(), Refusal::LedgerFull, calls);
-    seen.all(
-        &full_bodies(),
-        Refusal::LedgerFull,
-        vec![keep(0, 20, path())],
-    );
+    let one = sequence(&[AsNumber(20)]).unwrap();
+    let calls = vec![keep(0, 20, path()), keep(17, 20, one)];
+    seen.all(&full_bodies(), Refusal::LedgerFull, calls);
 
     // The snapshot of `some`, whose register has 12 words and whose ledger 24.
     let file = snapshot(&some);
@@ -634,10 +632,88 @@ fn equal_ends_held() {
     }
 }
 
+/// Faults in the last bytes of the longest attribute. They go before the path, which is too long.
+#[test]
+fn faults_at_the_end() {
+    let (mut seen, some) = (Seen::default(), some());
+    let mut all = |bytes: Vec<u8>, refusal| {
+        assert!([4095, 4096].contains(&bytes.len()));
+        let calls = vec![judge(1, bytes.clone()), keep(2, 1, bytes)];
+        seen.all(&some, refusal, calls);
+    };
+    // Every segment, and so every place, is at an even byte.
+    let (start, place) = (sequence(&numbers(1021)).unwrap(), 4094);
+    assert_eq!(start.len(), 4094);
+    for (bytes, refusal) in [
+        (&[2][..], Refusal::CutShort { place }),
+        (&[2, 1], Refusal::CutShort { place }),
+        (&[0, 1], Refusal::SegmentType { place }),
+        (&[5, 0], Refusal::SegmentType { place }),
+        (&[3, 0], Refusal::Confederation { place }),
+        (&[4, 1], Refusal::Confederation { place }),
+        (&[2, 0], Refusal::SegmentEmpty { place }),
+        (&[1, 0], Refusal::SegmentEmpty { place }),
+    ] {
+        all([&start, bytes].concat(), refusal);
+    }
+    let parts = [&numbers(1019)[..], &[AsNumber(1)], &[AsNumber(0)]];
+    let parts = parts.map(|part| sequence(part).unwrap());
+    all(parts.concat(), Refusal::AsZero { place: 4092 });
+}
+
+/// One route with so many numbers and these places.
+fn one_route(count: u32, a: u32, b: u32) -> Tables {
+    let mut words = vec![1, count, 9, 3, 1, 0, 2, a, b, 0, count];
+    words.extend(1..=count);
+    words.resize(LEDGER_WORDS, 0);
+    let ledger = Ledger::from_words(words);
+    Tables { ledger, ..some() }
+}
+
+/// The snapshot of these tables, made without the library, which writes none of malformed ones.
+fn snapshot_of(tables: &Tables) -> Vec<u8> {
+    fn used(words: &[u32], width: u32) -> &[u32] {
+        &words[..(2 + width * words[0] + words[1]) as usize]
+    }
+    let parts = [
+        used(tables.register.words(), 4),
+        used(tables.ledger.words(), 9),
+    ];
+    let [first, second] = parts.map(|part| 4 * part.len() as u32);
+    let contents = [1, 20, first, 20 + first, second];
+    let words = [&contents[..], parts[0], parts[1]].concat();
+    words.iter().flat_map(|word| word.to_be_bytes()).collect()
+}
+
+/// A path of 512 numbers and places of 512, on a path of any length, are the farthest that a ledger holds.
+#[test]
+fn farthest_held() {
+    let mut seen = Seen::default();
+    for (count, a, b) in [(512, 512, 512), (512, 0, 0), (1, 512, 0), (1, 0, 512)] {
+        let tables = one_route(count, a, b);
+        let file = snapshot_of(&tables);
+        assert_eq!(snapshot(&tables), file);
+        let mut after = some();
+        assert_eq!(read(file)(&mut after), Ok(()));
+        assert!(after == tables);
+        for call in [keep(2, 20, path()), rejudge(), drop_route(9)] {
+            assert_eq!(call(&mut after), Ok(()));
+        }
+    }
+    for (count, a, b) in [(513, 1, 512), (512, 513, 0), (1, 513, 512), (1, 512, 513)] {
+        let tables = one_route(count, a, b);
+        seen.all(&tables, Refusal::LedgerMalformed, on_ledger());
+        let calls = || vec![read(snapshot_of(&tables))];
+        seen.all(&some(), Refusal::LedgerMalformed, calls());
+        seen.all(&tables, Refusal::LedgerMalformed, calls());
+    }
+}
+
 /// What full tables still take.
 #[test]
 fn room() {
     let mut tables = full_bodies();
+    assert_eq!(tables.ledger.words()[..2], [16, 8192]);
     // A shorter list and a route with a ground need no body words.
     assert_eq!(file(1, 1001, numbers(255))(&mut tables), Ok(()));
     assert_eq!(file(0, 1001, numbers(1))(&mut tables), Ok(()));

@@ -1,7 +1,8 @@
 //! Snapshots: what they hold, files and streams, and what damage leads to.
 use aspa_filter::{
     sequence, AsNumber, Ledger, Refusal, Register, Role, RouteNumber, SnapshotError, Tables,
-    LEDGER_WORDS, MOST_PROVIDERS, MOST_RECORDS, MOST_ROUTES, REGISTER_WORDS, SNAPSHOT_BYTES,
+    LEDGER_WORDS, MOST_PATH, MOST_PATH_WORDS, MOST_PROVIDERS, MOST_RECORDS, MOST_ROUTES,
+    REGISTER_WORDS, SNAPSHOT_BYTES,
 };
 use std::error::Error;
 use std::fs;
@@ -141,6 +142,15 @@ fn round_trips() {
         let customer = AsNumber(customer);
         long.register.file(7, customer, &providers).unwrap();
     }
+    let path: Vec<AsNumber> = (1..=MOST_PATH as u32).map(AsNumber).collect();
+    let bytes = sequence(&path).unwrap();
+    for number in 1..=16 {
+        let (number, role) = (RouteNumber(number), Role::Provider);
+        long.ledger
+            .keep(&long.register, number, role, path[0], &bytes)
+            .unwrap();
+    }
+    assert_eq!(long.ledger.words()[1] as usize, MOST_PATH_WORDS);
     for tables in [Tables::new(), small(), long, full()] {
         let file = written(&tables);
         let mut exact = vec![0; file.len()];

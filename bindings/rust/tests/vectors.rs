@@ -27,7 +27,7 @@ fn register_d() -> Register {
     register
 }
 
-/// One sequence, left end first.
+/// Sequences, or one where the path is not too long for it, left end first.
 fn sequence(path: &[u32]) -> Vec<u8> {
     aspa_filter::sequence(&numbers(path)).unwrap()
 }
@@ -208,12 +208,16 @@ fn limit_over_segments() {
     let d = register_d();
     let path: Vec<u32> = (0..=MOST_PATH as u32).map(|i| 1000 + i).collect();
     for cut in 1..=MOST_PATH {
-        // 65 numbers, of which 64 are left.
+        // 513 numbers, of which 512 are left.
         let parts = [&path[..cut], &path[cut - 1..MOST_PATH]];
         merge_to(&d, &parts, &path[..MOST_PATH]);
     }
+    for width in [1, 2, 3, 64, 128, 254, 255] {
+        let parts: Vec<&[u32]> = path[..MOST_PATH].chunks(width).collect();
+        merge_to(&d, &parts, &path[..MOST_PATH]);
+    }
     for cut in 1..=MOST_PATH + 1 {
-        // 66 numbers, of which 65 are left.
+        // 514 numbers, of which 513 are left.
         let bytes = [sequence(&path[..cut]), sequence(&path[cut - 1..])].concat();
         for role in Role::ALL {
             let judged = d.judge(role, AsNumber(1000), &bytes);
@@ -236,20 +240,16 @@ fn grounds_and_limits() {
         ground(Ground::AsSet)
     );
 
-    let path: Vec<u32> = (0..=MOST_PATH as u32).map(|i| 1000 + i).collect();
-    assert_eq!(judge(&d, 1, &path[..MOST_PATH]), unknown(2, 0, None));
+    assert_eq!(MOST_PATH, 512);
+    let path: Vec<u32> = (1000..=1512).collect();
+    assert_eq!(judge(&d, 1, &path[..512]), unknown(2, 0, None));
     assert_eq!(refused(judge(&d, 1, &path)), (17, None));
-
-    let mut bytes = [sequence(&[20; 200]), sequence(&[10; 55])].concat();
-    assert_eq!(bytes.len(), MOST_ATTRIBUTE_BYTES);
-    assert_eq!(judge_bytes(&bytes), valid(None));
-    // The same, cut within a run.
-    let run = [vec![20; 100], vec![10; 55]].concat();
-    let cut = [sequence(&[20; 100]), sequence(&run)].concat();
-    assert_eq!(cut.len(), MOST_ATTRIBUTE_BYTES);
-    assert_eq!(judge_bytes(&cut), valid(None));
-    bytes.push(2);
-    assert_eq!(refused(judge_bytes(&bytes)), (11, None));
+    // A ground goes before the length.
+    let stranger = judge_from(&d, 1, 999, &path);
+    assert_eq!(stranger, ground(Ground::NotNeighbour));
+    let with_set = [sequence(&path), vec![1, 1, 0, 0, 0, 10]].concat();
+    let judged = d.judge(Role::Customer, AsNumber(1000), &with_set);
+    assert_eq!(judged, ground(Ground::AsSet));
 
     assert_eq!(refused(judge_bytes(&[2])), (12, Some(0)));
     assert_eq!(
@@ -271,21 +271,90 @@ fn grounds_and_limits() {
     );
 }
 
+/// 1 to `merged`, in runs that make 1,021 numbers, in six segments of 255, 255, 255, 254, 1 and 1: no fewer make 4,096 bytes.
+fn longest(merged: u32) -> Vec<u8> {
+    let path: Vec<u32> = (0..1021).map(|i| 1 + i * merged / 1021).collect();
+    let parts = [&path[..1019], &path[1019..1020], &path[1020..]];
+    parts.map(sequence).concat()
+}
+
+#[test]
+fn longest_attribute() {
+    assert_eq!(MOST_ATTRIBUTE_BYTES, 4096);
+    let mut register = Register::new();
+    register.file(0, AsNumber(2), &numbers(&[1])).unwrap();
+    for (merged, told) in [
+        (1, valid(None)),
+        (2, valid(None)),
+        (511, unknown(2, 0, None)),
+        (512, unknown(2, 0, None)),
+        (513, Err(Refusal::PathLength)),
+        (1021, Err(Refusal::PathLength)),
+    ] {
+        let mut bytes = longest(merged);
+        assert_eq!(bytes.len(), 4096);
+        let judge = |bytes: &[u8]| register.judge(Role::Customer, AsNumber(1), bytes);
+        assert_eq!(judge(&bytes), told, "{merged}");
+        bytes.push(2);
+        assert_eq!(refused(judge(&bytes)), (11, None));
+    }
+}
+
+/// The path 1 to 512: 512 is the origin, AS(1).
+fn longest_path() -> Vec<u32> {
+    (1..=512).collect()
+}
+
 #[test]
 fn gap_at_both_ends() {
-    let path: Vec<u32> = (0..MOST_PATH as u32).map(|i| 1000 + i).collect();
-    let widest = MOST_PATH as i32 - 1;
+    let path = longest_path();
     let mut register = Register::new();
-    assert_eq!(
-        judge(&register, 3, &path),
-        unknown(1, MOST_PATH as u32, Some(widest))
-    );
-    for x in &path {
-        register
-            .file(0, AsNumber(*x), &numbers(&[x - 1, x + 1]))
-            .unwrap();
+    assert_eq!(judge(&register, 3, &path), unknown(1, 512, Some(511)));
+    // Nobody is a provider of either end.
+    for end in [1, 512] {
+        register.file(0, AsNumber(end), &numbers(&[0])).unwrap();
     }
-    assert_eq!(judge(&register, 3, &path), valid(Some(-widest)));
+    assert_eq!(judge(&register, 3, &path), invalid(2, 511, Some(511)));
+    // Each has both its neighbours as providers.
+    for x in &path {
+        let beside: Vec<u32> = [x - 1, x + 1]
+            .into_iter()
+            .filter(|y| path.contains(y))
+            .collect();
+        register.file(0, AsNumber(*x), &numbers(&beside)).unwrap();
+    }
+    assert_eq!(judge(&register, 3, &path), valid(Some(-511)));
+}
+
+/// The farthest places, as they are kept and as they are judged again.
+#[test]
+fn farthest_places() {
+    let (mut register, mut ledger) = (Register::new(), Ledger::new());
+    let bytes = sequence(&longest_path());
+    let mut keep = |register: &Register, number, role| {
+        ledger.keep(register, RouteNumber(number), role, AsNumber(1), &bytes)
+    };
+    let kept = keep(&register, 1, Role::Provider);
+    assert_eq!(kept, unknown(1, 512, Some(511)));
+    // Every number but 2 and 1, the last two from the origin, has the next as its provider.
+    for x in 3..=512 {
+        register.file(0, AsNumber(x), &numbers(&[x - 1])).unwrap();
+    }
+    let kept = keep(&register, 2, Role::Customer);
+    assert_eq!(kept, unknown(512, 0, None));
+    // Verdict and places of both.
+    let words = |ledger: &Ledger| [6, 15].map(|at| ledger.words()[at..at + 3].to_vec());
+    assert_eq!(words(&ledger), [[2, 1, 512], [2, 512, 0]]);
+    register.file(0, AsNumber(2), &numbers(&[0])).unwrap();
+    assert_eq!(ledger.rejudge(&register), Ok(2));
+    assert_eq!(words(&ledger), [[0, 0, 0], [1, 512, 0]]);
+    let verdicts = ledger.routes().map(|route| route.verdict.to_string());
+    assert!(verdicts.eq(["Valid", "Invalid 512 0"]));
+    register.clear(0).unwrap();
+    assert_eq!(ledger.rejudge(&register), Ok(2));
+    assert_eq!(words(&ledger), [[2, 1, 512], [2, 2, 0]]);
+    let verdicts = ledger.routes().map(|route| route.verdict.to_string());
+    assert!(verdicts.eq(["Unknown 1 512", "Unknown 2 0"]));
 }
 
 #[test]

@@ -21,7 +21,7 @@ use Rattle.as_path.specs.Merging.{mergedPath}
 
 -- The most numbers of a merged path.
 abbrev pub mostNumbers : ℕ
-mostNumbers = 64
+mostNumbers = 512
 
 pub data Content : Type 0 where
   faulty : Fault → ℕ → Content

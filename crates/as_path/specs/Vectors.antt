@@ -1,11 +1,15 @@
--- Attributes whose segments are all sequences, by computation: vector O's, and the same numbers in one sequence and in three.
+-- Attributes whose segments are all sequences, by computation: vector O's, and the same numbers in one sequence and in three. The most numbers.
 use Prim.Native.Nat.{ℕ}
 use mathlib.Core.Path.{_≡_, refl}
 use mathlib.Core.List.{List, [], _∷_}
+use lib.ListN.{replicate}
+use Rattle.types.specs.declared.Refusal.the-variants.{PathLength}
+use Rattle.as_path.specs.declared.Reading.the-variants.{Path, Refused}
 use Rattle.as_path.specs.Segments.{numberBytes, numberAt, numbersAt, startsFrom, starts, segments}
 use Rattle.as_path.specs.Faults.{numbersFault, segmentFault, faultAmong, firstFault}
 use Rattle.as_path.specs.Grounds.{hasSet}
 use Rattle.as_path.specs.Merging.{numbersIn}
+use Rattle.as_path.specs.Reading.{merged, readingOf}
 use Rattle.as_path.specs.Laws.{Sequences}
 
 -- 20, then 20 10.
@@ -29,3 +33,7 @@ pub same-numbers :
     × (numbersIn (segments numberBytes in-three) ≡ 20 ∷ 20 ∷ 10 ∷ [])
 unfolding numberAt numbersAt startsFrom starts segments numbersIn
 same-numbers = (refl, refl, refl)
+
+-- 512 numbers are a path and 513 are not (P5): how many they are decides.
+pub up-to-512 : (readingOf (merged (replicate 512 20)) ≡ Path 512) × (readingOf (merged (replicate 513 20)) ≡ Refused PathLength)
+up-to-512 = (refl, refl)

@@ -17,7 +17,7 @@ ghost use Rattle.as_path.specs.Reading.{contentOf, readingOf, bufferAfte
 ghost use Rattle.as_path.specs.Helpers.{Stored, lastAfter};
 
 // The most numbers of a merged path.
-pub const MOST_NUMBERS: usize = 64;
+pub const MOST_NUMBERS: usize = 512;
 
 // The width of a number, in bytes.
 const NUMBER_BYTES: usize = 4;

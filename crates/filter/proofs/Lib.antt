@@ -7,3 +7,4 @@ pub mod Tables
 pub mod Answers
 pub mod Places
 pub mod Laws
+pub mod Gaps

@@ -1,15 +1,18 @@
 -- The test vectors A to L and O of the rules again, now of Judge over the words that the six filings of register D leave. By computation.
+-- The widest gaps.
 use Prim.Native.Nat.{ℕ, _-_}
 use mathlib.Core.Path.{_≡_, refl, _∙_, ap}
 use mathlib.Core.List.{List, [], _∷_, _++_, map}
 use mathlib.Core.Option.{none}
+use lib.IntN.{pos, negsuc}
 use lib.ListN.{length, replicate}
+use Rattle.types.specs.declared.Verdict.the-variants.{Valid, Unknown}
 use Rattle.types.specs.declared.Judged.{Judged}
 use Rattle.types.specs.Rows.{firstGiven}
 use Rattle.rules.specs.Records.{Record, isIn, hopOf}
 use Rattle.rules.specs.Judging.{unlessGiven, judgedRoute}
 use Rattle.rules.specs.Vectors as rules
-use Rattle.rules.specs.Vectors.{registerD, sequence, Vector, vectors, wanted, sequences, CutVector, cutVectors, wantedCut}
+use Rattle.rules.specs.Vectors.{registerD, sequence, Vector, gapped, vectors, wanted, sequences, CutVector, cutVectors, wantedCut, pairsThen}
 use Rattle.table.specs.Table.{slots, bodies, pad, encode, decodeSlots, decode, slotsOk, allZero, wellFormed}
 use Rattle.keyed.specs.Keyed.{ascendsFrom, ascends, holds, put, every}
 use Rattle.register.specs.Register.{registerWords, recordsOf, registerOf, listed, risesFrom, rises, listOk, recordOk, roomFor, recordsOk, registerOk}
@@ -17,7 +20,7 @@ use Rattle.register.specs.Calls.{fileEffect}
 use Rattle.filter.specs.Calls.{registerRows, judgeAnswer}
 
 -- The words that a filing of source 0 leaves.
-abbrev filed : ℕ → List ℕ → List ℕ → List ℕ
+abbrev pub filed : ℕ → List ℕ → List ℕ → List ℕ
 filed customer providers ws = fileEffect ws 0 customer providers .words
 
 -- The six filings of register D, from all zeros.
@@ -31,7 +34,7 @@ wordsD =
     (filed 10 (20 ∷ 30 ∷ []) (replicate registerWords 0))))))
 
 -- Words, and zeros to the register's end.
-abbrev filled : List ℕ → List ℕ
+abbrev pub filled : List ℕ → List ℕ
 filled ws = ws ++ replicate (registerWords - length ws) 0
 
 -- The words after each: the two counts, a row for each customer, the lists, and zeros.
@@ -138,3 +141,14 @@ all-cut-over-d (v ∷ vs) = λ i. over-d (v .role) (v .neighbour) (sequences (v 
 
 pub starred-cut : map givenCut cutVectors ≡ map wantedCut cutVectors
 starred-cut = all-cut-over-d cutVectors ∙ rules.starred-cut
+
+-- ---- the widest gaps (P5)
+
+-- Two filings, by which 20 and 30 list each other.
+abbrev pub each-other : List ℕ
+each-other = filed 30 (20 ∷ []) (filed 20 (30 ∷ []) (replicate registerWords 0))
+
+-- Of a path of 512 numbers, 20 and 30 in turn: over an empty register, and over those two records. proofs/Gaps.antt has the proof.
+pub record WidestGaps : Type 0 where
+  pub widest : judgeAnswer (replicate registerWords 0) 3 20 (pairsThen []) ≡ gapped (Unknown 1 512) (pos 511)
+  pub narrowest : judgeAnswer each-other 3 20 (pairsThen []) ≡ gapped Valid (negsuc 510)

@@ -29,7 +29,7 @@ ghost use Rattle.filter.specs.Calls.{hopIn, judgeAnswer, keeping, keepEf
 ghost use Rattle.filter.specs.Helpers.{knownFrom, storedEffect, Ready};
 
 // The most bytes of an attribute.
-pub const MOST_BYTES: usize = 1024;
+pub const MOST_BYTES: usize = 4096;
 
 // A role that is known, after rows 9, 10 and 11.
 pub enum Known {

@@ -29,6 +29,7 @@ use Rattle.history.proofs.Simulating.{blank-formed, blank-empty, histor
 use Rattle.history.proofs.FiledLists.{filed-list}
 use Rattle.history.proofs.Theorems.{demand2}
 use Rattle.history.proofs.Reordered.{itself, chain, back, swap, rejudge-anywhere, clearing-stays, dropping-stays}
+use Rattle.history.proofs.FullLedgers.{sixteen-fill, one-number-more, ground-fits}
 use Rattle.history.proofs.Scans.{filed-is-last, kept-is-last}
 
 -- ---- two sources
@@ -199,4 +200,7 @@ sanity = record {
   room-is-made = made;
   room-is-missing = history-replies blank blank-formed room-missing 32 ∙ missing;
   room-differs = differs;
+  sixteen-fill = sixteen-fill;
+  one-number-more = one-number-more;
+  ground-fits = ground-fits;
 }

@@ -9,6 +9,7 @@ pub mod Entries
 pub mod Theorems
 pub mod Reordered
 pub mod Scans
+pub mod FullLedgers
 pub mod Examples
 pub mod Refused
 pub mod NewStarts

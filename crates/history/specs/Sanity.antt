@@ -5,13 +5,14 @@ use mathlib.Core.Bool.{true}
 use mathlib.Core.List.{List, [], _∷_, _++_}
 use mathlib.Core.Logic.{_↔_}
 use mathlib.Core.Option.{some, Option·map}
-use lib.ListN.{replicate}
-use Rattle.types.specs.declared.Refusal.the-variants.{SourceNumber, ProviderList, NoRecord, RegisterFull, RouteTaken, NoRoute}
+use lib.ListN.{take, replicate}
+use Rattle.types.specs.declared.Refusal.the-variants.{SourceNumber, ProviderList, NoRecord, RegisterFull, RouteTaken, NoRoute, RoutesFull}
+use Rattle.rules.specs.Vectors.{sequence, pairsThen}
 use Rattle.register.specs.Register.{registerWords, mostProviders, recordsOf}
 use Rattle.ledger.specs.Routes.{routesOf}
 use Rattle.filter.specs.Calls.{Keeping, keeping}
 use Rattle.history.specs.Calls.{Call, file, withdraw, clear, keep, drop, rejudge, Tables, Formed, scope, blank, callAt, scopeAt, said, last, KeptRoute, routeRead, findRecord, findRoute, providersOf, known}
-use Rattle.history.specs.Replies.{replaced, gone, refused, shown, accepted}
+use Rattle.history.specs.Replies.{replaced, done, gone, refused, shown, accepted}
 use Rattle.history.specs.Filings.{filedList, keptRouteAt}
 use Rattle.history.specs.Reorderings.{OnPair, Clears, OnRoute, Tied, IsRegisterStep, Reordering}
 use Rattle.history.specs.Demands.{Roomy}
@@ -84,6 +85,18 @@ not-for-room =
     ∷ clear 8 ∷ file 0 65010 [] ∷ withdraw 0 65010 ∷ drop 5
     ∷ keep empty-path ∷ keep empty-path ∷ []
 
+-- Route i with a path of the most numbers, 20 and 30 in turn; n of them from route x on.
+abbrev pub longest : ℕ → Keeping
+longest i = keeping i 3 20 (pairsThen [])
+
+unfoldable pub longests : ℕ → ℕ → List Call
+longests x zero = []
+longests x (suc n) = keep (longest x) ∷ longests (suc x) n
+
+-- Sixteen of them, and then one with another attribute.
+abbrev pub sixteen-and : List ℕ → List Call
+sixteen-and attribute = longests 0 16 ++ (keep (keeping 16 3 20 attribute) ∷ [])
+
 pub record Sanity : Type 0 where
   -- Empty tables are a start, and hold nothing.
   pub blank-formed : Formed blank
@@ -135,3 +148,7 @@ pub record Sanity : Type 0 where
   pub room-is-made : Roomy blank room-made
   pub room-is-missing : shown (said blank room-missing 32) ≡ refused RegisterFull
   pub room-differs : last blank room-made .register ≡ last blank room-missing .register → ⊥
+  -- Sixteen paths of 512 numbers fill the ledger (P5): there is no room for one number more, but for a route with a ground there is.
+  pub sixteen-fill : take 2 (last blank (longests 0 16) .ledger) ≡ 16 ∷ 8192 ∷ []
+  pub one-number-more : shown (said blank (sixteen-and (sequence (20 ∷ []))) 16) ≡ refused RoutesFull
+  pub ground-fits : shown (said blank (sixteen-and []) 16) ≡ done

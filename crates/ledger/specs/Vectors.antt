@@ -1,5 +1,5 @@
--- Paths in a ledger, by computation: two equal numbers side by side in one path, and in two.
-use Prim.Native.Nat.{ℕ, _-_}
+-- Paths in a ledger, by computation: two equal numbers side by side in one path, and in two; the most numbers and places.
+use Prim.Native.Nat.{ℕ, zero, suc, _-_}
 use mathlib.Core.Path.{_≡_, refl}
 use mathlib.Core.Bool.{true, false}
 use mathlib.Core.List.{List, [], _∷_, _++_}
@@ -41,3 +41,29 @@ pub end-and-start :
     ≡ true
 unfolding bodies decodeSlots decode slotsOk allZero wellFormed ascendsFrom ascends every routesOf pathWords noZero noRepeat noRuns pathOk routeOk roomFor routesOk ledgerOk
 end-and-start = refl
+
+-- ---- the most numbers and places (P5)
+
+-- Route 7 from provider 20, Unknown, with two places and a path.
+abbrev pub unknown : ℕ → ℕ → List ℕ → List ℕ
+unknown a b path = filled ((1 ∷ length path ∷ 7 ∷ 3 ∷ 20 ∷ 0 ∷ 2 ∷ a ∷ b ∷ 0 ∷ length path ∷ []) ++ path)
+
+-- n times 20 and 30.
+unfoldable pub pairs : ℕ → List ℕ
+pairs zero = []
+pairs (suc n) = 20 ∷ 30 ∷ pairs n
+
+-- Places up to 512, whatever the path, and no further;
+pub places-up-to :
+    (ledgerOk (unknown 512 512 (20 ∷ [])) ≡ true)
+    × (ledgerOk (unknown 513 512 (20 ∷ [])) ≡ false)
+    × (ledgerOk (unknown 512 513 (20 ∷ [])) ≡ false)
+unfolding bodies decodeSlots decode slotsOk allZero wellFormed ascendsFrom ascends every routesOf pathWords noZero noRepeat noRuns pathOk routeOk roomFor routesOk ledgerOk
+places-up-to = (refl, refl, refl)
+
+-- so with the numbers of a path.
+pub numbers-up-to :
+    (ledgerOk (unknown 1 2 (pairs 256)) ≡ true)
+    × (ledgerOk (unknown 1 2 (pairs 256 ++ (20 ∷ []))) ≡ false)
+unfolding pairs bodies decodeSlots decode slotsOk allZero wellFormed ascendsFrom ascends every routesOf pathWords noZero noRepeat noRuns pathOk routeOk roomFor routesOk ledgerOk
+numbers-up-to = (refl, refl)

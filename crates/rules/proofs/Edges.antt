@@ -21,7 +21,7 @@ use Rattle.rules.specs.Hops.{HopFunction, lowest, highest, climb, descen
 use Rattle.rules.specs.Records.{isIn, attested, united, hopOf}
 use Rattle.rules.specs.Verdicts.{upstream, downstream, judged}
 use Rattle.rules.specs.Judging.{mostBytes, answerTo, judgedRoute}
-use Rattle.rules.specs.Vectors.{bytes, sequence, repeated, pair, pairsThen, two, longestThen, judgedEmpty, Edges}
+use Rattle.rules.specs.Vectors.{bytes, sequence, repeated, pair, pairsThen, two, longestThen, full, full-next, fullThen, judgedEmpty, Edges}
 use Rattle.rules.proofs.Sequences.{Read, ones, none-read, read-then, sequence-read}
 
 pub length-repeated : (n : ℕ) (l : List ℕ) → length (repeated n l) ≡ n * length l
@@ -97,7 +97,7 @@ pub pairs-judged : (hop : HopFunction) (role : ℕ) (c : List ℕ) (cs : List Se
 pairs-judged hop role c cs r s e g h =
     answer-by hop role (pairsThen c) _ _ r (length-then (mostNumbers / 2) pair c) h (pairs-content role c cs s e g)
 
--- The same of the most bytes.
+-- The same of the most bytes,
 long-judged :
     judgedEmpty (longestThen []) ≡ answerTo (hopOf []) 1 (merged (mergeRuns (repeated (mostBytes / length two) (numbersIn (ones (20 ∷ []) ∷ ones (replicate 254 30) ∷ [])) ++ [])))
 unfolding hasSet numbersIn bytes isIn
@@ -105,6 +105,16 @@ long-judged =
     answer-by (hopOf []) 1 (longestThen []) _ _ refl (length-then (mostBytes / length two) two []) refl
     (repeated-content 1 (mostBytes / length two - 1) two (ones (20 ∷ [])) (ones (replicate 254 30) ∷ []) [] []
     (read-then (sequence (20 ∷ [])) (sequence (replicate 254 30)) _ _ (sequence-read 20 [] refl) (sequence-read 30 (replicate 253 30) refl)) refl refl none-read refl)
+
+-- and of full segments.
+full-judged : (x : ℕ) (l : List ℕ) → isIn 0 (x ∷ l) ≡ false → ltb mostBytes (length (fullThen (sequence (x ∷ l)))) ≡ false
+    → judgedEmpty (fullThen (sequence (x ∷ l))) ≡ answerTo (hopOf []) 1 (merged (mergeRuns (full ++ (full-next ++ (x ∷ l ++ [])))))
+unfolding hasSet numbersIn repeated isIn
+full-judged x l e h =
+    answer-by (hopOf []) 1 (fullThen (sequence (x ∷ l))) _ _ refl refl h
+    (read-content 1 (fullThen (sequence (x ∷ l))) (ones full) (ones full-next ∷ ones (x ∷ l) ∷ [])
+    (read-then (sequence full) (sequence full-next ++ sequence (x ∷ l)) _ _ (sequence-read 20 _ refl)
+    (read-then (sequence full-next) (sequence (x ∷ l)) _ _ (sequence-read 30 _ refl) (sequence-read x l e))) refl refl)
 
 pub edges : Edges
 unfolding bytes repeated judgedRoute firstGiven contentOf startsFrom starts segments segmentFault faultAmong firstFault hasSet groundOf numbersIn runsAfter mergeRuns mergedPath lowest highest climb descend isIn attested united hopOf upstream downstream judged
@@ -117,4 +127,6 @@ edges =
       one-repeat-more = pairs-judged (hopOf []) 1 (sequence (30 ∷ [])) _ refl refl (sequence-read 30 [] refl) refl refl ∙ refl;
       most-bytes = long-judged ∙ refl;
       one-byte-more = too-long (longestThen (2 ∷ [])) _ (length-then (mostBytes / length two) two (2 ∷ [])) refl;
+      full-segments = full-judged 20 (30 ∷ []) refl refl ∙ refl;
+      full-segments-more = full-judged 20 (30 ∷ 20 ∷ []) refl refl ∙ refl;
     }

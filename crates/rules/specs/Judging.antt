@@ -20,7 +20,7 @@ use Rattle.rules.specs.Verdicts.{judged}
 
 -- The most bytes of an attribute.
 abbrev pub mostBytes : ℕ
-mostBytes = 1024
+mostBytes = 4096
 
 -- Rows 9, 10 and 11.
 abbrev pub argumentRows : ℕ → ℕ → List ℕ → List (Option Refusal)

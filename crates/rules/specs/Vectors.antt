@@ -59,7 +59,7 @@ vector r n p a = record { role = r; neighbour = n; path = p; answer = a }
 abbrev pub plain : Verdict → Judged
 plain v = Answered (Plain v)
 
-abbrev gapped : Verdict → ℤ → Judged
+abbrev pub gapped : Verdict → ℤ → Judged
 gapped v g = Answered (WithGap v g)
 
 -- A to L: role, neighbour, path with its left end first, answer.
@@ -152,10 +152,20 @@ two = sequence (20 ∷ []) ++ sequence (replicate 254 30)
 abbrev pub longestThen : List ℕ → List ℕ
 longestThen rest = repeated (mostBytes / length two) two ++ rest
 
+-- Two segments of 255 numbers, the most that one holds, and what follows them: 20 and 30 in turn.
+abbrev pub full : List ℕ
+full = repeated 127 (20 ∷ 30 ∷ []) ++ (20 ∷ [])
+
+abbrev pub full-next : List ℕ
+full-next = 30 ∷ repeated 127 (20 ∷ 30 ∷ [])
+
+abbrev pub fullThen : List ℕ → List ℕ
+fullThen rest = sequence full ++ (sequence full-next ++ rest)
+
 abbrev pub judgedEmpty : List ℕ → Judged
 judgedEmpty attribute = judgedRoute (hopOf []) 1 20 attribute
 
--- Written from the limits; proofs/Edges.antt has the proof.
+-- Written from the limits, but for the last two; proofs/Edges.antt has the proof.
 pub record Edges : Type 0 where
   -- Nothing, and one byte.
   pub empty : judgedEmpty [] ≡ plain (Invalid (ByGround Empty))
@@ -168,3 +178,6 @@ pub record Edges : Type 0 where
   -- An attribute of the most bytes, and of one more.
   pub most-bytes : judgedEmpty (longestThen []) ≡ plain (Unknown 2 0)
   pub one-byte-more : judgedEmpty (longestThen (2 ∷ [])) ≡ Refused AttributeLength
+  -- 512 numbers in segments of 255, 255 and 2, and 513 (P5).
+  pub full-segments : judgedEmpty (fullThen (sequence (20 ∷ 30 ∷ []))) ≡ plain (Unknown 2 0)
+  pub full-segments-more : judgedEmpty (fullThen (sequence (20 ∷ 30 ∷ 20 ∷ []))) ≡ Refused PathLength

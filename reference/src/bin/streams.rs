@@ -3,14 +3,15 @@
 //! `streams recorded` writes crates/console/stdin, to which the second
 //! program's answers are crates/console/stdout.
 
-use reference::attributes::{hex, segment, sequences};
+use reference::attributes::{cut, hex, overlapping, segment, sequence, sequences, LONGEST_SEGMENT};
 use reference::console;
 use reference::random::Random;
-use reference::samples::{REGISTER_D, SEAMS};
+use reference::samples::{chain, doubled, spread, upto, REGISTER_D, SEAMS};
 use reference::snapshot::{self, number_at, parts, with, CONTENTS};
 use reference::words::{padded, Form};
 use reference::{
-    AsNumber, Model, Records, Routes, Table, GREATEST_SOURCE, LONGEST_ATTRIBUTE, MOST_BODY_WORDS,
+    AsNumber, Model, Records, Routes, Table, GREATEST_SOURCE, LONGEST_ATTRIBUTE, LONGEST_PATH,
+    MOST_BODY_WORDS,
 };
 use std::io::{self, BufWriter, Write};
 use std::process::ExitCode;
@@ -42,12 +43,6 @@ fn main() -> ExitCode {
 fn usage() -> ExitCode {
     eprintln!("usage: streams SEED COUNT | streams vectors | streams recorded");
     ExitCode::from(2)
-}
-
-// Attributes
-
-fn sequence(numbers: &[u32]) -> Vec<u8> {
-    segment(2, numbers)
 }
 
 fn numbers(list: &[u32]) -> String {
@@ -163,6 +158,26 @@ fn seam_pokes(words: &[u32]) -> Vec<(usize, u32)> {
     pokes
 }
 
+/// What gives a path's first number to the path before it, all rules but the longest
+/// path's being kept: only a route server's path may begin with any number.
+fn seam_moves(words: &[u32]) -> Vec<[(usize, u32); 3]> {
+    if !well_formed::<Routes>(words) {
+        return Vec::new();
+    }
+    let count = words[0] as usize;
+    let entries: Vec<&[u32]> = words[2..].chunks(Routes::ENTRY).take(count).collect();
+    let mut moves = Vec::new();
+    for (nth, pair) in entries.windows(2).enumerate() {
+        let ([.., before], [_, role, .., start, length]) = (pair[0], pair[1]) else { continue };
+        let seam = 2 + Routes::ENTRY * count + *start as usize;
+        if *before > 0 && *role == 4 && *length > 1 && words[seam - 1] != words[seam] {
+            let next = 2 + Routes::ENTRY * (nth + 1);
+            moves.push([(next - 1, before + 1), (next + 7, start + 1), (next + 8, length - 1)]);
+        }
+    }
+    moves
+}
+
 // Snapshots
 
 /// The file of well-formed tables.
@@ -225,12 +240,14 @@ impl<W: FnMut(&str, &str) -> io::Result<()>> Stream<W> {
             Self::long_lists,
             Self::many_routes,
             Self::long_paths,
+            Self::longest_paths,
             Self::look_ups,
             Self::lines_that_are_no_commands,
             Self::untrue_verdicts,
             Self::single_words,
             Self::single_words,
         ];
+        phases.extend([Self::long_ramps as Phase<Self>; 3]);
         phases.extend([Self::snapshots as Phase<Self>; 5]);
         phases.extend([Self::ordinary as Phase<Self>; 12]);
         for damage in [
@@ -428,9 +445,14 @@ impl<W: FnMut(&str, &str) -> io::Result<()>> Stream<W> {
 
     /// A path without neighbouring equals, so that nothing in it merges.
     fn distinct_neighbours(&mut self, length: usize) -> Vec<u32> {
+        self.distinct_neighbours_of(length, 14)
+    }
+
+    /// The same, of the numbers from 1 to `last`.
+    fn distinct_neighbours_of(&mut self, length: usize, last: usize) -> Vec<u32> {
         let mut path: Vec<u32> = Vec::new();
         while path.len() < length {
-            let number = self.random.between(1, 14) as u32;
+            let number = self.random.between(1, last) as u32;
             if path.last() != Some(&number) {
                 path.push(number);
             }
@@ -438,16 +460,28 @@ impl<W: FnMut(&str, &str) -> io::Result<()>> Stream<W> {
         path
     }
 
+    /// A path's length, near 64 or near what a segment or a path holds at most.
+    fn long(&mut self) -> usize {
+        let near = self.random.pick(&[64, LONGEST_SEGMENT + 1, LONGEST_PATH, LONGEST_PATH]);
+        near + self.random.pick(&[0, 1, 2, 2, 2, 3]) - 2
+    }
+
     /// Cuts a path into segments, some of its numbers repeated. A run may go on
-    /// over boundaries, and fill segments of its own.
+    /// over boundaries, and fill segments of its own. In most long paths no number
+    /// is repeated and few segments end before they are full.
     fn segments(&mut self, path: &[u32]) -> Vec<(u8, Vec<u32>)> {
+        let mut times = &[1, 1, 1, 1, 1, 1, 2, 2, 3, 4][..];
+        let mut cuts = [12, 40];
+        if path.len() >= 100 && self.random.percent(60) {
+            times = &[1];
+            cuts[0] = self.random.below(2);
+        }
         let mut parts: Vec<Vec<u32>> = Vec::new();
         for number in path {
-            let times = self.random.pick(&[1, 1, 1, 1, 1, 1, 2, 2, 3, 4]);
-            for nth in 0..times {
-                let cut = if nth == 0 { 12 } else { 40 };
+            for nth in 0..self.random.pick(times) {
+                let cut = self.random.percent(cuts[usize::from(nth > 0)]);
                 match parts.last_mut() {
-                    Some(part) if !self.random.percent(cut) => part.push(*number),
+                    Some(part) if part.len() < LONGEST_SEGMENT && !cut => part.push(*number),
                     _ => parts.push(vec![*number]),
                 }
             }
@@ -455,7 +489,7 @@ impl<W: FnMut(&str, &str) -> io::Result<()>> Stream<W> {
         parts.into_iter().map(|part| (2, part)).collect()
     }
 
-    /// A path in one sequence or in several.
+    /// A path in as few sequences as hold it or in more.
     fn sequences(&mut self, path: &[u32]) -> Vec<u8> {
         if self.random.percent(50) {
             return sequence(path);
@@ -463,24 +497,30 @@ impl<W: FnMut(&str, &str) -> io::Result<()>> Stream<W> {
         self.segments(path).iter().flat_map(|(kind, numbers)| segment(*kind, numbers)).collect()
     }
 
-    /// 1,024 bytes of long runs, cut anywhere, and the number that stands first.
+    /// So many sizes of segments for `count` numbers.
+    fn sizes(&mut self, segments: usize, count: usize) -> Vec<usize> {
+        let mut sizes = vec![1; segments];
+        let mut left = count - segments;
+        while left > 0 {
+            let size = &mut sizes[self.random.below(segments)];
+            let more = self.random.between(1, left).min(LONGEST_SEGMENT - *size);
+            *size += more;
+            left -= more;
+        }
+        sizes
+    }
+
+    /// 4,096 bytes of long runs, cut anywhere, and the number that stands first.
     fn longest_attribute(&mut self) -> (u32, Vec<u8>) {
         // 2 bytes for each segment and 4 for each number
-        let segments = self.random.pick(&[2, 2, 4, 6, 20, 100, 170]);
+        let segments = self.random.pick(&[6, 6, 8, 20, 100, 256, 682]);
         let count = (LONGEST_ATTRIBUTE - 2 * segments) / 4;
-        let length = self.random.pick(&[1, 1, 2, 3, 63, 64, 65]);
+        let length = self.random.pick(&[1, 2, 3, 64, 511, 512, 512, 513]);
         let path = self.distinct_neighbours(length);
-        let numbers: Vec<u32> = (0..count).map(|i| path[i * length / count]).collect();
-        let mut cuts = vec![0, count];
-        while cuts.len() <= segments {
-            let cut = self.random.between(1, count - 1);
-            if !cuts.contains(&cut) {
-                cuts.push(cut);
-            }
-        }
-        cuts.sort_unstable();
-        let parts: Vec<&[u32]> = cuts.windows(2).map(|cut| &numbers[cut[0]..cut[1]]).collect();
-        (path[0], sequences(&parts))
+        let numbers: Vec<u32> =
+            spread(length, count).into_iter().map(|nth| path[nth as usize - 1]).collect();
+        let sizes = self.sizes(segments, count);
+        (path[0], sequences(&cut(&numbers, &sizes)))
     }
 
     /// An attribute and the number that stands first in it, or any.
@@ -488,14 +528,14 @@ impl<W: FnMut(&str, &str) -> io::Result<()>> Stream<W> {
         let path = match self.random.below(100) {
             0..=89 => self.path(),
             90..=93 => {
-                let length = self.random.pick(&[63, 64, 65]);
+                let length = self.long();
                 self.distinct_neighbours(length)
             }
             94 => vec![self.number(); 200],
             _ => self.distinct_neighbours(20),
         };
         let mut first = path[0];
-        let mut segments = if path.len() < 100 { self.segments(&path) } else { vec![(2, path)] };
+        let mut segments = self.segments(&path);
         // Changes to the segments, then to the bytes: most of them faults
         let at = self.random.below(segments.len() + 1);
         let one = vec![self.number(), self.number()];
@@ -526,7 +566,7 @@ impl<W: FnMut(&str, &str) -> io::Result<()>> Stream<W> {
             10 => bytes = vec![self.random.pick(&[0, 1, 2, 3, 4, 5])],
             11 | 12 => bytes.clear(),
             13 => bytes = (0..self.random.below(40)).map(|_| self.random.below(6) as u8).collect(),
-            14..=16 => {
+            14 | 15 => {
                 (first, bytes) = self.longest_attribute();
                 match self.random.below(6) {
                     0 | 1 => bytes.push(2),
@@ -534,7 +574,7 @@ impl<W: FnMut(&str, &str) -> io::Result<()>> Stream<W> {
                     _ => {}
                 }
             }
-            17 if self.random.percent(20) => bytes = vec![2; LONGEST_ATTRIBUTE * 2],
+            16 if self.random.percent(10) => bytes = vec![2; LONGEST_ATTRIBUTE * 2],
             _ => {}
         }
         (first, bytes)
@@ -549,7 +589,7 @@ impl<W: FnMut(&str, &str) -> io::Result<()>> Stream<W> {
         if self.random.percent(4) {
             role = self.random.pick(&[role, 0, 7]);
             neighbour = self.random.pick(&[neighbour, 0]);
-            if self.random.percent(40) {
+            if self.random.percent(25) {
                 bytes.resize(LONGEST_ATTRIBUTE + 1, 0);
             }
         }
@@ -594,7 +634,8 @@ impl<W: FnMut(&str, &str) -> io::Result<()>> Stream<W> {
     }
 
     fn clear(&mut self) {
-        let source = self.source();
+        // Few of the calls are this one, and only a source can be wrong with it.
+        let source = if self.random.percent(10) { 8 } else { self.source() };
         self.say(&format!("clear {source}"));
     }
 
@@ -710,7 +751,7 @@ impl<W: FnMut(&str, &str) -> io::Result<()>> Stream<W> {
             11..=15 if length >= 28 => {
                 let index = self.random.between(5, length / 4 - 1);
                 let old = number_at(&file, index);
-                let edges = [0, 1, 2, 3, 4, 7, 8, 64, 65, u32::MAX, 1 << 28, 1 << 30];
+                let edges = [0, 1, 2, 3, 4, 7, 8, 65, 512, 513, u32::MAX, 1 << 28, 1 << 30];
                 let number = match self.random.below(6) {
                     0..=2 => old.wrapping_add(1),
                     3 => old.wrapping_sub(1),
@@ -925,22 +966,36 @@ impl<W: FnMut(&str, &str) -> io::Result<()>> Stream<W> {
         self.fewer_routes();
     }
 
-    /// Up to 8,192 numbers in paths, then at the limit.
+    fn longest_paths(&mut self) {
+        self.paths_of(&[LONGEST_PATH]);
+    }
+
     fn long_paths(&mut self) {
+        let all_kinds = &[1, 64, 255, 256, 511, 512];
+        let lengths = self.random.pick(&[&[63, 64, 65][..], &[510, 511, 512], all_kinds]);
+        self.paths_of(lengths);
+    }
+
+    /// Up to 8,192 numbers in paths of such lengths, the least of which is the first; then
+    /// at the limit.
+    fn paths_of(&mut self, lengths: &[usize]) {
         self.fewer_routes();
-        for route in 1_000..1_130 {
-            let length = if self.random.percent(95) { 64 } else { 63 };
-            let path = self.distinct_neighbours(length);
-            let (role, bytes) = (self.random.between(1, 6), self.sequences(&path));
+        let mut route = 1_000;
+        while self.left > 0 && self.path_room() >= lengths[0] {
+            let length = self.random.pick(lengths).min(self.path_room());
+            let (role, path) = (self.random.between(1, 6), self.distinct_neighbours(length));
+            let bytes = self.sequences(&path);
             self.say(&format!("keep {route} {role} {} {}", path[0], hex(&bytes)));
+            route += 1;
         }
         for _ in 0..30 {
             let route = self.random.between(1_000, 1_200);
             // also what just fits, and one more
-            let room = self.path_room().min(64);
-            let length = self.random.pick(&[0, 1, 2, 63, 64, 65, room, room + 1, room + 1]);
+            let room = self.path_room().min(LONGEST_PATH);
+            let longest = self.random.pick(&[1, 64, LONGEST_PATH, LONGEST_PATH + 1]);
+            let length = self.random.pick(&[0, 1, 2, longest, room, room + 1, room + 1]);
             let path = self.distinct_neighbours(length);
-            let bytes = if path.is_empty() { Vec::new() } else { self.sequences(&path) };
+            let bytes = self.sequences(&path);
             let neighbour = path.first().copied().unwrap_or(9);
             self.say(&format!("keep {route} 3 {neighbour} {}", hex(&bytes)));
             if self.random.percent(20) {
@@ -954,7 +1009,50 @@ impl<W: FnMut(&str, &str) -> io::Result<()>> Stream<W> {
         }
         self.long_snapshot();
         self.one_rule_and_back(LEDGER);
+        self.seam_and_back();
         self.fewer_routes();
+    }
+
+    /// Long paths over numbers most of which list each other, so that places and gaps
+    /// lie anywhere.
+    fn long_ramps(&mut self) {
+        self.say("empty");
+        for customer in 1..=12 {
+            self.say(&format!("file 0 {customer}{}", numbers(&run_without(customer, 1, 15))));
+        }
+        self.say("file 0 15 0");
+        self.say("file 0 16 1 2 3 4 5 6");
+        for route in 0..10 {
+            let path = self.ramps();
+            let (role, bytes) =
+                (self.random.pick(&[1, 2, 3, 3, 4, 5, 6, 6]), self.sequences(&path));
+            let call = self.random.pick(&["judge".to_string(), format!("keep {route}")]);
+            self.say(&format!("{call} {role} {} {}", path[0], hex(&bytes)));
+        }
+        for change in ["withdraw 0 15", "file 0 13 7 8 9", "file 0 14 0"] {
+            self.say("rejudge");
+            self.say(change);
+        }
+        self.say("rejudge");
+        self.show(LEDGER);
+        self.long_snapshot();
+        self.one_rule_and_back(LEDGER);
+        self.fewer_routes();
+    }
+
+    /// Hops are Provider+ but for those from a few numbers, most of which are near an end:
+    /// 13 and 14 have no record, 15 lists nobody, and 16 half of the others, so that it
+    /// may stop one ramp alone.
+    fn ramps(&mut self) -> Vec<u32> {
+        let length = self.long();
+        let mut path = self.distinct_neighbours_of(length, 12);
+        for _ in 0..self.random.pick(&[0, 1, 1, 1, 2, 2, 3]) {
+            let from_an_end = self.random.pick(&[0, 1, 1, 2]);
+            let anywhere = self.random.below(length);
+            let at = self.random.pick(&[from_an_end, length - 1 - from_an_end, anywhere]);
+            path[at] = self.random.pick(&[13, 14, 15, 16, 16, 16]);
+        }
+        path
     }
 
     /// A table of about a power of two entries, looked up at some of them and
@@ -1052,7 +1150,8 @@ impl<W: FnMut(&str, &str) -> io::Result<()>> Stream<W> {
     }
 
     fn fewer_routes(&mut self) {
-        if self.random.percent(50) {
+        // In words left by a poke no route is found.
+        if self.random.percent(50) || matches!(self.model.ledger, Table::Words(_)) {
             self.say("empty");
             return;
         }
@@ -1210,6 +1309,22 @@ impl<W: FnMut(&str, &str) -> io::Result<()>> Stream<W> {
         self.look_at(table);
     }
 
+    fn seam_and_back(&mut self) {
+        let words = self.words(LEDGER);
+        let moves = seam_moves(&words);
+        if moves.is_empty() {
+            return;
+        }
+        let there = self.random.pick(&moves);
+        let back = there.map(|(index, _)| (index, words[index]));
+        for pokes in [there, back] {
+            for (index, value) in pokes {
+                self.say(&format!("poke ledger {index} {value}"));
+            }
+            self.look_at(LEDGER);
+        }
+    }
+
     /// One word at a time, near its own bounds, looked at and put back.
     fn single_words(&mut self) {
         for _ in 0..8 {
@@ -1259,8 +1374,7 @@ impl<W: FnMut(&str, &str) -> io::Result<()>> Stream<W> {
             (LEDGER, 1) => &[0, 1, 3, 4, 6, 7],
             (LEDGER, 3) => &[0, 1, 2, 3, 4],
             (LEDGER, 4) => &[0, 1, 2, 3],
-            (LEDGER, 5 | 6) => &[0, 1, 64, 65],
-            (LEDGER, 8) => &[0, 1, 64, 65],
+            (LEDGER, 5 | 6 | 8) => &[0, 1, 65, 512, 513, 513],
             _ => &[0, 1],
         };
         let bound = self.random.pick(bounds);
@@ -1278,7 +1392,8 @@ impl<W: FnMut(&str, &str) -> io::Result<()>> Stream<W> {
         for _ in 0..self.random.below(8) {
             if entries > 0 {
                 let first = 2 + 9 * self.random.below(entries);
-                let (word, most) = self.random.pick(&[(4, 2), (5, 64), (6, 64)]);
+                let (word, most) =
+                    self.random.pick(&[(4, 2), (5, LONGEST_PATH), (6, LONGEST_PATH)]);
                 let value = self.random.between(0, most);
                 // An entry with a ground allows no other.
                 let words = self.model.ledger.words();
@@ -1407,6 +1522,17 @@ fn vectors() -> Vec<String> {
     lines.say("empty");
     attributes(&mut lines);
     lines.say("empty");
+    path_lengths(&mut lines);
+    lines.say("empty");
+    full_segments(&mut lines);
+    lines.say("empty");
+    longest_attributes(&mut lines);
+    last_faults(&mut lines);
+    lines.say("empty");
+    widest_gaps(&mut lines);
+    lines.say("empty");
+    places_of_stops(&mut lines);
+    lines.say("empty");
     runs_over_boundaries(&mut lines);
     lines.say("empty");
     long_runs(&mut lines);
@@ -1431,7 +1557,13 @@ fn vectors() -> Vec<String> {
     lines.say("empty");
     equal_neighbours_at_each_index(&mut lines);
     lines.say("empty");
+    places_and_counts(&mut lines);
+    lines.say("empty");
     room(&mut lines);
+    for length in [64, 512] {
+        lines.say("empty");
+        full_of_paths(&mut lines, length);
+    }
     lines.say("empty");
     look_ups(&mut lines);
     lines.say("empty");
@@ -1467,12 +1599,6 @@ impl Lines {
 
     fn keep(&mut self, route: u32, role: u32, neighbour: u32, attribute: &[u8]) {
         self.0.push(format!("keep {route} {role} {neighbour} {}", hex(attribute)));
-    }
-
-    /// One sequence, or for no number the empty attribute.
-    fn keep_path(&mut self, route: u32, role: u32, neighbour: u32, path: &[u32]) {
-        let attribute = if path.is_empty() { Vec::new() } else { sequence(path) };
-        self.keep(route, role, neighbour, &attribute);
     }
 
     fn write(&mut self, capacity: usize) {
@@ -1589,52 +1715,233 @@ fn attributes(lines: &mut Lines) {
     lines.judge(1, 20, &sequence(&[20]));
     lines.judge(3, 20, &sequence(&[20, 20]));
     lines.judge(6, 4_294_967_295, &sequence(&[4_294_967_295]));
-    // 64 merged numbers, 65, and 65 with a ground
-    let upto = |n: u32| (1..=n).collect::<Vec<u32>>();
-    let twice: Vec<u32> = upto(64).iter().flat_map(|n| [*n, *n]).collect();
-    for role in [1, 3, 4] {
-        lines.judge(role, 1, &sequence(&upto(64)));
-        lines.judge(role, 1, &sequence(&upto(65)));
-        lines.judge(role, 2, &sequence(&upto(65)));
-        lines.judge(role, 1, &sequence(&twice));
-        lines.judge(role, 1, &sequences(&[&twice, &[64]]));
-        lines.judge(role, 1, &sequences(&[&twice, &[63]]));
-        lines.judge(role, 1, &[sequence(&upto(65)), segment(1, &[1])].concat());
+}
+
+/// Paths about as long as they may be, and about as long as they once might. In an empty
+/// register the answer to role 3 tells how many numbers are left.
+fn path_lengths(lines: &mut Lines) {
+    for length in [63, 64, 65, 254, 255, 256, 257, 510, 511, 512, 513] {
+        for role in 1..=6 {
+            lines.judge(role, 1, &sequence(&upto(length)));
+        }
     }
-    lines.keep(65, 1, 2, &sequence(&upto(65)));
-    lines.keep(66, 1, 1, &sequence(&upto(65)));
+    // not the neighbour; a set behind
+    for length in [65, 512, 513] {
+        let path = sequence(&upto(length));
+        let with_set = [path.clone(), segment(1, &[1])].concat();
+        for role in 1..=6 {
+            lines.judge(role, 2, &path);
+            lines.judge(role, 1, &with_set);
+        }
+    }
+    // 1,020 numbers, 512 of them left; then the last one again, and another
+    let twice = sequence(&doubled(512, 508));
+    for role in [1, 3, 4] {
+        for behind in [&[][..], &[512], &[511]] {
+            lines.judge(role, 1, &[twice.clone(), sequence(behind)].concat());
+        }
+    }
+    for (route, role, neighbour, length) in
+        [(1, 1, 2, 513), (2, 1, 1, 513), (3, 3, 1, 512), (4, 4, 9, 511), (5, 4, 9, 513)]
+    {
+        lines.keep(route, role, neighbour, &sequence(&upto(length)));
+    }
     lines.say("ledger");
-    // 1,024 bytes of one number or of two, 1,025
+}
+
+/// 512 numbers and 513 in segments of many sizes, and segments of 255, the most that a count
+/// tells of.
+fn full_segments(lines: &mut Lines) {
+    for last in [512, 513] {
+        let path = upto(last);
+        for sizes in [
+            &[255, 255][..],
+            &[2, 255, 255],
+            &[255, 2, 255],
+            &[1, 255, 255],
+            &[254, 255],
+            &[1; 512],
+            &[2; 256],
+            &[128; 4],
+        ] {
+            lines.judge(3, 1, &sequences(&cut(&path, sizes)));
+        }
+        // a run over the end of each: a last number again at the start of the next
+        for step in [2, 3, 253, 254] {
+            lines.judge(3, 1, &overlapping(last, step));
+        }
+    }
+    // one run alone, and with another number before it or behind
+    let equal = [7; 255];
+    for parts in [
+        &[&equal[..]][..],
+        &[&equal[..]; 4],
+        &[&equal, &[8]],
+        &[&equal, &[7, 8], &equal],
+        &[&equal[1..], &[8], &equal],
+        &[&[7, 8], &equal],
+    ] {
+        lines.judge(3, 7, &sequences(parts));
+        lines.judge(1, 7, &sequences(parts));
+    }
+    // of all types: alone, behind a sequence, before one
+    let full = sequence(&upto(255));
+    for kind in [0, 1, 3, 4, 5] {
+        let other = segment(kind, &upto(255));
+        for parts in [&[&other[..]][..], &[&full, &other], &[&other, &full]] {
+            for role in [1, 4] {
+                lines.judge(role, 1, &parts.concat());
+            }
+        }
+        lines.keep(u32::from(kind), 3, 1, &[full.clone(), other].concat());
+    }
+    // cut short; then a byte that is another, in the header or at the end
+    for length in [1, 2, 3, 1_018, 1_021] {
+        lines.judge(1, 1, &full[..length]);
+        lines.judge(1, 1, &[&full, &full[..length]].concat());
+    }
+    for (at, value) in [(1, 254), (1, 0), (0, 1), (1_021, 0), (1_020, 1)] {
+        let mut other = full.clone();
+        other[at] = value;
+        lines.judge(1, 1, &other);
+        lines.judge(4, 9, &[full.clone(), other].concat());
+    }
+    lines.say("ledger");
+}
+
+/// Attributes of 4,096 bytes, and of a byte more. The first are 1,021 numbers in six segments,
+/// of which so many are left.
+fn longest_attributes(lines: &mut Lines) {
+    for left in [1, 2, 511, 512, 513] {
+        let numbers = spread(left, 1_021);
+        for sizes in [[170; 5], [1, 1, 254, 255, 255]] {
+            lines.judge(3, 1, &sequences(&cut(&numbers, &sizes)));
+        }
+        let most = sequences(&cut(&numbers, &[255, 255, 255, 254, 1]));
+        for (role, neighbour) in [(3, 1), (1, 1), (4, 9)] {
+            lines.judge(role, neighbour, &most);
+        }
+        lines.keep(left as u32, 6, 1, &most);
+        lines.judge(3, 1, &[most, vec![2]].concat());
+    }
+    lines.say("ledger");
+    // with a ground, which the byte more hides
+    let mut most = sequences(&cut(&[1; 1_021], &[255, 255, 255, 254, 1]));
+    for (neighbour, kind) in [(2, 2), (1, 1)] {
+        most[0] = kind;
+        lines.judge(1, neighbour, &most);
+        lines.judge(1, neighbour, &[&most[..], &[0]].concat());
+    }
+    // as many segments as there is room for
+    for left in [1, 512, 513, 683] {
+        lines.judge(3, 1, &sequences(&cut(&spread(left, 683), &[1; 681])));
+    }
+    // the limit was once 1,024
     for second in [7, 8] {
-        let most = sequences(&[&[7; 200], &[second; 55]]);
-        lines.judge(3, 7, &most);
-        lines.judge(1, 7, &most);
-        lines.judge(1, 7, &[most, vec![2]].concat());
+        let once = sequences(&[&[7; 200], &[second; 55]]);
+        lines.judge(1, 7, &once);
+        lines.judge(3, 7, &[once.clone(), vec![2]].concat());
+        lines.judge(3, 7, &[once, sequence(&[second])].concat());
     }
     lines.judge(1, 7, &[0; 1_024]);
     lines.judge(1, 7, &[0; 1_025]);
-    // the widest gaps, 63 and -63
-    lines.say("empty");
-    lines.judge(3, 1, &sequence(&upto(64)));
-    for number in 1..=64u32 {
-        let list: Vec<u32> =
-            [number - 1, number + 1].into_iter().filter(|n| (1..=64).contains(n)).collect();
-        lines.file(3, number, &list);
+}
+
+/// In the last bytes of 4,096, and a byte more.
+fn last_faults(lines: &mut Lines) {
+    // four full segments are 4,088
+    let full = hex(&sequence(&spread(3, 1_020)));
+    for end in [
+        "0201000000040200", "0201000000040100", "0201000000040201", "02010000000402ff",
+        "0201000000040300", "0201000000040400", "0201000000040000", "0201000000040500",
+        "0101000000040200", "0201000000000200", "0301000000040200", "0202000000040000",
+        "0202000000000000", "02010000000402", "02010000000403", "020100000004", "0201000000",
+        "020100000004020000", "020200000004000000",
+    ] {
+        lines.say(&format!("judge 1 1 {full}{end}"));
     }
-    lines.judge(6, 1, &sequence(&upto(64)));
-    lines.judge(2, 1, &sequence(&upto(64)));
-    // the same path, each number but the ends in two segments
-    let pairs: Vec<u8> = (2..=64).flat_map(|n| sequence(&[n - 1, n])).collect();
-    lines.judge(6, 1, &pairs);
-    lines.all(&["file 3 32 0", "file 3 33 0"]);
-    lines.judge(3, 1, &sequence(&upto(64)));
-    lines.judge(1, 1, &sequence(&upto(64)));
-    lines.judge(1, 1, &pairs);
-    lines.say("file 3 31 0");
-    lines.judge(3, 1, &sequence(&upto(64)));
-    lines.judge(3, 1, &pairs);
-    lines.say("withdraw 3 32");
-    lines.judge(3, 1, &sequence(&upto(64)));
+    let mut zero = spread(3, 1_021);
+    zero[1_020] = 0;
+    for sizes in [[170; 5], [255, 255, 255, 254, 1]] {
+        lines.judge(1, 1, &sequences(&cut(&zero, &sizes)));
+        lines.keep(9, 1, 9, &sequences(&cut(&zero, &sizes)));
+    }
+    for byte in [0, 1, 2, 255] {
+        lines.judge(1, 7, &[byte; 4_096]);
+        lines.judge(1, 7, &[byte; 4_097]);
+    }
+}
+
+/// The path judged both ways, and the kept routes.
+fn judged_and_kept(lines: &mut Lines, path: &[u8]) {
+    lines.judge(1, 1, path);
+    lines.judge(3, 1, path);
+    lines.all(&["rejudge", "ledger"]);
+}
+
+/// Gaps of 511 and of -511, and beside them.
+fn widest_gaps(lines: &mut Lines) {
+    let path = sequence(&upto(512));
+    lines.keep(1, 1, 1, &path);
+    lines.keep(3, 3, 1, &path);
+    judged_and_kept(lines, &path);
+    for change in ["file 3 512 511", "file 3 1 2", "withdraw 3 512", "file 3 511 512 513"] {
+        lines.say(change);
+        judged_and_kept(lines, &path);
+    }
+    lines.say("clear 3");
+    lines.0.extend(chain(512));
+    for role in 1..=6 {
+        lines.judge(role, 1, &path);
+        lines.keep(10 + role, role, 1, &path);
+    }
+    lines.all(&["ledger", "rejudge"]);
+    // the same path, every second number at the end of one segment and the start of the next
+    lines.judge(6, 1, &overlapping(512, 2));
+    lines.judge(1, 1, &overlapping(512, 2));
+}
+
+/// Places up to 512 over the numbers 1 to 512, which list each other but for a few: n is
+/// AS(513 - n).
+fn places_of_stops(lines: &mut Lines) {
+    let path = sequence(&upto(512));
+    let filings = chain(512);
+    lines.0.extend(filings.clone());
+    lines.keep(1, 1, 1, &path);
+    lines.keep(3, 3, 1, &path);
+    // a ramp that ends one number or two before the path does
+    for changes in [
+        &["file 3 511 510"][..],
+        &["file 3 2 3"],
+        &["file 3 511 510", "file 3 2 3"],
+        &["file 3 3 4", "file 3 510 509"],
+    ] {
+        lines.all(changes);
+        judged_and_kept(lines, &path);
+        [2, 3, 510, 511].iter().for_each(|n| lines.say(&filings[*n - 1]));
+    }
+    // numbers without providers, or without a record: at the ends, in the middle, side by side
+    for stops in [
+        &[1][..],
+        &[2],
+        &[512],
+        &[511],
+        &[1, 2],
+        &[1, 3],
+        &[1, 512],
+        &[255, 256],
+        &[255, 257],
+        &[256, 258],
+        &[510, 512],
+        &[1, 257, 512],
+    ] {
+        for (change, list) in [("file", " 0"), ("withdraw", "")] {
+            stops.iter().for_each(|n| lines.say(&format!("{change} 3 {n}{list}")));
+            judged_and_kept(lines, &path);
+            stops.iter().for_each(|n| lines.say(&filings[*n - 1]));
+        }
+    }
+    lines.say("rejudge");
 }
 
 /// Runs over the ends of sequences, and numbers that only look like it.
@@ -1754,11 +2061,12 @@ fn runs_over_boundaries(lines: &mut Lines) {
 /// A path of so many numbers over so many segments: in an empty register the
 /// answer to role 3 tells how many numbers are left.
 fn long_runs(lines: &mut Lines) {
-    let upto = |n: u32| (1..=n).collect::<Vec<u32>>();
     let each = |parts: &[Vec<u32>]| -> Vec<u8> { parts.iter().flat_map(|p| sequence(p)).collect() };
-    // one more number than 64 and than 65, but the one before the cut is there twice
-    for cut in [1, 2, 32, 63, 64] {
-        for last in [64, 65] {
+    let ones =
+        |numbers: &[u32]| -> Vec<u8> { numbers.iter().flat_map(|n| sequence(&[*n])).collect() };
+    // one more number than 512 and than 513, but the one before the cut is there twice
+    for cut in [1, 2, 64, 254, 255, 256, 511, 512] {
+        for last in [512, 513] {
             let attribute = each(&[upto(cut), (cut..=last).collect()]);
             lines.judge(3, 1, &attribute);
             lines.judge(1, 2, &attribute);
@@ -1766,50 +2074,42 @@ fn long_runs(lines: &mut Lines) {
         }
     }
     lines.say("ledger");
-    for last in [63, 64, 65] {
-        // segments of one; of two, the first with the number before; of one, each twice
-        let ones: Vec<Vec<u32>> = upto(last).iter().map(|n| vec![*n]).collect();
-        let pairs: Vec<Vec<u32>> = (2..=last).map(|n| vec![n - 1, n]).collect();
-        let twice: Vec<Vec<u32>> = ones.iter().flat_map(|one| [one.clone(), one.clone()]).collect();
-        for parts in [&ones, &pairs, &twice] {
-            lines.judge(3, 1, &each(parts));
-        }
+    for last in [64, 511, 512, 513] {
+        // segments of one; some of their numbers twice, as there is room for 682
+        lines.judge(3, 1, &ones(&upto(last)));
+        lines.judge(3, 1, &ones(&doubled(last, 160)));
         // two numbers in turn: nothing to merge
-        let turns: Vec<Vec<u32>> = upto(last).iter().map(|n| vec![n % 2 + 1]).collect();
-        lines.judge(3, 2, &each(&turns));
+        let turns: Vec<u32> = upto(last).iter().map(|n| n % 2 + 1).collect();
+        lines.judge(3, 2, &ones(&turns));
         // up to the last number, which then fills segments of its own
         lines.judge(3, 1, &each(&[vec![upto(last)], vec![vec![last]; 60]].concat()));
         lines.judge(3, 1, &each(&[vec![vec![1]; 60], vec![upto(last)]].concat()));
     }
+    // pairs, each from the number on that the one before ends with: 409 are 4,090 bytes
+    for last in [64, 65, 410, 411] {
+        lines.judge(3, 1, &overlapping(last, 1));
+    }
     // 40 segments of one number, then another; as many as there is room for, and one more
-    let many = [(40, &[10][..]), (40, &[20, 10]), (169, &[10]), (169, &[20]), (170, &[20])];
+    let many = [(40, &[10][..]), (40, &[20, 10]), (681, &[10]), (681, &[20]), (682, &[20])];
     for (route, (segments, then)) in (1..).zip(many) {
         let attribute = each(&[vec![vec![20]; segments], vec![then.to_vec()]].concat());
         lines.judge(3, 20, &attribute);
         lines.judge(1, 20, &attribute);
         lines.keep(route, 1, 20, &attribute);
     }
-    lines.judge(3, 1, &each(&upto(170).iter().map(|n| vec![*n]).collect::<Vec<_>>()));
+    lines.judge(3, 1, &ones(&upto(682)));
     lines.say("ledger");
-    // up to 255 numbers, and up to 1,024 bytes of them, of which 1, 2, 3, 64 or 65 are left
-    for length in [1, 2, 3, 64, 65] {
-        let numbers = |count: usize| -> Vec<u32> {
-            (0..count).map(|i| 1 + (i * length / count) as u32).collect()
-        };
-        lines.judge(3, 1, &sequence(&numbers(255)));
-        for cut in [1, 127, 200, 254] {
-            let numbers = numbers(255);
-            lines.judge(3, 1, &sequences(&[&numbers[..cut], &numbers[cut..]]));
+    // 255 numbers, of which 1, 2, 3, 64 or 65 are left
+    for left in [1, 2, 3, 64, 65] {
+        let numbers = spread(left, 255);
+        for sizes in [&[][..], &[1], &[127], &[200], &[254], &[1, 126, 126]] {
+            lines.judge(3, 1, &sequences(&cut(&numbers, sizes)));
         }
-        let numbers = numbers(254);
-        let (left, right) = numbers.split_at(127);
-        lines.judge(3, 1, &sequences(&[&left[..1], &left[1..], &right[..126], &right[126..]]));
     }
 }
 
 /// Each row that arguments alone, or what is stored, can give; then orders.
 fn argument_refusals(lines: &mut Lines) {
-    let upto = |n: u32| (1..=n).collect::<Vec<u32>>();
     lines.all(&["file 8 1 2", "file 4294967295 1 2", "file 8 0", "file 0 0 2", "file 7 0"]);
     lines.all(&["file 0 1", "file 0 1 2 2", "file 0 1 3 2", "file 0 1 0 0", "file 0 1 0"]);
     lines.file(0, 1, &run_without(1, 0, 257));
@@ -1819,7 +2119,7 @@ fn argument_refusals(lines: &mut Lines) {
     lines.all(&[
         "withdraw 0 1", "withdraw 0 1", "clear 8", "clear 1", "clear 7", "clear 7", "register",
     ]);
-    let long = vec![2; 1_025];
+    let long = vec![2; 4_097];
     let faulty = [2, 1, 0, 0, 0, 0];
     for route in ["judge", "keep 9"] {
         for (role, neighbour, attribute) in [
@@ -1840,7 +2140,7 @@ fn argument_refusals(lines: &mut Lines) {
     lines.keep(9, 1, 0, &sequence(&[5]));
     lines.keep(9, 1, 5, &long);
     lines.keep(9, 1, 5, &faulty);
-    lines.keep(9, 1, 1, &sequence(&upto(65)));
+    lines.keep(9, 1, 1, &sequence(&upto(513)));
     lines.keep(9, 1, 5, &sequence(&[5]));
     lines.keep(9, 1, 5, &[]);
     lines.keep(0, 4, 6, &sequence(&[5]));
@@ -1912,7 +2212,7 @@ fn damaged_tables(lines: &mut Lines) {
         for index in (0..used).chain([end]) {
             let old = words[index];
             let mut values =
-                vec![old.wrapping_sub(1), old + 1, 0, 1, 2, 3, 4, 7, 8, 64, 65, u32::MAX];
+                vec![old.wrapping_sub(1), old + 1, 0, 1, 2, 3, 4, 7, 8, 65, 512, 513, u32::MAX];
             values.dedup();
             for value in values {
                 lines.say(&format!("poke {table} {index} {value}"));
@@ -1923,7 +2223,7 @@ fn damaged_tables(lines: &mut Lines) {
         lines.all(&[table, call]);
     }
     // untrue but sound verdicts, mended by a re-judging
-    lines.all(&["poke ledger 6 2", "poke ledger 7 64", "poke ledger 8 64", "drop 77", "ledger"]);
+    lines.all(&["poke ledger 6 2", "poke ledger 7 512", "poke ledger 8 512", "drop 77", "ledger"]);
     lines.all(&["rejudge", "ledger", "rejudge"]);
     // shrinking takes words, growing gives zeros
     lines.all(&[
@@ -1943,8 +2243,7 @@ fn one_rule_broken() -> Vec<(Vec<String>, Vec<String>, &'static str)> {
     // the number that the next route's begins with.
     let keep = |route: u32, length: usize| {
         let path: Vec<u32> = (route + 1..).take(length).collect();
-        let attribute = if length == 0 { Vec::new() } else { sequence(&path) };
-        format!("keep {route} 4 5 {}", hex(&attribute))
+        format!("keep {route} 4 5 {}", hex(&sequence(&path)))
     };
     let (judge, drop) = ("judge 1 5 -", "drop 4000000000");
     vec![
@@ -1990,8 +2289,11 @@ fn one_rule_broken() -> Vec<(Vec<String>, Vec<String>, &'static str)> {
         (vec![keep(1, 1), keep(2, 1)], pokes(LEDGER, &[(10, 0), (18, 0), (19, 2)]), drop),
         // a path under a ground
         (vec![keep(1, 0), keep(2, 2)], pokes(LEDGER, &[(10, 1), (18, 1), (19, 1)]), drop),
-        // a path of 65
-        (vec![keep(1, 64), keep(2, 2)], pokes(LEDGER, &[(10, 65), (18, 65), (19, 1)]), drop),
+        // a path of 513
+        (vec![keep(1, 512), keep(2, 2)], pokes(LEDGER, &[(10, 513), (18, 513), (19, 1)]), drop),
+        // a place of 513
+        (vec![keep(1, 512)], pokes(LEDGER, &[(7, 513)]), drop),
+        (vec![keep(1, 512)], pokes(LEDGER, &[(8, 513)]), drop),
         // 513 routes
         (
             (0..512).map(|route| keep(route, 0)).collect(),
@@ -2003,14 +2305,14 @@ fn one_rule_broken() -> Vec<(Vec<String>, Vec<String>, &'static str)> {
         ),
         // 8,193 body words, as in the register
         (
-            (0..127).map(|route| keep(route, 64)).chain([keep(127, 63), keep(128, 1)]).collect(),
+            (0..15).map(|route| keep(route, 512)).chain([keep(15, 511), keep(16, 1)]).collect(),
             pokes(
                 LEDGER,
                 &[
                     (1, 8_193),
-                    (2 + 9 * 127 + 8, 64),
-                    (2 + 9 * 128 + 7, 8_192),
-                    (2 + 9 * 129 + 8_192, 7),
+                    (2 + 9 * 15 + 8, 512),
+                    (2 + 9 * 16 + 7, 8_192),
+                    (2 + 9 * 17 + 8_192, 7),
                 ],
             ),
             drop,
@@ -2153,7 +2455,7 @@ fn own_customers_stored(lines: &mut Lines) {
 fn seams(lines: &mut Lines) {
     lines.all(&REGISTER_D);
     for (route, role, neighbour, path) in SEAMS {
-        lines.keep_path(route, role, neighbour, path);
+        lines.keep(route, role, neighbour, &sequence(path));
     }
 }
 
@@ -2222,7 +2524,7 @@ fn equal_neighbours_stored(lines: &mut Lines) {
     // each route gone and kept again
     for (route, role, neighbour, path) in SEAMS {
         lines.all(&[&format!("drop {route}"), "rejudge", "ledger"]);
-        lines.keep_path(route, role, neighbour, path);
+        lines.keep(route, role, neighbour, &sequence(path));
     }
     lines.all(&["ledger", "file 0 30 10 40", "rejudge", "ledger"]);
     // as snapshots, which leave the tables; each mended, and some with other faults
@@ -2278,7 +2580,7 @@ fn equal_neighbours_stored(lines: &mut Lines) {
 fn equal_neighbours_at_each_index(lines: &mut Lines) {
     let start = lines.0.len();
     let mut first = 1;
-    for (route, length) in (0..).zip([1, 2, 3, 17, 64, 33]) {
+    for (route, length) in (0..).zip([1, 2, 3, 17, 512, 33]) {
         let path: Vec<u32> = (first..).take(length).collect();
         lines.keep(route, 3, first, &sequence(&path));
         first = path[length - 1];
@@ -2294,6 +2596,33 @@ fn equal_neighbours_at_each_index(lines: &mut Lines) {
         lines.say("drop 77");
     }
     lines.all(&["rejudge", "ledger"]);
+}
+
+/// About 512, by pokes and by reads.
+fn places_and_counts(lines: &mut Lines) {
+    lines.keep(1, 4, 9, &sequence(&upto(511)));
+    lines.keep(2, 4, 9, &sequence(&upto(3)));
+    for word in [7, 8, 16, 17] {
+        for place in [63, 64, 65, 511, 512, 513, 514, 65_536, 66_048, 0] {
+            lines.all(&[&format!("poke ledger {word} {place}"), "drop 77", "keep 7 9 0 02"]);
+        }
+    }
+    lines.all(&["poke ledger 16 512", "poke ledger 17 512", "ledger", "rejudge", "ledger"]);
+    // the first path takes numbers of the second
+    for count in [512, 513, 511, 510] {
+        for (index, value) in [(10, count), (18, count), (19, 514 - count)] {
+            lines.say(&format!("poke ledger {index} {value}"));
+        }
+        lines.all(&["drop 77", "rejudge", "words ledger"]);
+    }
+    for count in [511, 512, 513] {
+        for (a, b) in [(0, 0), (64, 65), (512, 512), (512, 513), (513, 512)] {
+            let ledger = [vec![1, count, 7, 3, 1, 0, 2, a, b, 0, count], upto(count)].concat();
+            lines.read_parts(&[vec![0, 0], ledger]);
+            lines.say("ledger");
+        }
+        lines.say("rejudge");
+    }
 }
 
 fn room(lines: &mut Lines) {
@@ -2325,25 +2654,50 @@ fn room(lines: &mut Lines) {
     lines.say("drop 0");
     lines.keep(512, 1, 5, &sequence(&[5]));
     lines.keep(513, 1, 5, &[]);
-    lines.all(&["rejudge", "empty"]);
-    let path = sequence(&(1..=64).collect::<Vec<u32>>());
-    for route in 0..128 {
+    lines.say("rejudge");
+}
+
+/// As many paths of this length as fill the ledger, then at the limit.
+fn full_of_paths(lines: &mut Lines, length: u32) {
+    let start = lines.0.len();
+    let routes = 8_192 / length;
+    let path = sequence(&upto(length));
+    for route in 0..routes {
         lines.keep(route, 3, 1, &path);
     }
-    lines.keep(128, 1, 5, &sequence(&[5]));
-    lines.keep(129, 1, 5, &[]);
-    lines.say("drop 3");
-    lines.keep(128, 1, 5, &sequence(&[5]));
+    // no room for a number, but for routes with a ground; 17 and 18 go before 20
+    lines.keep(routes, 1, 5, &sequence(&[5]));
+    lines.keep(routes + 1, 1, 5, &[]);
+    lines.keep(routes + 2, 1, 2, &path);
+    lines.keep(routes, 1, 1, &sequence(&upto(513)));
+    lines.keep(2, 1, 5, &sequence(&[5]));
+    lines.all(&["rejudge", "drop 3"]);
+    lines.keep(routes, 1, 5, &sequence(&[5]));
     lines.keep(3, 1, 1, &path);
-    lines.say("drop 128");
+    lines.say(&format!("drop {routes}"));
+    lines.keep(3, 1, 1, &sequence(&upto(513)));
     lines.keep(3, 1, 1, &path);
+    // a number fewer is room for one
+    lines.say("drop 4");
+    lines.keep(4, 1, 1, &sequence(&upto(length - 1)));
+    lines.keep(routes, 1, 5, &sequence(&[5, 6]));
+    lines.keep(routes, 1, 5, &sequence(&[5]));
+    lines.keep(routes + 3, 1, 5, &sequence(&[5]));
     // only what is left of a path needs room
-    let again = [path.clone(), sequence(&[64])].concat();
-    lines.keep(128, 1, 1, &again);
+    let again = [path.clone(), sequence(&[length])].concat();
+    lines.keep(routes + 3, 1, 1, &again);
     lines.say("drop 5");
-    lines.keep(5, 1, 1, &[path, sequence(&[63])].concat());
+    lines.keep(5, 1, 1, &[path, sequence(&[length - 1])].concat());
     lines.keep(5, 1, 1, &again);
-    lines.all(&["file 0 64 63", "rejudge", "rejudge"]);
+    lines.all(&[&format!("file 0 {length} {}", length - 1), "rejudge", "rejudge", "words ledger"]);
+    // as a file, and from it
+    let file = file_after(&lines.0[start..]);
+    lines.write(file.len() - 1);
+    lines.write(file.len());
+    lines.say("empty");
+    lines.read(&file);
+    lines.keep(routes + 3, 1, 5, &sequence(&[5]));
+    lines.all(&["clear 0", "rejudge", "words ledger"]);
 }
 
 /// Tables of many sizes, looked up at their entries and beside them, so that a
@@ -2412,7 +2766,7 @@ fn record_look_ups(lines: &mut Lines) {
         if !is_looked_through(size) {
             continue;
         }
-        let hops = if is_small(size) { 1 } else { 63 };
+        let hops = if is_small(size) { 1 } else { LONGEST_PATH - 1 };
         for nth in (0..size).step_by(hops) {
             let path = ascent(nth, hops.min(size - nth));
             lines.judge(1, path[0], &sequence(&path));
@@ -2671,7 +3025,7 @@ fn snapshots_of_tables(lines: &mut Lines) {
     lines.say("file 0 10 20");
     let stale = file_after(&lines.0[start..]);
     lines.say("empty");
-    for file in [&stale, &with(&stale, &[(30, 64), (31, 64)])] {
+    for file in [&stale, &with(&stale, &[(30, 512), (31, 512)])] {
         lines.read_and_write(file);
         lines.all(&["rejudge", "ledger", "rejudge"]);
         lines.write(131_072);
@@ -2873,7 +3227,7 @@ fn snapshots_and_damaged_tables(lines: &mut Lines) {
     lines.read(&file);
     lines.all(&SHOW);
     // words that are other ones and still well formed
-    lines.all(&["poke register 10 0", "poke ledger 6 0", "poke ledger 7 64", "write 160"]);
+    lines.all(&["poke register 10 0", "poke ledger 6 0", "poke ledger 7 512", "write 160"]);
     lines.read(&file);
     lines.say("write 160");
     // a table that was lent longer or shorter keeps no other word
@@ -2976,7 +3330,7 @@ fn recorded(out: &mut impl Write) -> io::Result<()> {
 #[cfg(test)]
 mod tests {
     use super::*;
-    use reference::judge;
+    use reference::{judge, RouteNumber};
     use std::collections::{BTreeMap, BTreeSet};
 
     const ROWS: [(&str, &[u32]); 9] = [
@@ -3078,7 +3432,7 @@ mod tests {
     }
 
     #[test]
-    fn pokes_of_equal_neighbours_are_no_other_fault() {
+    fn pokes_of_paths_are_no_other_fault() {
         let mut lines = Lines(Vec::new());
         seams(&mut lines);
         let [_, words] = parts(&file_after(&lines.0));
@@ -3086,31 +3440,36 @@ mod tests {
         assert_eq!(equal_neighbour_pokes(&words).len(), 3 * 5 + 4);
         assert!(seam_pokes(&words).is_empty());
         let mut model = Model::new();
-        let mut checked = [0; 2];
+        let mut checked = [0; 3];
         random_stream(32, 6_000, |line, _| {
             console::answer(&mut model, line.as_bytes());
             let words = model.ledger.used_words();
             if line.starts_with("drop") && words.len() < 300 {
-                let poked = |(index, value): (usize, u32)| {
+                let poked = |pokes: &[(usize, u32)]| {
                     let mut poked = words.clone();
-                    poked[index] = value;
+                    pokes.iter().for_each(|(index, value)| poked[*index] = *value);
                     poked
                 };
-                for poked in equal_neighbour_pokes(&words).into_iter().map(poked) {
+                for poke in equal_neighbour_pokes(&words) {
+                    let poked = poked(&[poke]);
                     if alternating(&poked).is_some() {
                         assert!(only_equal_neighbours(&poked), "{poked:?}");
                         checked[0] += 1;
                     }
                 }
-                for poked in seam_pokes(&words).into_iter().map(poked) {
-                    assert!(well_formed::<Routes>(&poked), "{poked:?}");
+                for poke in seam_pokes(&words) {
+                    assert!(well_formed::<Routes>(&poked(&[poke])), "{poke:?} {words:?}");
                     checked[1] += 1;
+                }
+                for pokes in seam_moves(&words) {
+                    assert!(well_formed::<Routes>(&poked(&pokes)), "{pokes:?} {words:?}");
+                    checked[2] += 1;
                 }
             }
             Ok(())
         })
         .unwrap();
-        assert!(checked[0] > 1_000 && checked[1] > 200, "{checked:?}");
+        assert!(checked[0] > 1_000 && checked[1] > 200 && checked[2] > 20, "{checked:?}");
     }
 
     /// What the boundaries of an attribute without a ground are like, and the edges
@@ -3142,72 +3501,196 @@ mod tests {
             let apart: usize =
                 segments.iter().map(|segment| judge::merged(&[segment.clone()]).len()).sum();
             kinds.extend(match (judge::merged(&segments).len(), apart) {
-                (64, 65..) => Some("64 left of more"),
-                (65, _) => Some("65 left"),
-                (..64, 65..) => Some("fewer left of more"),
+                (512, 513..) => Some("512 left of more"),
+                (513, _) => Some("513 left"),
+                (..512, 513..) => Some("fewer left of more"),
                 _ => None,
             });
             if attribute.len() == LONGEST_ATTRIBUTE {
-                kinds.push("run in 1,024 bytes");
+                kinds.push("run in 4,096 bytes");
             }
         }
         kinds
+    }
+
+    /// How often each kind is drawn. `kinds` tells of which kinds a command is, by its
+    /// answer and the model before it, on which it runs it.
+    fn drawn<K: Ord>(kinds: impl Fn(&mut Model, &str, &str) -> Vec<K>) -> BTreeMap<K, usize> {
+        let mut seen = BTreeMap::new();
+        for seed in 1..=6 {
+            let mut model = Model::new();
+            random_stream(seed, 8_000, |line, answer| {
+                for kind in kinds(&mut model, line, answer) {
+                    *seen.entry(kind).or_default() += 1;
+                }
+                Ok(())
+            })
+            .unwrap();
+        }
+        seen
+    }
+
+    fn check_drawn(seen: &BTreeMap<&str, usize>, kinds: &[(&str, usize)]) {
+        for (kind, least) in kinds {
+            assert!(seen.get(kind).is_some_and(|count| count >= least), "{kind}: {seen:?}");
+        }
+    }
+
+    /// Whether an attribute was read and has no ground.
+    fn has_path(answer: &str) -> bool {
+        let word = answer.split(' ').next().unwrap_or("");
+        answer == "refused 17"
+            || (["Valid", "Invalid", "Unknown"].contains(&word) && !answer.contains("ground"))
     }
 
     /// Runs over boundaries, pokes and reads with equal neighbours and no other
     /// fault, and equal numbers of two paths under calls that are lent the ledger.
     #[test]
     fn runs_and_equal_neighbours_are_drawn() {
-        let mut seen: BTreeMap<&str, usize> = BTreeMap::new();
-        for seed in 1..=4 {
-            let mut model = Model::new();
-            random_stream(seed, 8_000, |line, answer| {
-                let before = model.ledger.used_words();
-                let sound = model.ledger.well_formed();
-                console::answer(&mut model, line.as_bytes());
-                let words: Vec<&str> = line.split(' ').collect();
-                let judged = answer.starts_with("refused 17")
-                    || ["Valid", "Invalid", "Unknown"]
-                        .contains(&answer.split(' ').next().unwrap_or(""));
-                let mut kinds = match words[0] {
-                    "judge" | "keep" if judged && !answer.contains("ground") => {
-                        boundaries(&console::bytes(words[words.len() - 1]).unwrap())
-                    }
-                    "poke" if sound && only_equal_neighbours(&model.ledger.words()) => vec!["poke"],
-                    "read" if answer == "refused 3" => {
-                        let [_, ledger] = parts(&console::bytes(words[1]).unwrap());
-                        only_equal_neighbours(&ledger).then_some("read").into_iter().collect()
-                    }
-                    _ => vec![],
-                };
-                let lent = ["keep", "drop", "rejudge", "write"].contains(&words[0]);
-                let paths = paths(&before);
-                if lent && paths.windows(2).any(|pair| pair[0].2.last() == pair[1].2.first()) {
-                    kinds.push("equal ends");
+        let seen = drawn(|model, line, answer| {
+            let before = model.ledger.used_words();
+            let sound = model.ledger.well_formed();
+            console::answer(model, line.as_bytes());
+            let words: Vec<&str> = line.split(' ').collect();
+            let mut kinds = match words[0] {
+                "judge" | "keep" if has_path(answer) => {
+                    boundaries(&console::bytes(words[words.len() - 1]).unwrap())
                 }
-                kinds.iter().for_each(|kind| *seen.entry(kind).or_default() += 1);
-                Ok(())
-            })
-            .unwrap();
+                "poke" if sound && only_equal_neighbours(&model.ledger.words()) => vec!["poke"],
+                "read" if answer == "refused 3" => {
+                    let [_, ledger] = parts(&console::bytes(words[1]).unwrap());
+                    only_equal_neighbours(&ledger).then_some("read").into_iter().collect()
+                }
+                _ => vec![],
+            };
+            let lent = ["keep", "drop", "rejudge", "write"].contains(&words[0]);
+            let paths = paths(&before);
+            if lent && paths.windows(2).any(|pair| pair[0].2.last() == pair[1].2.first()) {
+                kinds.push("equal ends");
+            }
+            kinds
+        });
+        check_drawn(
+            &seen,
+            &[
+                ("run", 1_000),
+                ("no run", 1_000),
+                ("one vanishes", 400),
+                ("two vanish", 100),
+                ("last vanishes", 100),
+                ("the first number before", 100),
+                ("the low byte alone", 20),
+                ("512 left of more", 10),
+                ("513 left", 10),
+                ("fewer left of more", 5),
+                ("run in 4,096 bytes", 40),
+                ("poke", 30),
+                ("read", 12),
+                ("equal ends", 1_000),
+            ],
+        );
+    }
+
+    /// Of an attribute without a ground.
+    fn lengths(attribute: &[u8]) -> Vec<&'static str> {
+        let segments = judge::read(attribute).unwrap();
+        let mut kinds = match judge::merged(&segments).len() {
+            65..=254 => vec!["65 to 254"],
+            255..=257 => vec!["255 to 257"],
+            258..=511 => vec!["258 to 511"],
+            512 => vec!["512"],
+            513.. => vec!["513 or more"],
+            _ => vec![],
+        };
+        if segments.iter().any(|segment| segment.numbers.len() == LONGEST_SEGMENT) {
+            kinds.push("a full segment");
         }
-        for (kind, least) in [
-            ("run", 1_000),
-            ("no run", 1_000),
-            ("one vanishes", 400),
-            ("two vanish", 100),
-            ("last vanishes", 100),
-            ("the first number before", 100),
-            ("the low byte alone", 20),
-            ("64 left of more", 10),
-            ("65 left", 10),
-            ("fewer left of more", 5),
-            ("run in 1,024 bytes", 40),
-            ("poke", 30),
-            ("read", 12),
-            ("equal ends", 1_000),
-        ] {
-            assert!(seen.get(kind).is_some_and(|count| *count >= least), "{kind}: {seen:?}");
-        }
+        kinds
+    }
+
+    /// Of a ledger to which a route has come.
+    fn ledger_kinds(routes: &Routes, route: RouteNumber) -> Vec<&'static str> {
+        let kept = &routes[&route];
+        let lengths = || routes.values().map(|route| route.path.len());
+        let full = lengths().sum::<usize>() == MOST_BODY_WORDS;
+        let longest_alone = lengths().all(|length| [0, LONGEST_PATH].contains(&length));
+        [
+            ("512 kept", kept.path.len() == 512),
+            ("place 512 kept", kept.place_a == 512 || kept.place_b == 512),
+            ("place above 64 kept", (65..=512).contains(&kept.place_a)),
+            ("full of 512", full && longest_alone),
+            ("full of others", full && !longest_alone),
+        ]
+        .into_iter()
+        .filter_map(|(kind, given)| given.then_some(kind))
+        .collect()
+    }
+
+    /// A path of 513 numbers in a ledger of the right length, and counts that add up.
+    fn one_too_many(words: &[u32]) -> bool {
+        let entries = words[2..].chunks_exact(Routes::ENTRY).take(words[0] as usize);
+        let counts: Vec<u64> = entries.map(|entry| entry[8].into()).collect();
+        counts.contains(&513) && counts.iter().sum::<u64>() == words[1].into()
+    }
+
+    /// Long paths, and answers and ledgers that only they give.
+    #[test]
+    fn long_paths_are_drawn() {
+        let seen = drawn(|model, line, answer| {
+            console::answer(model, line.as_bytes());
+            let words: Vec<&str> = line.split(' ').collect();
+            let mut kinds = Vec::new();
+            if ["judge", "keep"].contains(&words[0]) && has_path(answer) {
+                kinds = lengths(&console::bytes(words[words.len() - 1]).unwrap());
+            }
+            let gap = answer.split("gap ").nth(1).map_or(0, |gap| gap.parse().unwrap());
+            kinds.extend(match (answer, gap) {
+                ("refused 11", _) => Some("11"),
+                (_, 65..=508) => Some("gap above 64"),
+                (_, 509..=511) => Some("gap of 509 or more"),
+                (_, -508..=-65) => Some("gap below -64"),
+                (_, -511..=-509) => Some("gap of -509 or less"),
+                _ => None,
+            });
+            if words[0] == "drop" && answer == "refused 3" && one_too_many(&model.ledger.words()) {
+                kinds.push("513 by counts");
+            }
+            let Table::Held(routes) = &model.ledger else { return kinds };
+            match words[0] {
+                "keep" if has_path(answer) && answer != "refused 17" => {
+                    kinds.extend(ledger_kinds(routes, RouteNumber(words[1].parse().unwrap())));
+                }
+                "read" if answer == "done" => {
+                    let longest = routes.values().any(|route| route.path.len() == 512);
+                    kinds.extend(longest.then_some("512 read"));
+                }
+                _ => {}
+            }
+            kinds
+        });
+        check_drawn(
+            &seen,
+            &[
+                ("11", 60),
+                ("65 to 254", 40),
+                ("255 to 257", 60),
+                ("258 to 511", 60),
+                ("512", 120),
+                ("513 or more", 50),
+                ("a full segment", 200),
+                ("gap above 64", 30),
+                ("gap of 509 or more", 60),
+                ("gap below -64", 4),
+                ("gap of -509 or less", 4),
+                ("512 kept", 100),
+                ("place above 64 kept", 8),
+                ("place 512 kept", 15),
+                ("full of 512", 5),
+                ("full of others", 5),
+                ("512 read", 6),
+                ("513 by counts", 6),
+            ],
+        );
     }
 
     /// Where a list holds its customer.
@@ -3225,37 +3708,29 @@ mod tests {
     /// Filings, pokes and reads with an own customer and no other fault.
     #[test]
     fn own_customers_are_drawn() {
-        let mut seen: BTreeMap<String, usize> = BTreeMap::new();
-        for seed in 1..=4 {
-            let mut model = Model::new();
-            random_stream(seed, 8_000, |line, answer| {
-                let before = model.register.well_formed();
-                console::answer(&mut model, line.as_bytes());
-                let words: Vec<&str> = line.split(' ').collect();
-                let kind = match (words[0], answer) {
-                    ("file", "refused 6") => {
-                        let list: Vec<u32> =
-                            words[2..].iter().map(|word| word.parse().unwrap()).collect();
-                        let (customer, list) = (list[0], &list[1..]);
-                        let other = list.len() > 256 || list != ascending(list.to_vec());
-                        place(list, customer).filter(|_| !other)
-                    }
-                    ("poke", _) if before => {
-                        only_own_customer(&model.register.words()).then(|| "poke".to_string())
-                    }
-                    ("read", "refused 2") => {
-                        let [register, _] = parts(&console::bytes(words[1]).unwrap());
-                        only_own_customer(&register).then(|| "read".to_string())
-                    }
-                    _ => None,
-                };
-                if let Some(kind) = kind {
-                    *seen.entry(kind).or_default() += 1;
+        let seen = drawn(|model, line, answer| {
+            let before = model.register.well_formed();
+            console::answer(model, line.as_bytes());
+            let words: Vec<&str> = line.split(' ').collect();
+            let kind = match (words[0], answer) {
+                ("file", "refused 6") => {
+                    let list: Vec<u32> =
+                        words[2..].iter().map(|word| word.parse().unwrap()).collect();
+                    let (customer, list) = (list[0], &list[1..]);
+                    let other = list.len() > 256 || list != ascending(list.to_vec());
+                    place(list, customer).filter(|_| !other)
                 }
-                Ok(())
-            })
-            .unwrap();
-        }
+                ("poke", _) if before => {
+                    only_own_customer(&model.register.words()).then(|| "poke".to_string())
+                }
+                ("read", "refused 2") => {
+                    let [register, _] = parts(&console::bytes(words[1]).unwrap());
+                    only_own_customer(&register).then(|| "read".to_string())
+                }
+                _ => None,
+            };
+            kind.into_iter().collect()
+        });
         for kind in [
             "alone", "first", "between", "last", "first of 256", "between of 256", "last of 256",
             "poke", "read",
@@ -3343,14 +3818,22 @@ mod tests {
     }
 
     #[test]
-    fn the_vectors_reach_every_row() {
+    fn the_vectors_reach_every_row_and_edge() {
         let mut model = Model::new();
         let mut seen = Seen::default();
+        let mut answers = BTreeSet::new();
         for line in vectors() {
             let answer = console::answer(&mut model, line.as_bytes());
             seen.note(&line, &answer);
+            answers.insert(answer);
         }
         seen.check();
+        for edge in [
+            "Valid gap -511", "Unknown 1 512 gap 511", "Unknown 512 0", "Invalid 512 0",
+            "Invalid 2 511 gap 511", "refused 16 at 4092", "refused 12 at 4094",
+        ] {
+            assert!(answers.contains(edge), "{edge}");
+        }
     }
 
     /// At each size entries are found and others are not.
