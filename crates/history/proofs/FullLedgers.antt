@@ -1,9 +1,8 @@
 -- Sixteen paths of the most numbers fill the ledger. Assumes nothing.
 use Prim.Native.Nat.{ℕ, zero, suc, _+_, _≤_, _<_}
-use mathlib.Core.Path.{_≡_, refl, sym, ap, _∙_}
+use mathlib.Core.Path.{_≡_, refl, ap, _∙_}
 use mathlib.Core.Bool.{Bool, true, false, not, _&&_}
 use mathlib.Core.List.{List, [], _∷_, _++_, map}
-use mathlib.Core.Option.{none}
 use native.Mathlib.Omega.{arith}
 use lib.Dec.{ltb}
 use lib.ListN.{length, take}
@@ -24,9 +23,9 @@ use Rattle.rules.proofs.Sequences.{none-read}
 use Rattle.rules.proofs.Edges.{length-then, pairs-content}
 use Rattle.ledger.specs.Routes.{ledgerOf}
 use Rattle.filter.specs.Calls.{keeping}
-use Rattle.history.specs.Calls.{Call, keep, Tables, blank, callAt, KeptRoute, known, last, said}
+use Rattle.history.specs.Calls.{Call, keep, blank, callAt, KeptRoute, known, last, said}
 use Rattle.history.specs.Replies.{ModelReply, done, refused, shown}
-use Rattle.history.specs.Model.{Model, holdsKept, putKept, pathNumbers, roomForRoutes, refusal, next, after, replyTo, written, heldBy}
+use Rattle.history.specs.Model.{Model, holdsKept, putKept, pathNumbers, roomForRoutes, refusal, next, after, replyTo, written}
 use Rattle.history.specs.Sanity.{longest, longests, sixteen-and}
 use Rattle.history.proofs.Simulating.{blank-formed, blank-empty, history-replies, history-written}
 

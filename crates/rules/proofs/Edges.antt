@@ -97,7 +97,11 @@ pub pairs-judged : (hop : HopFunction) (role : ℕ) (c : List ℕ) (cs : List Se
 pairs-judged hop role c cs r s e g h =
     answer-by hop role (pairsThen c) _ _ r (length-then (mostNumbers / 2) pair c) h (pairs-content role c cs s e g)
 
--- The same of the most bytes,
+-- The same of the most bytes, which they are,
+most-long : length (longestThen []) ≡ mostBytes
+unfolding bytes
+most-long = length-then (mostBytes / length two) two []
+
 long-judged :
     judgedEmpty (longestThen []) ≡ answerTo (hopOf []) 1 (merged (mergeRuns (repeated (mostBytes / length two) (numbersIn (ones (20 ∷ []) ∷ ones (replicate 254 30) ∷ [])) ++ [])))
 unfolding hasSet numbersIn bytes isIn
@@ -127,6 +131,7 @@ edges =
       one-repeat-more = pairs-judged (hopOf []) 1 (sequence (30 ∷ [])) _ refl refl (sequence-read 30 [] refl) refl refl ∙ refl;
       most-bytes = long-judged ∙ refl;
       one-byte-more = too-long (longestThen (2 ∷ [])) _ (length-then (mostBytes / length two) two (2 ∷ [])) refl;
+      bytes-are = most-long;
       full-segments = full-judged 20 (30 ∷ []) refl refl ∙ refl;
       full-segments-more = full-judged 20 (30 ∷ 20 ∷ []) refl refl ∙ refl;
     }

@@ -165,7 +165,7 @@ fullThen rest = sequence full ++ (sequence full-next ++ rest)
 abbrev pub judgedEmpty : List ℕ → Judged
 judgedEmpty attribute = judgedRoute (hopOf []) 1 20 attribute
 
--- Written from the limits, but for the last two; proofs/Edges.antt has the proof.
+-- Written from the limits, and then by number (P5); proofs/Edges.antt has the proof.
 pub record Edges : Type 0 where
   -- Nothing, and one byte.
   pub empty : judgedEmpty [] ≡ plain (Invalid (ByGround Empty))
@@ -178,6 +178,8 @@ pub record Edges : Type 0 where
   -- An attribute of the most bytes, and of one more.
   pub most-bytes : judgedEmpty (longestThen []) ≡ plain (Unknown 2 0)
   pub one-byte-more : judgedEmpty (longestThen (2 ∷ [])) ≡ Refused AttributeLength
-  -- 512 numbers in segments of 255, 255 and 2, and 513 (P5).
+  -- The most bytes are 4,096.
+  pub bytes-are : length (longestThen []) ≡ 4096
+  -- 512 numbers in segments of 255, 255 and 2, and 513.
   pub full-segments : judgedEmpty (fullThen (sequence (20 ∷ 30 ∷ []))) ≡ plain (Unknown 2 0)
   pub full-segments-more : judgedEmpty (fullThen (sequence (20 ∷ 30 ∷ 20 ∷ []))) ≡ Refused PathLength
