@@ -3,7 +3,6 @@ pub mod Holding
 pub mod Checking
 pub mod Looking
 pub mod Uniting
-pub mod Hopping
 pub mod Placing
 pub mod Changes
 pub mod Refusals

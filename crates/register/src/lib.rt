@@ -4,18 +4,15 @@ use halves::Range;
 use types::AsNumber;
 use types::Cleared;
 use types::Filed;
-use types::Hop;
 use types::Refusal;
 use types::Removal;
 ghost use mathlib.Core.Path.{_≡_};
-ghost use mathlib.Core.Bool.{true, false, cond, _&&_};
+ghost use mathlib.Core.Bool.{true, false, _&&_};
 ghost use Prim.Native.Nat.{_≤_, _<_};
 ghost use lib.ListN.{length, getD};
 ghost use Rattle.table.specs.Table.{Sound};
 ghost use Rattle.types.specs.Rows.{effect};
 ghost use Rattle.keyed.specs.Keyed.{samePair, beforePair, ascends, every};
-ghost use Rattle.types.specs.declared.Hop.the-variants.{NoAttestation, ProviderPlus, NotProviderPlus};
-ghost use Rattle.rules.specs.Records.{hopOf};
 ghost use Rattle.register.specs.Register.{recordHead, recordTail, mostListed, recordsOf, recordAt, keyOf, recordOk};
 ghost use Rattle.register.specs.Register.{registerOk, positionOf};
 ghost use Rattle.register.specs.Helpers.{mostSteps, Passed};
@@ -41,9 +38,9 @@ pub const WIDTH: usize = HEAD + table::SPAN + TAIL;
 
 const SOURCE: usize = 1;
 
-const START: usize = HEAD;
+pub const START: usize = HEAD;
 
-const COUNT: usize = HEAD + 1;
+pub const COUNT: usize = HEAD + 1;
 
 // The words of a register: two counts, and room for as many records and numbers as there may be.
 pub const WORDS: usize = table::COUNTERS + MOST_RECORDS * WIDTH + MOST_LISTED;
@@ -167,67 +164,6 @@ fn is_at(reg: &[u32], position: usize, customer: AsNumber, source: u32) -> bool
         }
     }
     false
-}
-
-// The hops from one number to two others.
-pub struct Hops {
-    pub y: Hop,
-    pub z: Hop,
-}
-
-// What a hop is, by whether there is a record and whether one lists the other number.
-fn hop_by(attested: bool, listed: bool) -> Hop
-    ensures { λ r. ⌜ r ≡ cond listed ProviderPlus (cond attested NotProviderPlus NoAttestation) ⌝ }
-{
-    if listed {
-        return Hop::ProviderPlus;
-    }
-    if attested {
-        return Hop::NotProviderPlus;
-    }
-    Hop::NoAttestation
-}
-
-// The hops from x to y and to z, where x's records begin at a position that `find` answered. Each list is read once for both.
-pub fn hops_from(reg: &[u32], position: usize, x: AsNumber, y: AsNumber, z: AsNumber) -> Hops
-    requires { ⌜ (registerOk (now reg) ≡ true) × (position ≡ positionOf (x .0) 0 (recordsOf (now reg))) ⌝ }
-    ensures { λ r. ⌜ (r .y ≡ hopOf (recordsOf (now (reg .entry))) (x .0) (y .0)) × (r .z ≡ hopOf (recordsOf (now (reg .entry))) (x .0) (z .0)) ⌝ }
-{
-    let n = table::word(reg, 0);
-    let bodies = table::COUNTERS + n * WIDTH;
-    let mut has_y = false;
-    let mut has_z = false;
-    let mut i = position;
-    loop {
-        if n <= i {
-            break;
-        }
-        let slot = table::COUNTERS + i * WIDTH;
-        let c = x.0;
-        if reg[slot] != c {
-            break;
-        }
-        let from = bodies + table::word(reg, slot + START);
-        let to = from + table::word(reg, slot + COUNT);
-        let listed = providers::scan(&reg[from..to], y, z);
-        has_y = has_y | listed.y;
-        has_z = has_z | listed.z;
-        i += 1;
-    }
-    let attested = position < i;
-    Hops {
-        y: hop_by(attested, has_y),
-        z: hop_by(attested, has_z),
-    }
-}
-
-// The hop from x to y alone.
-pub fn hop_from(reg: &[u32], position: usize, x: AsNumber, y: AsNumber) -> Hop
-    requires { ⌜ (registerOk (now reg) ≡ true) × (position ≡ positionOf (x .0) 0 (recordsOf (now reg))) ⌝ }
-    ensures { λ r. ⌜ r ≡ hopOf (recordsOf (now (reg .entry))) (x .0) (y .0) ⌝ }
-{
-    let hops = hops_from(reg, position, x, y, y);
-    hops.y
 }
 
 // ---- the calls

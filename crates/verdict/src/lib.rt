@@ -41,7 +41,7 @@ fn upstream(reg: &[u32], hints: &[u32], path: &[u32]) -> Verdict
         let x = path[n - i];
         let y = path[n - u];
         let position = hints::find(reg, hints, AsNumber(x));
-        let hop = register::hop_from(reg, position, AsNumber(x), AsNumber(y));
+        let hop = hops::hop_from(reg, position, AsNumber(x), AsNumber(y));
         if rules::is_not_plus(hop) {
             let a = u as u32;
             return Verdict::Invalid(Cause::ByHops(a, 0));
@@ -128,12 +128,12 @@ fn find_ramps(reg: &[u32], hints: &[u32], path: &[u32]) -> Ramps
     let mut i: usize = 1;
     let origin = path[n - 1];
     let position = hints::find(reg, hints, AsNumber(origin));
-    let mut up = register::hop_from(reg, position, AsNumber(origin), number_or_zero(path, 2));
+    let mut up = hops::hop_from(reg, position, AsNumber(origin), number_or_zero(path, 2));
     while i < n {
         let x = path[n - i];
         let y = path[n - (i + 1)];
         let position = hints::find(reg, hints, AsNumber(y));
-        let hops = register::hops_from(
+        let hops = hops::hops_from(
             reg,
             position,
             AsNumber(y),

@@ -1,13 +1,13 @@
--- `register::hops_from` meets its contract. Assumes nothing.
+-- `hops::hops_from` meets its contract. Assumes nothing.
 use borrow.Author.Needs.{needs}
 use mathlib.Core.Path.{_∙_}
 use mathlib.Core.Logic.{⊎-elim}
 use Prim.Native.Nat.{_-_}
 use native.Mathlib.Omega.{arith}
 use Rattle.register.proofs.Looking.{head-within}
-use Rattle.register.proofs.Hopping.{Passing, Hearing, starts, listens, slot-of, list-in, passes, hears, none-left, others-left, arrives}
-use Rattle.register.proofs.hops_from.Statement.{statement}
-use Rattle.register.proofs.hops_from.Tie as tie
+use Rattle.hops.proofs.Hopping.{Passing, Hearing, starts, listens, slot-of, list-in, passes, hears, none-left, others-left, arrives}
+use Rattle.hops.proofs.hops_from.Statement.{statement}
+use Rattle.hops.proofs.hops_from.Tie as tie
 
 abbrev Inv-loop : tie.InvT-loop
 Inv-loop reg position x y z n bodies has-y₀ has-z₀ i₀ has-y has-z i = Passing reg position (x .0) n i × Hearing reg (x .0) (y .0) has-y i × Hearing reg (x .0) (z .0) has-z i
