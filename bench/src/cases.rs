@@ -1,4 +1,5 @@
 //! What is timed. Every process makes the same cases, in the same order, from the same random numbers.
+use crate::library;
 use crate::plain::{self, RECORD, ROUTE};
 use crate::work::{self, attribute, numbers, Random, Work, ROUTES};
 use aspa_filter::{
@@ -30,14 +31,15 @@ pub fn time<T>(f: impl FnOnce() -> T) -> (u64, T) {
     (began.elapsed().as_nanos() as u64, r)
 }
 
-/// The tables of a re-judging.
+/// The tables of a re-judging. The overrides are empty unless the name says otherwise.
 pub struct Tables {
     pub name: String,
     pub register: Register,
+    pub overrides: Register,
     pub stale: Ledger,
 }
 
-type Plain = fn(&[u32], &mut [u32]) -> Result<u32, u32>;
+type Plain = fn(&[u32], &[u32], &mut [u32]) -> Result<u32, u32>;
 
 /// The ways to re-judge in plain Rust.
 pub const PLAIN: [(&str, Plain); 3] = [
@@ -79,8 +81,8 @@ impl fmt::Display for What {
 }
 
 pub struct Cases {
-    /// The first are those of the main figure, the others those of the table of medians. The longest paths are last, and so are the calls
-    /// with them: earlier libraries do not take them.
+    /// The first are those of the main figure, the others those of the table of medians. The longest paths are last but for overrides, and
+    /// so are the calls with them: earlier libraries do not take them.
     pub tables: Vec<Tables>,
     pub calls: Vec<Call>,
     random: Random,
@@ -95,6 +97,7 @@ impl Cases {
         let mut tables = vec![Tables {
             name: "main".into(),
             register,
+            overrides: Register::new(),
             stale,
         }];
         let sorts = std::iter::once(&work::ALL).chain(&work::OTHERS);
@@ -109,6 +112,7 @@ impl Cases {
             tables.push(Tables {
                 name,
                 register,
+                overrides: Register::new(),
                 stale,
             });
         }
@@ -126,8 +130,23 @@ impl Cases {
             tables.push(Tables {
                 name: format!("{} routes of {MOST_PATH}", stale.routes().count()),
                 register,
+                overrides: Register::new(),
                 stale,
             });
+        }
+        #[cfg(feature = "overrides")]
+        {
+            for (name, step) in [("half of the records overridden", 2), ("all overridden", 1)] {
+                tables.push(Tables {
+                    name: name.into(),
+                    register: tables[0].register.clone(),
+                    overrides: work::every(&tables[0].register, step),
+                    stale: tables[0].stale.clone(),
+                });
+            }
+            // Two full registers with other customers.
+            let [public, overrides] = [0, 1].map(|i| tables[i].register.clone());
+            calls.extend(calls_on_overrides(&work, public, overrides));
         }
         Cases {
             calls,
@@ -146,19 +165,27 @@ impl Cases {
 
     fn rejudge(&self, tables: usize, way: Option<usize>) -> Timed {
         let Tables {
-            register, stale, ..
+            register,
+            overrides,
+            stale,
+            ..
         } = &self.tables[tables];
         match way {
             None => {
-                let mut ledger = stale.clone();
-                let (nanoseconds, r) = time(|| black_box(&mut ledger).rejudge(black_box(register)));
+                let (nanoseconds, r, ledger) = library::rejudge(register, overrides, stale);
                 let check = hash((r.expect("judged anew"), ledger.words()));
                 Timed { nanoseconds, check }
             }
             Some(way) => {
                 let mut ledger = stale.words().to_vec();
-                let (nanoseconds, r) =
-                    time(|| PLAIN[way].1(black_box(register.words()), black_box(&mut ledger)));
+                let (register, overrides) = (register.words(), overrides.words());
+                let (nanoseconds, r) = time(|| {
+                    PLAIN[way].1(
+                        black_box(register),
+                        black_box(overrides),
+                        black_box(&mut ledger),
+                    )
+                });
                 let check = hash((r.expect("judged anew"), &ledger[..]));
                 Timed { nanoseconds, check }
             }
@@ -168,15 +195,34 @@ impl Cases {
     /// The library and plain Rust must answer the same and leave the same words, on the main tables and on damaged ones. Answers how many
     /// were refused, and a hash of all answers and words.
     pub fn compare(&self) -> (usize, u64) {
+        self.compare_on(&self.tables[0], false)
+    }
+
+    /// The same with half of the records overridden, and damaged overrides too. Answers how many were refused.
+    #[cfg(feature = "overrides")]
+    pub fn compare_overrides(&self) -> usize {
+        let half = &self.tables[self.tables.len() - 2];
+        self.compare_on(half, true).0
+    }
+
+    fn compare_on(&self, tables: &Tables, damage_overrides: bool) -> (usize, u64) {
         let Tables {
-            register, stale, ..
-        } = &self.tables[0];
+            register,
+            overrides,
+            stale,
+            ..
+        } = tables;
         let mut random = self.random.clone();
         let (mut refused, mut ends) = (0, DefaultHasher::new());
         for i in 0..=CHANGED {
             let (mut reg, mut ledger) = (register.words().to_vec(), stale.words().to_vec());
+            let mut own = overrides.words().to_vec();
             if i > 0 {
-                let t = if i % 2 == 0 { &mut reg } else { &mut ledger };
+                let t = match i % 2 {
+                    0 if damage_overrides && i % 4 == 0 => &mut own,
+                    0 => &mut reg,
+                    _ => &mut ledger,
+                };
                 // Mostly the slots, some of the bodies, the counters and the end.
                 let at = if i % 5 == 0 {
                     random.below(t.len())
@@ -189,16 +235,21 @@ impl Cases {
                     _ => t[at].wrapping_add(1),
                 };
             }
-            let mut kept = Ledger::from_words(ledger.clone());
-            let answer = kept.rejudge(&Register::from_words(reg.clone()));
-            let answer = answer.map_err(Refusal::number);
+            let stale = Ledger::from_words(ledger.clone());
+            let (public, overrides) = (
+                Register::from_words(reg.clone()),
+                Register::from_words(own.clone()),
+            );
+            let (_, answer, kept) = library::rejudge(&public, &overrides, &stale);
             for (name, rejudge) in PLAIN {
                 let mut ledger = ledger.clone();
                 assert!(
-                    rejudge(&reg, &mut ledger) == answer && ledger == kept.words(),
+                    rejudge(&reg, &own, &mut ledger) == answer && ledger == kept.words(),
                     "the library and {name} differ on changed tables {i}"
                 );
             }
+            #[cfg(feature = "overrides")]
+            library::compare_reads(&public, &overrides, &mut Random(i as u64 + 1));
             (answer, kept.words()).hash(&mut ends);
             refused += answer.is_err() as usize;
         }
@@ -209,7 +260,10 @@ impl Cases {
     /// `compare`, since libraries before that rule answer otherwise. Answers how many lists there are.
     pub fn compare_own_customers(&self) -> usize {
         let Tables {
-            register, stale, ..
+            register,
+            overrides,
+            stale,
+            ..
         } = &self.tables[0];
         let mut start = 2 + RECORD * register.records().count();
         for record in register.records() {
@@ -220,10 +274,12 @@ impl Cases {
             start += list.len();
             for (_, rejudge) in PLAIN {
                 let mut ledger = stale.words().to_vec();
-                assert_eq!(rejudge(&words, &mut ledger), Err(2), "plain Rust");
+                let answer = rejudge(&words, overrides.words(), &mut ledger);
+                assert_eq!(answer, Err(2), "plain Rust");
             }
-            let answer = stale.clone().rejudge(&Register::from_words(words));
-            assert_eq!(answer, Err(Refusal::RegisterMalformed), "the library");
+            let damaged = Register::from_words(words);
+            let (_, answer, _) = library::rejudge(&damaged, overrides, stale);
+            assert_eq!(answer, Err(2), "the library");
         }
         register.records().count()
     }
@@ -232,7 +288,10 @@ impl Cases {
     /// how many paths there are.
     pub fn compare_equal_neighbours(&self) -> usize {
         let Tables {
-            register, stale, ..
+            register,
+            overrides,
+            stale,
+            ..
         } = &self.tables[0];
         let mut start = 2 + ROUTE * stale.routes().count();
         for (i, route) in stale.routes().enumerate() {
@@ -242,10 +301,12 @@ impl Cases {
             start += route.path.len();
             for (_, rejudge) in PLAIN {
                 let mut ledger = words.clone();
-                assert_eq!(rejudge(register.words(), &mut ledger), Err(3), "plain Rust");
+                let answer = rejudge(register.words(), overrides.words(), &mut ledger);
+                assert_eq!(answer, Err(3), "plain Rust");
             }
-            let answer = Ledger::from_words(words).rejudge(register);
-            assert_eq!(answer, Err(Refusal::LedgerMalformed), "the library");
+            let damaged = Ledger::from_words(words);
+            let (_, answer, _) = library::rejudge(register, overrides, &damaged);
+            assert_eq!(answer, Err(3), "the library");
         }
         stale.routes().count()
     }
@@ -263,12 +324,12 @@ impl Cases {
 /// How many damaged tables are compared.
 pub const CHANGED: usize = 4000;
 
-/// The check of a register and of an empty ledger.
+/// The check of a register, of empty overrides and of an empty ledger.
 fn check(register: &Register) -> Timed {
-    let mut none = Ledger::new();
-    let (nanoseconds, r) = time(|| black_box(&mut none).rejudge(black_box(register)));
+    let (overrides, none) = (Register::new(), Ledger::new());
+    let (nanoseconds, r, left) = library::rejudge(register, &overrides, &none);
     assert_eq!(r, Ok(0));
-    let check = hash(none.words());
+    let check = hash(left.words());
     Timed { nanoseconds, check }
 }
 
@@ -280,10 +341,21 @@ fn call(name: &'static str, run: impl Fn(usize) -> Timed + 'static) -> Call {
     }
 }
 
-/// Judges paths of so many numbers, cut into segments of so many.
+/// Judges paths of so many numbers, cut into segments of so many. The overrides are empty.
 fn judge(
     work: &Work,
     register: &Register,
+    role: Role,
+    length: usize,
+    segment: usize,
+) -> impl Fn(usize) -> Timed + 'static {
+    judge_by(work, register, Register::new(), role, length, segment)
+}
+
+fn judge_by(
+    work: &Work,
+    register: &Register,
+    overrides: Register,
     role: Role,
     length: usize,
     segment: usize,
@@ -298,8 +370,7 @@ fn judge(
         .collect();
     move |round| {
         let (neighbour, bytes) = &paths[round % ROUTES];
-        let (nanoseconds, r) =
-            time(|| black_box(&register).judge(role, *neighbour, black_box(bytes)));
+        let (nanoseconds, r) = library::judge(&register, &overrides, role, *neighbour, bytes);
         let check = hash(r.expect("judged"));
         Timed { nanoseconds, check }
     }
@@ -320,6 +391,84 @@ fn calls_on_longest_paths(work: &Work, register: &Register) -> [Call; 3] {
         call(
             "judge, path of 512 in segments of 1, empty register",
             judge(&Register::new(), Role::Customer, 1),
+        ),
+    ]
+}
+
+/// Over two full registers of other customers. A hop and a lookup are of a customer of the first, of one of the second, and of none, in turn.
+#[cfg(feature = "overrides")]
+fn calls_on_overrides(work: &Work, public: Register, overrides: Register) -> Vec<Call> {
+    let asked: Vec<(AsNumber, AsNumber)> = public
+        .records()
+        .zip(overrides.records())
+        .flat_map(|(one, two)| {
+            let none = AsNumber(one.customer.0 ^ 1);
+            let (first, last) = (one.providers[0], two.providers[two.providers.len() - 1]);
+            [(one.customer, first), (two.customer, last), (none, first)]
+        })
+        .collect();
+    let both_ways = |name, library: Run, plain: Run| Call {
+        name,
+        run: library,
+        plain: Some(plain),
+    };
+    let pair = || (public.clone(), overrides.clone(), asked.clone());
+    let hop = {
+        let (public, overrides, asked) = pair();
+        move |round: usize| {
+            let (x, y) = asked[round % asked.len()];
+            let (nanoseconds, r) = time(|| library::hop(&public, black_box(&overrides), x, y));
+            let check = hash(r.expect("a hop"));
+            Timed { nanoseconds, check }
+        }
+    };
+    let plain_hop = {
+        let (public, overrides, asked) = pair();
+        move |round: usize| {
+            let (x, y) = asked[round % asked.len()];
+            let (one, two) = (public.words(), overrides.words());
+            let (nanoseconds, r) =
+                time(|| plain::hop_words(black_box(one), black_box(two), x.0, y.0));
+            let check = hash(r.expect("a hop"));
+            Timed { nanoseconds, check }
+        }
+    };
+    let lookup = {
+        let (public, overrides, asked) = pair();
+        move |round: usize| {
+            let (x, _) = asked[round % asked.len()];
+            let (nanoseconds, list) =
+                time(|| black_box(&public).lookup(black_box(&overrides), 0, x));
+            let list: Vec<u32> = list.iter().map(|number| number.0).collect();
+            let check = hash(list);
+            Timed { nanoseconds, check }
+        }
+    };
+    let plain_lookup = {
+        let (public, overrides, asked) = pair();
+        move |round: usize| {
+            let (x, _) = asked[round % asked.len()];
+            let (one, two) = (public.words(), overrides.words());
+            let (nanoseconds, list) =
+                time(|| plain::lookup(black_box(one), black_box(two), 0, x.0));
+            let check = hash(list.to_vec());
+            Timed { nanoseconds, check }
+        }
+    };
+    vec![
+        call(
+            "judge, path of 5, role 1, both registers full",
+            judge_by(work, &public, overrides.clone(), Role::Customer, 5, 5),
+        ),
+        both_ways(
+            "hop, both registers full",
+            Box::new(hop),
+            Box::new(plain_hop),
+        ),
+        both_ways(
+            "lookup, both registers full",
+            Box::new(lookup),
+            Box::new(plain_lookup),
         ),
     ]
 }

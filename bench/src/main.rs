@@ -2,15 +2,17 @@
 //!
 //! Without `--before` all is timed in this process. With it, the program that is named is this one with another build of the library;
 //! workers are then told what to time.
-#![forbid(unsafe_code)]
+#![cfg_attr(feature = "overrides", forbid(unsafe_code))]
+#![deny(unsafe_code)]
 mod cases;
+mod library;
 mod plain;
 #[cfg(feature = "snapshots")]
 mod snapshots;
 mod work;
 mod workers;
 
-use aspa_filter::{Verdict, MOST_RECORDS};
+use aspa_filter::{KeptVerdict, MOST_RECORDS};
 use cases::{Cases, Timed, What, CHANGED, PLAIN};
 use std::path::PathBuf;
 use work::{PATH, ROUTES};
@@ -178,6 +180,11 @@ fn main() {
         "no ledger with two equal numbers side by side on a path is taken ({} paths)",
         cases.compare_equal_neighbours()
     );
+    #[cfg(feature = "overrides")]
+    println!(
+        "same with half of the records overridden, also on {CHANGED} changed tables ({} refused), and the same hops and lists",
+        cases.compare_overrides()
+    );
     #[cfg(feature = "snapshots")]
     println!(
         "same snapshots, also of {CHANGED} changed tables and of as many changed ones ({} refused)",
@@ -185,18 +192,18 @@ fn main() {
     );
 
     let main = &cases.tables[0];
-    let mut now = main.stale.clone();
-    let changed = now.rejudge(&main.register).expect("judged anew");
+    let (_, changed, now) = library::rejudge(&main.register, &main.overrides, &main.stale);
+    let changed = changed.expect("judged anew");
     let [mut valid, mut invalid, mut unknown] = [0; 3];
     for route in now.routes() {
         *match route.verdict {
-            Verdict::Valid => &mut valid,
-            Verdict::Invalid(_) => &mut invalid,
-            Verdict::Unknown { .. } => &mut unknown,
+            KeptVerdict::Valid => &mut valid,
+            KeptVerdict::Invalid(_) => &mut invalid,
+            KeptVerdict::Unknown { .. } => &mut unknown,
         } += 1;
     }
     println!(
-        "{ROUTES} routes of {PATH}, {MOST_RECORDS} records of 8, {rounds} rounds: {changed} change; \
+        "{ROUTES} routes of {PATH}, {MOST_RECORDS} records of 8, no overrides, {rounds} rounds: {changed} change; \
          then Valid {valid}, Invalid {invalid}, Unknown {unknown}"
     );
     let mut times = time_rejudges(&mut timers, &ways, rounds, 0);

@@ -1,4 +1,5 @@
-//! Re-judging in plain Rust on the same tables: what the proved library is measured against.
+//! Re-judging in plain Rust on the same tables: what the proved library is measured against. Each number is looked up in the overrides first,
+//! and in the public register if it has no record there.
 
 use aspa_filter::{
     GREATEST_SOURCE, LEDGER_WORDS, MOST_PATH, MOST_PATH_WORDS, MOST_PROVIDERS, MOST_PROVIDER_WORDS,
@@ -264,12 +265,44 @@ fn hop(reg: &[u32], position: usize, x: u32, y: u32) -> Hop {
     seen
 }
 
-fn upstream(by: &impl Find, reg: &[u32], path: &[u32]) -> [u32; 3] {
+/// Both registers, and a look-up over each.
+struct Registers<'a, F> {
+    public: &'a [u32],
+    overrides: &'a [u32],
+    in_public: F,
+    in_overrides: F,
+}
+
+impl<'a, F: Find> Registers<'a, F> {
+    fn over(public: &'a [u32], overrides: &'a [u32]) -> Self {
+        Registers {
+            public,
+            overrides,
+            in_public: F::over(public),
+            in_overrides: F::over(overrides),
+        }
+    }
+
+    /// The register that counts for a customer, and the position of its first record there, or where it would stand.
+    #[inline(always)]
+    fn find(&self, customer: u32) -> (&'a [u32], usize) {
+        let reg = self.overrides;
+        let position = self.in_overrides.find(reg, customer);
+        if position < reg[0] as usize && customer_at(reg, position) == customer {
+            (reg, position)
+        } else {
+            (self.public, self.in_public.find(self.public, customer))
+        }
+    }
+}
+
+fn upstream(by: &Registers<impl Find>, path: &[u32]) -> [u32; 3] {
     let n = path.len();
     let mut unattested = 0;
     for u in 2..=n {
         let (x, y) = (path[n + 1 - u], path[n - u]);
-        match hop(reg, by.find(reg, x), x, y) {
+        let (reg, position) = by.find(x);
+        match hop(reg, position, x, y) {
             Hop::NotProvider => return [1, u as u32, 0],
             Hop::NoAttestation if unattested == 0 => unattested = u as u32,
             _ => {}
@@ -282,10 +315,10 @@ fn upstream(by: &impl Find, reg: &[u32], path: &[u32]) -> [u32; 3] {
     }
 }
 
-fn downstream(by: &impl Find, reg: &[u32], path: &[u32]) -> [u32; 3] {
+fn downstream(by: &Registers<impl Find>, path: &[u32]) -> [u32; 3] {
     let n = path.len();
     let (mut u, mut v, mut k, mut l) = (n + 1, 0, 1, 1);
-    let mut position = by.find(reg, path[n - 1]);
+    let (mut reg, mut position) = by.find(path[n - 1]);
     for i in 1..n {
         let (x, y) = (path[n - i], path[n - i - 1]);
         match hop(reg, position, x, y) {
@@ -293,7 +326,7 @@ fn downstream(by: &impl Find, reg: &[u32], path: &[u32]) -> [u32; 3] {
             Hop::NotProvider if u > n => u = i + 1,
             _ => {}
         }
-        position = by.find(reg, y);
+        (reg, position) = by.find(y);
         match hop(reg, position, y, x) {
             Hop::Provider => {}
             Hop::NotProvider => (v, l) = (i, i + 1),
@@ -309,12 +342,12 @@ fn downstream(by: &impl Find, reg: &[u32], path: &[u32]) -> [u32; 3] {
     }
 }
 
-/// Rows 1 to 3 of both tables.
-pub fn check(reg: &[u32], ledger: &[u32]) -> Result<(), u32> {
-    if reg.len() != REGISTER_WORDS || ledger.len() != LEDGER_WORDS {
+/// Rows 1 to 3 of these registers and the ledger.
+pub fn check(registers: &[&[u32]], ledger: &[u32]) -> Result<(), u32> {
+    if registers.iter().any(|reg| reg.len() != REGISTER_WORDS) || ledger.len() != LEDGER_WORDS {
         return Err(1);
     }
-    if !is_register(reg) {
+    if !registers.iter().all(|reg| is_register(reg)) {
         return Err(2);
     }
     if !is_ledger(ledger) {
@@ -323,10 +356,80 @@ pub fn check(reg: &[u32], ledger: &[u32]) -> Result<(), u32> {
     Ok(())
 }
 
+/// Of both registers, where a call is lent no ledger.
+#[cfg(feature = "overrides")]
+fn are_registers(public: &[u32], overrides: &[u32]) -> Result<(), u32> {
+    let both = [public, overrides];
+    if both.iter().any(|reg| reg.len() != REGISTER_WORDS) {
+        return Err(1);
+    }
+    if !both.iter().all(|reg| is_register(reg)) {
+        return Err(2);
+    }
+    Ok(())
+}
+
+/// The records of a customer in the register that counts for it: the register's number, 1 for the public one, its words, and the slots.
+#[cfg(feature = "overrides")]
+fn records<'a>(
+    public: &'a [u32],
+    overrides: &'a [u32],
+    customer: u32,
+) -> (u32, &'a [u32], &'a [[u32; RECORD]]) {
+    let of = |reg: &'a [u32]| {
+        let (slots, _) = reg[2..2 + RECORD * reg[0] as usize].as_chunks::<RECORD>();
+        let from = slots.partition_point(|slot| slot[0] < customer);
+        let count = slots[from..].iter().take_while(|slot| slot[0] == customer);
+        &slots[from..from + count.count()]
+    };
+    match of(overrides) {
+        [] => (1, public, of(public)),
+        own => (2, overrides, own),
+    }
+}
+
+#[cfg(feature = "overrides")]
+fn list_of<'a>(reg: &'a [u32], slot: &[u32; RECORD]) -> &'a [u32] {
+    let from = 2 + reg[0] as usize * RECORD + slot[2] as usize;
+    &reg[from..from + slot[3] as usize]
+}
+
+/// The refusal's number, or what the hop is, its register and its source, as the library's words.
+#[cfg(feature = "overrides")]
+pub fn hop_words(public: &[u32], overrides: &[u32], x: u32, y: u32) -> Result<[u32; 3], u32> {
+    are_registers(public, overrides)?;
+    let (origin, reg, slots) = records(public, overrides, x);
+    if slots.is_empty() {
+        return Ok([0, 0, 8]);
+    }
+    match slots.iter().find(|slot| list_of(reg, slot).contains(&y)) {
+        Some(slot) => Ok([1, origin, slot[1]]),
+        None => Ok([2, origin, 8]),
+    }
+}
+
+/// The list of a source, empty where there is none.
+#[cfg(feature = "overrides")]
+pub fn lookup<'a>(
+    public: &'a [u32],
+    overrides: &'a [u32],
+    source: u32,
+    customer: u32,
+) -> &'a [u32] {
+    if are_registers(public, overrides).is_err() || source > GREATEST_SOURCE || customer == 0 {
+        return &[];
+    }
+    let (_, reg, slots) = records(public, overrides, customer);
+    match slots.iter().find(|slot| slot[1] == source) {
+        Some(slot) => list_of(reg, slot),
+        None => &[],
+    }
+}
+
 /// The refusal's number, or how many entries changed.
-pub fn rejudge<F: Find>(reg: &[u32], ledger: &mut [u32]) -> Result<u32, u32> {
-    check(reg, ledger)?;
-    let by = F::over(reg);
+pub fn rejudge<F: Find>(public: &[u32], overrides: &[u32], ledger: &mut [u32]) -> Result<u32, u32> {
+    check(&[public, overrides], ledger)?;
+    let by = Registers::<F>::over(public, overrides);
     let begin = 2 + ledger[0] as usize * ROUTE;
     let (entries, paths) = ledger.split_at_mut(begin);
     let mut changed = 0;
@@ -337,8 +440,8 @@ pub fn rejudge<F: Find>(reg: &[u32], ledger: &mut [u32]) -> Result<u32, u32> {
         let from = entry[7] as usize;
         let path = &paths[from..from + entry[8] as usize];
         let now = match entry[1] {
-            3 | 6 => downstream(&by, reg, path),
-            _ => upstream(&by, reg, path),
+            3 | 6 => downstream(&by, path),
+            _ => upstream(&by, path),
         };
         if entry[4..7] != now {
             entry[4..7].copy_from_slice(&now);

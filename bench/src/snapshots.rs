@@ -28,7 +28,7 @@ fn get(bytes: &[u8], into: &mut [u32]) {
 
 /// The refusal's number, or the length of the snapshot.
 fn write(reg: &[u32], ledger: &[u32], output: &mut [u8]) -> Result<usize, u32> {
-    check(reg, ledger)?;
+    check(&[reg], ledger)?;
     let (first, second) = (used(reg, RECORD), used(ledger, ROUTE));
     let next = CONTENTS + first;
     let output = output.get_mut(..next + second).ok_or(21u32)?;

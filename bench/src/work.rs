@@ -1,6 +1,7 @@
 //! The tables that are measured, made from the same random numbers in every run.
+use crate::library;
 use aspa_filter::{
-    AsNumber, Ledger, Refusal, Register, Role, RouteNumber, MOST_PATH, MOST_PATH_WORDS, MOST_ROUTES,
+    AsNumber, Ledger, Register, Role, RouteNumber, MOST_PATH, MOST_PATH_WORDS, MOST_ROUTES,
 };
 
 /// xorshift64*.
@@ -235,20 +236,31 @@ pub fn attribute(path: &[u32]) -> Vec<u8> {
     aspa_filter::sequence(&numbers(path)).expect("a path")
 }
 
-/// Routes that were kept before any record was filed.
-fn ledger(paths: &[Vec<u32>]) -> Result<Ledger, Refusal> {
-    let (register, mut ledger) = (Register::new(), Ledger::new());
+/// Routes that were kept before any record was filed. The refusal's number where the library does not take one.
+fn ledger(paths: &[Vec<u32>]) -> Result<Ledger, u32> {
+    let mut ledger = Ledger::new();
     for (route, path) in paths.iter().enumerate() {
-        let (number, neighbour) = (RouteNumber(route as u32), AsNumber(path[0]));
-        ledger.keep(
-            &register,
+        let number = RouteNumber(route as u32);
+        library::keep(
+            &mut ledger,
             number,
             role_of(route),
-            neighbour,
+            path[0],
             &attribute(path),
         )?;
     }
     Ok(ledger)
+}
+
+/// Every `step`th record of a register, with its list, in a register of its own.
+#[cfg(feature = "overrides")]
+pub fn every(register: &Register, step: usize) -> Register {
+    let mut own = Register::new();
+    for record in register.records().step_by(step) {
+        own.file(record.source, record.customer, record.providers)
+            .expect("filed");
+    }
+    own
 }
 
 impl Work {
@@ -288,7 +300,8 @@ impl Work {
         let firsts = (0..MOST_PATH_WORDS / MOST_PATH).map(|route| route * MOST_PATH / PATH);
         let paths: Vec<Vec<u32>> = firsts.map(|first| self.joined(first, MOST_PATH)).collect();
         match ledger(&paths) {
-            Err(Refusal::AttributeLength) => None,
+            // The attribute has too many bytes.
+            Err(11) => None,
             ledger => Some(ledger.expect("kept")),
         }
     }

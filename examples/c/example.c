@@ -1,6 +1,7 @@
 /*
  * Files records from two sources, judges and keeps routes, and judges them again as records come and go. Then writes a
- * snapshot of both tables and reads it back.
+ * snapshot of the public register and the ledger and reads it back. Last, a public record is wrong, and an override of
+ * the operator's own takes its place.
  */
 #include <inttypes.h>
 #include <stdint.h>
@@ -10,7 +11,11 @@
 #include "aspa_filter.h"
 
 static uint32_t reg[ASPA_REGISTER_WORDS];
+static uint32_t overrides[ASPA_REGISTER_WORDS];
 static uint32_t ledger[ASPA_LEDGER_WORDS];
+
+/* Both registers, as every call that judges is lent them. */
+#define REGISTERS reg, ASPA_REGISTER_WORDS, overrides, ASPA_REGISTER_WORDS
 
 /* A segment's count is one byte. */
 #define MOST_IN_SEGMENT 255
@@ -68,15 +73,20 @@ static void print_answer(const char *call, aspa_answer answer) {
         printf(", ground %" PRIu32, answer.ground);
     else if (answer.verdict != ASPA_VALID)
         printf(" %" PRIu32 ", %" PRIu32, answer.place_a, answer.place_b);
+    if (answer.origin_a != ASPA_ORIGIN_NONE)
+        printf(" by %s", aspa_origin_name(answer.origin_a));
+    if (answer.origin_b != ASPA_ORIGIN_NONE)
+        printf(" and %s", aspa_origin_name(answer.origin_b));
     if (answer.has_gap)
         printf(", gap %" PRId32, answer.gap);
     printf("\n");
 }
 
-static void file(uint32_t source, uint32_t customer, const uint32_t *providers, size_t n) {
+/* Into the register that is meant. */
+static void file(uint32_t *into, uint32_t source, uint32_t customer, const uint32_t *providers, size_t n) {
     uint32_t out[1];
-    uint32_t refusal = aspa_file(reg, ASPA_REGISTER_WORDS, source, customer, providers, n, out);
-    printf("file source %" PRIu32 " customer %" PRIu32 ": ", source, customer);
+    uint32_t refusal = aspa_file(into, ASPA_REGISTER_WORDS, source, customer, providers, n, out);
+    printf("%s source %" PRIu32 " customer %" PRIu32 ": ", into == reg ? "file" : "override", source, customer);
     if (refusal != ASPA_OK)
         print_refusal(refusal);
     else
@@ -90,7 +100,7 @@ static void judge(uint32_t role, const uint32_t *path, size_t n) {
         printf("judge: %zu numbers make no attribute\n", n);
         return;
     }
-    print_answer("judge", aspa_judge_route(reg, ASPA_REGISTER_WORDS, role, path[0], a.bytes, a.length));
+    print_answer("judge", aspa_judge_route(REGISTERS, role, path[0], a.bytes, a.length));
 }
 
 static void keep(uint32_t route, uint32_t role, const uint32_t *path, size_t n) {
@@ -99,12 +109,12 @@ static void keep(uint32_t route, uint32_t role, const uint32_t *path, size_t n) 
         printf("keep: %zu numbers make no attribute\n", n);
         return;
     }
-    print_answer("keep", aspa_keep_route(reg, ASPA_REGISTER_WORDS, ledger, ASPA_LEDGER_WORDS, route, role, path[0], a.bytes, a.length));
+    print_answer("keep", aspa_keep_route(REGISTERS, ledger, ASPA_LEDGER_WORDS, route, role, path[0], a.bytes, a.length));
 }
 
 static void rejudge(void) {
     uint32_t out[1];
-    uint32_t refusal = aspa_rejudge(reg, ASPA_REGISTER_WORDS, ledger, ASPA_LEDGER_WORDS, out);
+    uint32_t refusal = aspa_rejudge(REGISTERS, ledger, ASPA_LEDGER_WORDS, out);
     if (refusal != ASPA_OK) {
         print_result("rejudge", refusal);
         return;
@@ -126,6 +136,31 @@ static void clear(uint32_t source) {
         printf("clear: %" PRIu32 " went\n", out[0]);
 }
 
+/* What a hop is, and the lists that say so. */
+static void hop(uint32_t x, uint32_t y) {
+    uint32_t out[ASPA_HOP_WORDS];
+    uint32_t refusal = aspa_hop(REGISTERS, x, y, out);
+    if (refusal != ASPA_OK) {
+        print_result("hop", refusal);
+        return;
+    }
+    printf("hop %" PRIu32 " to %" PRIu32 ": %s", x, y, aspa_hop_name(out[ASPA_HOP_KIND]));
+    if (out[ASPA_HOP_ORIGIN] != ASPA_ORIGIN_NONE)
+        printf(" by %s", aspa_origin_name(out[ASPA_HOP_ORIGIN]));
+    if (out[ASPA_HOP_SOURCE] != ASPA_NO_SOURCE)
+        printf(", source %" PRIu32, out[ASPA_HOP_SOURCE]);
+    printf("\n");
+    for (uint32_t source = 0; source <= ASPA_GREATEST_SOURCE; source++) {
+        aspa_list list = aspa_list_of(REGISTERS, source, x);
+        if (list.count == 0)
+            continue;
+        printf("  source %" PRIu32 ":", source);
+        for (size_t i = 0; i < list.count; i++)
+            printf(" %" PRIu32, list.providers[i]);
+        printf("\n");
+    }
+}
+
 /* Both tables as one file, and back into tables that start empty. A program would store the first `length` bytes. */
 static void save_and_restore(void) {
     static uint8_t file[ASPA_SNAPSHOT_BYTES];
@@ -145,7 +180,7 @@ static void save_and_restore(void) {
 
 int main(void) {
     static const uint32_t of_10[] = {20, 30}, of_20[] = {40}, of_20_too[] = {50}, of_40[] = {0}, of_50[] = {40};
-    static const uint32_t of_60[] = {50, 60};
+    static const uint32_t of_60[] = {50, 60}, wrong[] = {30}, right[] = {20};
     static const uint32_t up[] = {50, 20, 10}, peak[] = {20, 10, 30}, over[] = {50, 40, 20, 10};
     static const uint8_t cut[] = {2};
     static uint32_t many[ASPA_MOST_PATH + 1];
@@ -153,13 +188,13 @@ int main(void) {
         many[i] = 1000 + i;
 
     printf("ASPA filter %s\n", ASPA_FILTER_VERSION);
-    file(0, 10, of_10, 2);
-    file(0, 20, of_20, 1);
-    file(0, 40, of_40, 1);
-    file(0, 50, of_50, 1);
-    file(0, 60, NULL, 0);
+    file(reg, 0, 10, of_10, 2);
+    file(reg, 0, 20, of_20, 1);
+    file(reg, 0, 40, of_40, 1);
+    file(reg, 0, 50, of_50, 1);
+    file(reg, 0, 60, NULL, 0);
     /* Nobody is a provider of its own. */
-    file(0, 60, of_60, 2);
+    file(reg, 0, 60, of_60, 2);
 
     judge(ASPA_ROLE_CUSTOMER, up, 3);
     judge(ASPA_ROLE_PROVIDER, peak, 3);
@@ -168,8 +203,8 @@ int main(void) {
     judge(ASPA_ROLE_CUSTOMER, many, ASPA_MOST_PATH);
     judge(ASPA_ROLE_CUSTOMER, many, ASPA_MOST_PATH + 1);
     judge(ASPA_ROLE_CUSTOMER, many, 0);
-    print_answer("judge", aspa_judge_route(reg, ASPA_REGISTER_WORDS, ASPA_ROLE_CUSTOMER, 20, cut, sizeof cut));
-    print_answer("judge", aspa_judge_route(reg, ASPA_REGISTER_WORDS, ASPA_ROLE_CUSTOMER, 20, NULL, 0));
+    print_answer("judge", aspa_judge_route(REGISTERS, ASPA_ROLE_CUSTOMER, 20, cut, sizeof cut));
+    print_answer("judge", aspa_judge_route(REGISTERS, ASPA_ROLE_CUSTOMER, 20, NULL, 0));
 
     keep(1, ASPA_ROLE_CUSTOMER, up, 3);
     keep(2, ASPA_ROLE_PROVIDER, peak, 3);
@@ -178,7 +213,7 @@ int main(void) {
     rejudge();
 
     /* A second source attests another provider of 20: the lists of both are united. */
-    file(1, 20, of_20_too, 1);
+    file(reg, 1, 20, of_20_too, 1);
     rejudge();
 
     print_result("withdraw", aspa_withdraw(reg, ASPA_REGISTER_WORDS, 0, 10));
@@ -195,5 +230,17 @@ int main(void) {
     save_and_restore();
     /* The stored verdicts are as old as the file. */
     rejudge();
+
+    /* The public record of 10 names 30 alone. The operator knows better: its provider is 20. */
+    file(reg, 0, 10, wrong, 1);
+    judge(ASPA_ROLE_CUSTOMER, up, 3);
+    hop(10, 20);
+    file(overrides, 0, 10, right, 1);
+    judge(ASPA_ROLE_CUSTOMER, up, 3);
+    hop(10, 20);
+    rejudge();
+    /* An override goes, and the public record counts again. */
+    print_result("withdraw override", aspa_withdraw(overrides, ASPA_REGISTER_WORDS, 0, 10));
+    judge(ASPA_ROLE_CUSTOMER, up, 3);
     return 0;
 }

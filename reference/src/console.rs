@@ -1,9 +1,9 @@
 //! The console's commands: one line in, one answer out.
 
 use crate::attributes::hex;
-use crate::judge::{Cause, Judgement, Verdict};
+use crate::judge::{Cause, Hop, Judgement, Named, Side, Verdict};
 use crate::words::Form;
-use crate::{AsNumber, Filed, Model, Refusal, RouteNumber, Table};
+use crate::{AsNumber, Filed, Model, Records, Refusal, RouteNumber, Table};
 
 /// In bytes, the newline not counted.
 pub const LONGEST_LINE: usize = 262_144;
@@ -28,18 +28,30 @@ pub fn answer(model: &mut Model, line: &[u8]) -> String {
 /// None for what is no command.
 fn run(model: &mut Model, words: &[&str]) -> Option<String> {
     let answer = match words {
-        ["file", source, customer, list @ ..] => {
+        ["file" | "dfile", source, customer, list @ ..] => {
             let (source, customer) = (number(source)?, as_number(customer)?);
             let list: Option<Vec<AsNumber>> = list.iter().map(|w| as_number(w)).collect();
-            model.file(source, customer, &list?).map(|filed| match filed {
+            register(model, words[0]).file(source, customer, &list?).map(|filed| match filed {
                 Filed::New => "new".to_string(),
                 Filed::Replaced => "replaced".to_string(),
             })
         }
-        ["withdraw", source, customer] => {
-            model.withdraw(number(source)?, as_number(customer)?).map(done)
+        ["withdraw" | "dwithdraw", source, customer] => {
+            let (source, customer) = (number(source)?, as_number(customer)?);
+            register(model, words[0]).withdraw(source, customer).map(done)
         }
-        ["clear", source] => model.clear(number(source)?).map(|n| format!("cleared {n}")),
+        ["clear" | "dclear", source] => {
+            let source = number(source)?;
+            register(model, words[0]).clear(source).map(|n| format!("cleared {n}"))
+        }
+        ["lookup", customer, source] => {
+            let list = model.lookup(as_number(customer)?, number(source)?);
+            Ok(list.iter().fold("list".to_string(), |line, n| format!("{line} {}", n.0)))
+        }
+        ["hop", x, y] => {
+            let asked = |word: &str| as_number(word).filter(|number| number.0 > 0);
+            model.hop(asked(x)?, asked(y)?).map(hopped)
+        }
         ["judge", role, neighbour, hex] => {
             model.judge(number(role)?, as_number(neighbour)?, &bytes(hex)?).map(judged)
         }
@@ -57,11 +69,13 @@ fn run(model: &mut Model, words: &[&str]) -> Option<String> {
         }
         ["read", hex] => model.read(&bytes(hex)?).map(done),
         ["register"] => Ok(joined(&model.register.used_words())),
+        ["drawer"] => Ok(joined(&model.overrides.used_words())),
         ["ledger"] => Ok(joined(&model.ledger.used_words())),
         ["poke", table, index, value] => {
             let (index, value) = (number(index)? as usize, number(value)?);
             let inside = match *table {
                 "register" => model.register.poke(index, value),
+                "drawer" => model.overrides.poke(index, value),
                 "ledger" => model.ledger.poke(index, value),
                 _ => return None,
             };
@@ -74,12 +88,14 @@ fn run(model: &mut Model, words: &[&str]) -> Option<String> {
             let length = number(length).filter(|length| *length <= LONGEST_TABLE)? as usize;
             match *table {
                 "register" => model.register.resize(length),
+                "drawer" => model.overrides.resize(length),
                 "ledger" => model.ledger.resize(length),
                 _ => return None,
             }
             Ok(DONE.to_string())
         }
         ["words", "register"] => Ok(all_words(&model.register)),
+        ["words", "drawer"] => Ok(all_words(&model.overrides)),
         ["words", "ledger"] => Ok(all_words(&model.ledger)),
         ["empty"] => {
             *model = Model::new();
@@ -88,6 +104,14 @@ fn run(model: &mut Model, words: &[&str]) -> Option<String> {
         _ => return None,
     };
     Some(answer.unwrap_or_else(refused))
+}
+
+/// What a command works on: with a d before it, the overrides.
+fn register<'a>(model: &'a mut Model, command: &str) -> &'a mut Table<Records> {
+    match command {
+        "dfile" | "dwithdraw" | "dclear" => &mut model.overrides,
+        _ => &mut model.register,
+    }
 }
 
 /// Decimal, without sign or leading zeros, below 2^32.
@@ -127,12 +151,33 @@ fn judged(judgement: Judgement) -> String {
     let verdict = match judgement.verdict {
         Verdict::Valid => "Valid".to_string(),
         Verdict::Invalid(Cause::Ground(ground)) => format!("Invalid ground {}", ground as u32),
-        Verdict::Invalid(Cause::Hops { a, b }) => format!("Invalid {a} {b}"),
+        Verdict::Invalid(Cause::Hops { a, b }) => {
+            let (place, other) = match b {
+                Some(Named { place, side: other }) => (place, side(other)),
+                None => (0, "-"),
+            };
+            format!("Invalid {} {place} {} {other}", a.place, side(a.side))
+        }
         Verdict::Unknown { a, b } => format!("Unknown {a} {b}"),
     };
     match judgement.gap {
         Some(gap) => format!("{verdict} gap {gap}"),
         None => verdict,
+    }
+}
+
+fn side(side: Side) -> &'static str {
+    match side {
+        Side::Overrides => "drawer",
+        Side::Public => "public",
+    }
+}
+
+fn hopped(hop: Hop) -> String {
+    match hop {
+        Hop::NoAttestation => "none".to_string(),
+        Hop::Provider { side: of, source } => format!("provider {} {source}", side(of)),
+        Hop::NotProvider { side: of } => format!("other {}", side(of)),
     }
 }
 

@@ -2,6 +2,13 @@
 
 use crate::{AsNumber, Records, Refusal, GREATEST_SOURCE, LONGEST_ATTRIBUTE, LONGEST_PATH};
 
+/// Which register counts for a customer.
+#[derive(Clone, Copy, PartialEq, Eq, PartialOrd, Ord, Debug)]
+pub enum Side {
+    Overrides,
+    Public,
+}
+
 #[derive(Clone, Copy, PartialEq, Eq, Debug)]
 pub enum Ground {
     Empty = 1,
@@ -10,10 +17,21 @@ pub enum Ground {
     AsSet = 3,
 }
 
+/// A hop that an Invalid names: its place, and the side of its customer.
+#[derive(Clone, Copy, PartialEq, Eq, Debug)]
+pub struct Named {
+    pub place: u32,
+    pub side: Side,
+}
+
 #[derive(Clone, Copy, PartialEq, Eq, Debug)]
 pub enum Cause {
     Ground(Ground),
-    Hops { a: u32, b: u32 },
+    /// Upstream only one hop is named.
+    Hops {
+        a: Named,
+        b: Option<Named>,
+    },
 }
 
 #[derive(Clone, Copy, PartialEq, Eq, Debug)]
@@ -29,7 +47,7 @@ impl Verdict {
         match self {
             Verdict::Valid => (0, 0, 0),
             Verdict::Invalid(Cause::Ground(_)) => (1, 0, 0),
-            Verdict::Invalid(Cause::Hops { a, b }) => (1, a, b),
+            Verdict::Invalid(Cause::Hops { a, b }) => (1, a.place, b.map_or(0, |b| b.place)),
             Verdict::Unknown { a, b } => (2, a, b),
         }
     }
@@ -71,7 +89,7 @@ pub fn is_downstream(role: u32) -> bool {
 
 /// Rows 9 to 17, then the judgement with the path that a ledger stores.
 pub fn judge(
-    records: &Records,
+    registers: Registers,
     role: u32,
     neighbour: AsNumber,
     attribute: &[u8],
@@ -95,7 +113,7 @@ pub fn judge(
     if path.len() > LONGEST_PATH {
         return Err(Refusal::row(17));
     }
-    let (verdict, gap) = verdict(role, &path, |x, y| hop(records, x, y));
+    let (verdict, gap) = verdict(role, &path, |x, y| registers.hop(x, y));
     Ok((Judgement { verdict, gap }, path))
 }
 
@@ -163,20 +181,71 @@ pub fn merged(segments: &[Segment]) -> Vec<AsNumber> {
 #[derive(Clone, Copy, PartialEq, Eq, Debug)]
 pub enum Hop {
     NoAttestation,
-    Provider,
-    NotProvider,
+    /// With the lowest source that lists the provider.
+    Provider {
+        side: Side,
+        source: u32,
+    },
+    NotProvider {
+        side: Side,
+    },
 }
 
-/// Over the united lists of all sources.
-pub fn hop(records: &Records, x: AsNumber, y: AsNumber) -> Hop {
-    let mut lists = records.range((x, 0)..=(x, GREATEST_SOURCE)).map(|(_, list)| list).peekable();
-    if lists.peek().is_none() {
-        return Hop::NoAttestation;
+impl Hop {
+    fn is_provider(self) -> bool {
+        matches!(self, Hop::Provider { .. })
     }
-    if lists.any(|list| list.contains(&y)) {
-        Hop::Provider
-    } else {
-        Hop::NotProvider
+
+    /// If it is Not Provider+, as the one named at a place.
+    fn named(self, place: usize) -> Option<Named> {
+        match self {
+            Hop::NotProvider { side } => Some(Named { place: place as u32, side }),
+            _ => None,
+        }
+    }
+}
+
+/// The two registers that verdicts read. For each customer one of them counts,
+/// the other is not looked at.
+#[derive(Clone, Copy, Debug)]
+pub struct Registers<'a> {
+    pub overrides: &'a Records,
+    pub public: &'a Records,
+}
+
+impl<'a> Registers<'a> {
+    /// The lists by source of the register that counts: the overrides if they hold
+    /// any record of the customer.
+    fn lists(self, customer: AsNumber) -> (Side, Vec<(u32, &'a [AsNumber])>) {
+        let of = |records: &'a Records| -> Vec<(u32, &'a [AsNumber])> {
+            let records = records.range((customer, 0)..=(customer, GREATEST_SOURCE));
+            records.map(|((_, source), list)| (*source, &list[..])).collect()
+        };
+        let overrides = of(self.overrides);
+        if overrides.is_empty() {
+            (Side::Public, of(self.public))
+        } else {
+            (Side::Overrides, overrides)
+        }
+    }
+
+    /// Over the united lists of all sources.
+    pub fn hop(self, x: AsNumber, y: AsNumber) -> Hop {
+        let (side, lists) = self.lists(x);
+        if lists.is_empty() {
+            return Hop::NoAttestation;
+        }
+        // Sources ascend, so the first that lists it is the lowest.
+        match lists.iter().find(|(_, list)| list.contains(&y)) {
+            Some((source, _)) => Hop::Provider { side, source: *source },
+            None => Hop::NotProvider { side },
+        }
+    }
+
+    /// The list that a source has in the register that counts for the customer.
+    pub fn list(self, customer: AsNumber, source: u32) -> Option<&'a [AsNumber]> {
+        let (_, lists) = self.lists(customer);
+        lists.into_iter().find(|(s, _)| *s == source).map(|(_, list)| list)
     }
 }
 
@@ -199,11 +268,11 @@ fn upstream(path: &[AsNumber], hop: impl Fn(AsNumber, AsNumber) -> Hop) -> Verdi
     let n = path.len();
     // AS(1) is the origin, at the right end.
     let number = |i: usize| path[n - i];
-    let lowest = |kind: Hop| (2..=n).find(|&u| hop(number(u - 1), number(u)) == kind);
-    if let Some(u) = lowest(Hop::NotProvider) {
-        return Verdict::Invalid(Cause::Hops { a: u as u32, b: 0 });
+    let up = |u: usize| hop(number(u - 1), number(u));
+    if let Some(a) = (2..=n).find_map(|u| up(u).named(u)) {
+        return Verdict::Invalid(Cause::Hops { a, b: None });
     }
-    if let Some(u) = lowest(Hop::NoAttestation) {
+    if let Some(u) = (2..=n).find(|&u| up(u) == Hop::NoAttestation) {
         return Verdict::Unknown { a: u as u32, b: 0 };
     }
     Verdict::Valid
@@ -214,31 +283,37 @@ fn downstream(path: &[AsNumber], hop: impl Fn(AsNumber, AsNumber) -> Hop) -> (Ve
     let number = |i: usize| path[n - i];
     let up = |i: usize| hop(number(i - 1), number(i));
     let down = |i: usize| hop(number(i + 1), number(i));
-    let u = (2..=n).find(|&u| up(u) == Hop::NotProvider).unwrap_or(n + 1);
-    let v = (1..n).rev().find(|&v| down(v) == Hop::NotProvider).unwrap_or(0);
+    let first = (2..=n).find_map(|u| up(u).named(u));
+    let last = (1..n).rev().find_map(|v| down(v).named(v));
     let mut k = 1;
-    while k < n && up(k + 1) == Hop::Provider {
+    while k < n && up(k + 1).is_provider() {
         k += 1;
     }
     let mut l = n;
-    while l > 1 && down(l - 1) == Hop::Provider {
+    while l > 1 && down(l - 1).is_provider() {
         l -= 1;
     }
     // Negative where the ramps overlap.
     let gap = l as i32 - k as i32;
-    let verdict = if u <= v {
-        Verdict::Invalid(Cause::Hops { a: u as u32, b: v as u32 })
-    } else if gap <= 1 {
-        Verdict::Valid
-    } else {
-        Verdict::Unknown { a: k as u32, b: l as u32 }
+    let verdict = match (first, last) {
+        (Some(a), Some(b)) if a.place <= b.place => Verdict::Invalid(Cause::Hops { a, b: Some(b) }),
+        _ if gap <= 1 => Verdict::Valid,
+        _ => Verdict::Unknown { a: k as u32, b: l as u32 },
     };
     (verdict, gap)
 }
 
 /// The same judgements by trying every index, to compare with.
 pub mod slow {
-    use super::{is_downstream, AsNumber, Hop};
+    use super::{is_downstream, AsNumber, Hop, Side};
+
+    /// A hop without its side and source.
+    #[derive(Clone, Copy, PartialEq, Eq)]
+    enum Kind {
+        None,
+        Provider,
+        Other,
+    }
 
     struct Path<'a, F> {
         numbers: &'a [AsNumber],
@@ -256,15 +331,23 @@ pub mod slow {
             (self.hop)(number(from), number(to))
         }
 
+        fn kind(&self, from: usize, to: usize) -> Kind {
+            match self.hop(from, to) {
+                Hop::NoAttestation => Kind::None,
+                Hop::Provider { .. } => Kind::Provider,
+                Hop::NotProvider { .. } => Kind::Other,
+            }
+        }
+
         /// Is there a legitimate shape, if each unattested hop is taken as given?
         /// Upstream: every hop climbs. Downstream: up to some AS(k) every hop
         /// climbs, AS(k) to AS(k+1) is free, from there on every hop descends.
         fn admitted(&self, downstream: bool, unattested: bool) -> bool {
             let n = self.n();
-            let yes = |from, to| match self.hop(from, to) {
-                Hop::Provider => true,
-                Hop::NotProvider => false,
-                Hop::NoAttestation => unattested,
+            let yes = |from, to| match self.kind(from, to) {
+                Kind::Provider => true,
+                Kind::Other => false,
+                Kind::None => unattested,
             };
             let climbs = |k: usize| (1..k).all(|i| yes(i, i + 1));
             if downstream {
@@ -286,27 +369,27 @@ pub mod slow {
         }
 
         /// Lowest u of 2..N whose upward hop is of a kind, or N + 1.
-        fn lowest_up(&self, kind: Hop) -> usize {
+        fn lowest_up(&self, kind: Kind) -> usize {
             let n = self.n();
-            let is = |u: usize| self.hop(u - 1, u) == kind;
+            let is = |u: usize| self.kind(u - 1, u) == kind;
             self.one(2..=n + 1, |u| (u == n + 1 || is(u)) && (2..u).all(|w| !is(w)))
         }
 
         /// Highest v of 1..N-1 whose downward hop is Not Provider+, or 0.
         fn highest_down(&self) -> usize {
             let n = self.n();
-            let is = |v: usize| self.hop(v + 1, v) == Hop::NotProvider;
+            let is = |v: usize| self.kind(v + 1, v) == Kind::Other;
             self.one(0..=n - 1, |v| (v == 0 || is(v)) && (v + 1..n).all(|w| !is(w)))
         }
 
         fn apex_up(&self) -> usize {
-            let reached = |k: usize| (2..=k).all(|i| self.hop(i - 1, i) == Hop::Provider);
+            let reached = |k: usize| (2..=k).all(|i| self.kind(i - 1, i) == Kind::Provider);
             (1..=self.n()).filter(|k| reached(*k)).max().expect("AS(1) is reached")
         }
 
         fn apex_down(&self) -> usize {
             let n = self.n();
-            let reached = |l: usize| (l..n).all(|j| self.hop(j + 1, j) == Hop::Provider);
+            let reached = |l: usize| (l..n).all(|j| self.kind(j + 1, j) == Kind::Provider);
             (1..=n).filter(|l| reached(*l)).min().expect("AS(N) is reached")
         }
     }
@@ -333,7 +416,7 @@ pub mod slow {
             if n <= 2 {
                 return 0;
             }
-            if path.lowest_up(Hop::NotProvider) <= path.highest_down() {
+            if path.lowest_up(Kind::Other) <= path.highest_down() {
                 return 1;
             }
             if path.apex_down() <= path.apex_up() + 1 {
@@ -345,10 +428,10 @@ pub mod slow {
             if n == 1 {
                 return 0;
             }
-            if (2..=n).any(|i| path.hop(i - 1, i) == Hop::NotProvider) {
+            if (2..=n).any(|i| path.kind(i - 1, i) == Kind::Other) {
                 return 1;
             }
-            if (2..=n).any(|i| path.hop(i - 1, i) == Hop::NoAttestation) {
+            if (2..=n).any(|i| path.kind(i - 1, i) == Kind::None) {
                 return 2;
             }
             0
@@ -368,16 +451,33 @@ pub mod slow {
             let gap = Some(l as i32 - k as i32);
             match word {
                 0 => (0, 0, gap),
-                1 => (path.lowest_up(Hop::NotProvider), path.highest_down(), gap),
+                1 => (path.lowest_up(Kind::Other), path.highest_down(), gap),
                 _ => (k, l, gap),
             }
         } else {
             match word {
                 0 => (0, 0, None),
-                1 => (path.lowest_up(Hop::NotProvider), 0, None),
-                _ => (path.lowest_up(Hop::NoAttestation), 0, None),
+                1 => (path.lowest_up(Kind::Other), 0, None),
+                _ => (path.lowest_up(Kind::None), 0, None),
             }
         };
         (a as u32, b as u32, gap)
+    }
+
+    /// The sides of the hops that an Invalid with these places names, each by its own
+    /// customer: AS(a - 1) and AS(b + 1).
+    pub fn sides(
+        a: u32,
+        b: u32,
+        numbers: &[AsNumber],
+        hop: impl Fn(AsNumber, AsNumber) -> Hop,
+    ) -> (Option<Side>, Option<Side>) {
+        let path = Path { numbers, hop };
+        let side = |hop: Hop| match hop {
+            Hop::NoAttestation => None,
+            Hop::Provider { side, .. } | Hop::NotProvider { side } => Some(side),
+        };
+        let (a, b) = (a as usize, b as usize);
+        (side(path.hop(a - 1, a)), if b > 0 { side(path.hop(b + 1, b)) } else { None })
     }
 }

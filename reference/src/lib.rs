@@ -14,7 +14,7 @@ pub mod samples;
 pub mod snapshot;
 pub mod words;
 
-use judge::Judgement;
+use judge::{Hop, Judgement, Registers};
 use words::Form;
 
 #[derive(Clone, Copy, PartialEq, Eq, PartialOrd, Ord, Debug)]
@@ -164,32 +164,16 @@ impl<T: Form> Table<T> {
     }
 }
 
-/// The register, the ledger and the calls on them.
-#[derive(Clone, Debug)]
-pub struct Model {
-    pub register: Table<Records>,
-    pub ledger: Table<Routes>,
-}
-
-impl Default for Model {
-    fn default() -> Model {
-        Model::new()
-    }
-}
-
-impl Model {
-    pub fn new() -> Model {
-        Model { register: Table::empty(), ledger: Table::empty() }
-    }
-
+/// The calls on one register, which are lent no other table.
+impl Table<Records> {
     pub fn file(
         &mut self,
         source: u32,
         customer: AsNumber,
         list: &[AsNumber],
     ) -> Result<Filed, Refusal> {
-        self.register.check_length()?;
-        let records = self.register.open()?;
+        self.check_length()?;
+        let records = self.open()?;
         check_source(source)?;
         check_customer(customer)?;
         check_list(customer, list)?;
@@ -207,8 +191,8 @@ impl Model {
     }
 
     pub fn withdraw(&mut self, source: u32, customer: AsNumber) -> Result<(), Refusal> {
-        self.register.check_length()?;
-        let records = self.register.open()?;
+        self.check_length()?;
+        let records = self.open()?;
         check_source(source)?;
         check_customer(customer)?;
         match records.remove(&(customer, source)) {
@@ -219,12 +203,63 @@ impl Model {
 
     /// Answers how many records went.
     pub fn clear(&mut self, source: u32) -> Result<usize, Refusal> {
-        self.register.check_length()?;
-        let records = self.register.open()?;
+        self.check_length()?;
+        let records = self.open()?;
         check_source(source)?;
         let before = records.len();
         records.retain(|(_, s), _| *s != source);
         Ok(before - records.len())
+    }
+}
+
+/// The tables and the calls on more than one of them.
+#[derive(Clone, Debug)]
+pub struct Model {
+    /// The public register.
+    pub register: Table<Records>,
+    /// The operator's own register ("drawer").
+    pub overrides: Table<Records>,
+    pub ledger: Table<Routes>,
+}
+
+impl Default for Model {
+    fn default() -> Model {
+        Model::new()
+    }
+}
+
+impl Model {
+    pub fn new() -> Model {
+        Model { register: Table::empty(), overrides: Table::empty(), ledger: Table::empty() }
+    }
+
+    /// Row 1 of both registers, then row 2 of either.
+    fn registers(&mut self) -> Result<Registers<'_>, Refusal> {
+        self.register.check_length()?;
+        self.overrides.check_length()?;
+        Ok(Registers { public: self.register.open()?, overrides: self.overrides.open()? })
+    }
+
+    /// Row 1 of the three tables, row 2 of either register, row 3.
+    fn registers_and_ledger(&mut self) -> Result<(Registers<'_>, &mut Routes), Refusal> {
+        self.register.check_length()?;
+        self.overrides.check_length()?;
+        self.ledger.check_length()?;
+        let (public, overrides) = (self.register.open()?, self.overrides.open()?);
+        Ok((Registers { public, overrides }, self.ledger.open()?))
+    }
+
+    pub fn hop(&mut self, x: AsNumber, y: AsNumber) -> Result<Hop, Refusal> {
+        Ok(self.registers()?.hop(x, y))
+    }
+
+    /// Empty also where rows 1, 2, 4 or 5 apply.
+    pub fn lookup(&mut self, customer: AsNumber, source: u32) -> &[AsNumber] {
+        let asked = check_source(source).and_then(|()| check_customer(customer));
+        match (self.registers(), asked) {
+            (Ok(registers), Ok(())) => registers.list(customer, source).unwrap_or_default(),
+            _ => &[],
+        }
     }
 
     pub fn judge(
@@ -233,9 +268,8 @@ impl Model {
         neighbour: AsNumber,
         attribute: &[u8],
     ) -> Result<Judgement, Refusal> {
-        self.register.check_length()?;
-        let records = self.register.open()?;
-        let (judgement, _) = judge::judge(records, role, neighbour, attribute)?;
+        let registers = self.registers()?;
+        let (judgement, _) = judge::judge(registers, role, neighbour, attribute)?;
         Ok(judgement)
     }
 
@@ -246,11 +280,8 @@ impl Model {
         neighbour: AsNumber,
         attribute: &[u8],
     ) -> Result<Judgement, Refusal> {
-        self.register.check_length()?;
-        self.ledger.check_length()?;
-        let records = self.register.open()?;
-        let routes = self.ledger.open()?;
-        let (judgement, path) = judge::judge(records, role, neighbour, attribute)?;
+        let (registers, routes) = self.registers_and_ledger()?;
+        let (judgement, path) = judge::judge(registers, role, neighbour, attribute)?;
         if routes.contains_key(&route) {
             return Err(Refusal::row(18));
         }
@@ -276,14 +307,10 @@ impl Model {
 
     /// Answers how many entries changed in verdict or places.
     pub fn rejudge(&mut self) -> Result<usize, Refusal> {
-        self.register.check_length()?;
-        self.ledger.check_length()?;
-        let records = self.register.open()?;
-        let routes = self.ledger.open()?;
+        let (registers, routes) = self.registers_and_ledger()?;
         let mut changed = 0;
         for route in routes.values_mut().filter(|r| r.ground == 0) {
-            let (verdict, _) =
-                judge::verdict(route.role, &route.path, |x, y| judge::hop(records, x, y));
+            let (verdict, _) = judge::verdict(route.role, &route.path, |x, y| registers.hop(x, y));
             let after = verdict.words();
             if after != (route.verdict, route.place_a, route.place_b) {
                 (route.verdict, route.place_a, route.place_b) = after;
@@ -293,7 +320,8 @@ impl Model {
         Ok(changed)
     }
 
-    /// Puts the snapshot into the first bytes of `output`; answers its length.
+    /// Puts the snapshot, without the overrides, into the first bytes of `output`;
+    /// answers its length.
     pub fn write(&mut self, output: &mut [u8]) -> Result<usize, Refusal> {
         self.register.check_length()?;
         self.ledger.check_length()?;
@@ -303,7 +331,8 @@ impl Model {
         Ok(file.len())
     }
 
-    /// Takes both tables from a snapshot. Of what they were, only the lengths count.
+    /// Takes register and ledger from a snapshot. Of what they were, only the lengths
+    /// count. The overrides stay.
     pub fn read(&mut self, input: &[u8]) -> Result<(), Refusal> {
         self.register.check_length()?;
         self.ledger.check_length()?;

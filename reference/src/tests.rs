@@ -1,6 +1,6 @@
 use crate::attributes::{cut, hex, overlapping, segment, sequence, sequences, LONGEST_SEGMENT};
 use crate::console::answer;
-use crate::judge::{self, slow, Hop};
+use crate::judge::{self, slow, Cause, Hop, Registers, Side, Verdict};
 use crate::random::Random;
 use crate::samples::{chain, doubled, spread, upto, REGISTER_D, SEAMS};
 use crate::snapshot::{number_at, parts, with};
@@ -36,12 +36,12 @@ fn with_register_d() -> Model {
 const VECTORS: [(&str, u32, u32, &[u32], &str); 12] = [
     ("A", 1, 20, &[20, 10], "Valid"),
     ("B", 1, 40, &[40, 20, 10], "Valid"),
-    ("C", 1, 50, &[50, 20, 10], "Invalid 3 0"),
-    ("D", 2, 30, &[30, 60, 10], "Invalid 2 0"),
+    ("C", 1, 50, &[50, 20, 10], "Invalid 3 0 public -"),
+    ("D", 2, 30, &[30, 60, 10], "Invalid 2 0 public -"),
     ("E", 1, 30, &[30, 60], "Unknown 2 0"),
     ("F", 3, 50, &[50, 40, 20, 10], "Valid gap 0"),
     ("G", 3, 20, &[20, 10, 30], "Unknown 1 3 gap 2"),
-    ("H", 3, 20, &[20, 10, 40], "Invalid 2 2 gap 2"),
+    ("H", 3, 20, &[20, 10, 40], "Invalid 2 2 public public gap 2"),
     ("I", 3, 50, &[50, 20], "Valid gap 1"),
     ("J", 6, 80, &[80, 70], "Valid gap -1"),
     ("K", 1, 30, &[20, 10], "Invalid ground 2"),
@@ -86,14 +86,14 @@ fn vectors_m_to_o() {
         &mut model,
         &[
             ("file 0 30 0", "new"),
-            (&g, "Invalid 2 2 gap 2"),
+            (&g, "Invalid 2 2 public public gap 2"),
             ("withdraw 0 30", "done"),
             (&g, "Unknown 1 3 gap 2"),
             ("file 1 20 50", "new"),
             (&c, "Valid"),
             (&b, "Valid"),
             ("withdraw 1 20", "done"),
-            (&c, "Invalid 3 0"),
+            (&c, "Invalid 3 0 public -"),
             (&format!("judge 1 20 {o}"), "Valid"),
             (&format!("keep 15 1 20 {o}"), "Valid"),
             ("ledger", "1 2 15 1 20 0 0 0 0 0 2 20 10"),
@@ -522,27 +522,42 @@ fn widest_gaps() {
         (&[][..], "Valid", "Valid gap -511", [0, 0, 0]),
         // one ramp or both end before the path does
         (&["file 3 511 510"], "Valid", "Valid gap -510", [0, 0, 0]),
-        (&["file 3 2 3"], "Invalid 512 0", "Valid gap -510", [0, 0, 0]),
-        (&["file 3 511 510", "file 3 2 3"], "Invalid 512 0", "Valid gap -509", [0, 0, 0]),
+        (&["file 3 2 3"], "Invalid 512 0 public -", "Valid gap -510", [0, 0, 0]),
+        (&["file 3 511 510", "file 3 2 3"], "Invalid 512 0 public -", "Valid gap -509", [0, 0, 0]),
         // no providers
-        (&["file 3 2 0"], "Invalid 512 0", "Valid gap 0", [0, 0, 0]),
-        (&["file 3 512 0"], "Invalid 2 0", "Valid gap 0", [0, 0, 0]),
-        (&["file 3 256 0", "file 3 257 0"], "Invalid 257 0", "Valid gap 1", [0, 0, 0]),
+        (&["file 3 2 0"], "Invalid 512 0 public -", "Valid gap 0", [0, 0, 0]),
+        (&["file 3 512 0"], "Invalid 2 0 public -", "Valid gap 0", [0, 0, 0]),
+        (&["file 3 256 0", "file 3 257 0"], "Invalid 257 0 public -", "Valid gap 1", [0, 0, 0]),
         (
             &["file 3 255 0", "file 3 257 0"],
-            "Invalid 257 0",
-            "Invalid 257 257 gap 2",
+            "Invalid 257 0 public -",
+            "Invalid 257 257 public public gap 2",
             [1, 257, 257],
         ),
         (
             &["file 3 256 0", "file 3 258 0"],
-            "Invalid 256 0",
-            "Invalid 256 256 gap 2",
+            "Invalid 256 0 public -",
+            "Invalid 256 256 public public gap 2",
             [1, 256, 256],
         ),
-        (&["file 3 1 0", "file 3 3 0"], "Invalid 511 0", "Invalid 511 511 gap 2", [1, 511, 511]),
-        (&["file 3 510 0", "file 3 512 0"], "Invalid 2 0", "Invalid 2 2 gap 2", [1, 2, 2]),
-        (&["file 3 1 0", "file 3 512 0"], "Invalid 2 0", "Invalid 2 511 gap 511", [1, 2, 511]),
+        (
+            &["file 3 1 0", "file 3 3 0"],
+            "Invalid 511 0 public -",
+            "Invalid 511 511 public public gap 2",
+            [1, 511, 511],
+        ),
+        (
+            &["file 3 510 0", "file 3 512 0"],
+            "Invalid 2 0 public -",
+            "Invalid 2 2 public public gap 2",
+            [1, 2, 2],
+        ),
+        (
+            &["file 3 1 0", "file 3 512 0"],
+            "Invalid 2 0 public -",
+            "Invalid 2 511 public public gap 511",
+            [1, 2, 511],
+        ),
         // no record
         (&["withdraw 3 2"], "Unknown 512 0", "Valid gap 0", [0, 0, 0]),
         (
@@ -1305,7 +1320,9 @@ fn row<T>(result: Result<T, Refusal>) -> u8 {
 }
 
 fn same_words(one: &Model, other: &Model) -> bool {
-    one.register.words() == other.register.words() && one.ledger.words() == other.ledger.words()
+    one.register.words() == other.register.words()
+        && one.overrides.words() == other.overrides.words()
+        && one.ledger.words() == other.ledger.words()
 }
 
 #[test]
@@ -1545,6 +1562,7 @@ fn snapshots_of_random_tables_are_read_back() {
     for _ in 0..300 {
         let mut model = Model {
             register: Table::Held(random_records_of(&mut random, 200, 60, 9)),
+            overrides: Table::Held(random_records_of(&mut random, 9, 60, 9)),
             ledger: Table::Held(random_routes(&mut random)),
         };
         let file = written(&mut model);
@@ -1563,6 +1581,13 @@ fn snapshots_of_random_tables_are_read_back() {
             2 => earlier = Model::new(),
             _ => {}
         }
+        // the overrides stay, of whatever length and words
+        match random.below(4) {
+            0 => earlier.overrides = model.overrides.clone(),
+            1 => earlier.overrides.resize(random.below(13_000)),
+            _ => {}
+        }
+        model.overrides = earlier.overrides.clone();
         assert_eq!(earlier.read(&file), Ok(()));
         assert!(same_words(&earlier, &model));
         assert_eq!(written(&mut earlier), file);
@@ -1574,7 +1599,7 @@ fn a_full_snapshot() {
     let list = |first: u32| (first..first + 8).map(AsNumber).collect::<Vec<_>>();
     let mut model = Model::new();
     for customer in 1..=1_024 {
-        model.file(customer % 8, AsNumber(customer), &list(customer + 1)).unwrap();
+        model.register.file(customer % 8, AsNumber(customer), &list(customer + 1)).unwrap();
     }
     for route in 0..512 {
         let path: Vec<u32> = (route + 1..=route + 16).collect();
@@ -1705,6 +1730,7 @@ fn damaged_snapshots_by_another_way() {
         let mut tables = Model {
             register: Table::Held(random_records_of(&mut random, 6, 6, 4)),
             ledger: Table::Held(random_routes(&mut random)),
+            ..Model::new()
         };
         let mut file = written(&mut tables);
         if random.percent(95) {
@@ -1725,12 +1751,519 @@ fn damaged_snapshots_by_another_way() {
     }
 }
 
+// The overrides
+
+#[test]
+fn overrides_hide_public_records() {
+    let mut model = with_register_d();
+    let register = model.register.words();
+    let b = format!("judge 1 40 {}", in_hex(&[40, 20, 10]));
+    let c = format!("judge 1 50 {}", in_hex(&[50, 20, 10]));
+    let e = format!("judge 1 30 {}", in_hex(&[30, 60]));
+    let g = format!("judge 3 20 {}", in_hex(&[20, 10, 30]));
+    check(
+        &mut model,
+        &[
+            (&b, "Valid"),
+            (&c, "Invalid 3 0 public -"),
+            // 20 has one provider by the overrides, whatever their source
+            ("dfile 7 20 50", "new"),
+            ("drawer", "1 1 20 7 0 1 50"),
+            (&b, "Invalid 3 0 drawer -"),
+            (&c, "Valid"),
+            ("dfile 0 20 40", "new"),
+            ("drawer", "2 2 20 0 0 1 20 7 1 1 40 50"),
+            (&b, "Valid"),
+            (&c, "Valid"),
+            ("dwithdraw 7 20", "done"),
+            (&b, "Valid"),
+            (&c, "Invalid 3 0 drawer -"),
+            // nobody provides
+            ("dfile 0 20 0", "replaced"),
+            (&b, "Invalid 3 0 drawer -"),
+            (&c, "Invalid 3 0 drawer -"),
+            ("dwithdraw 0 20", "done"),
+            ("dwithdraw 0 20", "refused 7"),
+            (&b, "Valid"),
+            (&c, "Invalid 3 0 public -"),
+            // a customer that only the overrides have
+            (&e, "Unknown 2 0"),
+            ("dfile 3 60 30", "new"),
+            (&e, "Valid"),
+            ("dfile 3 60 0", "replaced"),
+            (&e, "Invalid 2 0 drawer -"),
+            ("dclear 3", "cleared 1"),
+            (&e, "Unknown 2 0"),
+            // M by an override
+            (&g, "Unknown 1 3 gap 2"),
+            ("dfile 0 30 0", "new"),
+            (&g, "Invalid 2 2 drawer public gap 2"),
+            ("drawer", "1 1 30 0 0 1 0"),
+            ("words drawer", "12290 1 1 30 0 0 1"),
+        ],
+    );
+    assert_eq!(model.register.words(), register);
+}
+
+#[test]
+fn sides_of_named_hops() {
+    // H: 40 is the first hop's customer, 20 the second's; 10 is provider in both
+    let h = format!("judge 3 20 {}", in_hex(&[20, 10, 40]));
+    let c = format!("judge 2 50 {}", in_hex(&[50, 20, 10]));
+    let mut model = with_register_d();
+    check(
+        &mut model,
+        &[
+            (&h, "Invalid 2 2 public public gap 2"),
+            ("dfile 0 10 20 30", "new"),
+            (&h, "Invalid 2 2 public public gap 2"),
+            ("dfile 0 40 0", "new"),
+            (&h, "Invalid 2 2 drawer public gap 2"),
+            ("dfile 5 20 40", "new"),
+            (&h, "Invalid 2 2 drawer drawer gap 2"),
+            ("dwithdraw 0 40", "done"),
+            (&h, "Invalid 2 2 public drawer gap 2"),
+            (&h.replace("judge 3", "judge 6"), "Invalid 2 2 public drawer gap 2"),
+            (&h.replace("judge 3", "keep 1 3"), "Invalid 2 2 public drawer gap 2"),
+            ("ledger", "1 3 1 3 20 0 1 2 2 0 3 20 10 40"),
+            // one hop upstream, whose customer is 20
+            (&c, "Invalid 3 0 drawer -"),
+            ("dclear 5", "cleared 1"),
+            ("dfile 0 50 40", "new"),
+            (&c, "Invalid 3 0 public -"),
+            (&c.replace("judge 2", "judge 1"), "Invalid 3 0 public -"),
+            ("judge 1 5 -", "Invalid ground 1"),
+        ],
+    );
+    // far apart: AS(1) to AS(4) are 1 to 4, AS(8) to AS(5) are 8 to 5
+    let path = in_hex(&[8, 7, 6, 5, 4, 3, 2, 1]);
+    let mut model = Model::new();
+    for command in ["file 0 1 2", "file 0 2 9", "file 0 8 7", "file 0 7 9"] {
+        check(&mut model, &[(command, "new")]);
+    }
+    for (command, answer, sides) in [
+        ("dfile 0 3 9", "new", "public public"),
+        ("dfile 0 6 9", "new", "public public"),
+        ("dfile 0 2 9", "new", "drawer public"),
+        ("dfile 0 7 9", "new", "drawer drawer"),
+        ("dwithdraw 0 2", "done", "public drawer"),
+    ] {
+        let judged = format!("Invalid 3 6 {sides} gap 5");
+        check(&mut model, &[(command, answer), (&format!("judge 3 8 {path}"), &judged)]);
+    }
+}
+
+#[test]
+fn a_hop_names_the_lowest_source() {
+    run(&[
+        ("hop 10 20", "none"),
+        ("file 2 10 20", "new"),
+        ("hop 10 20", "provider public 2"),
+        // a lower source without 20
+        ("file 0 10 30", "new"),
+        ("hop 10 20", "provider public 2"),
+        ("hop 10 30", "provider public 0"),
+        ("hop 10 40", "other public"),
+        ("file 7 10 20 40", "new"),
+        ("hop 10 20", "provider public 2"),
+        ("hop 10 40", "provider public 7"),
+        ("file 1 10 20 30", "new"),
+        ("hop 10 20", "provider public 1"),
+        ("hop 10 30", "provider public 0"),
+        // only the overrides count, though lower public sources list 20
+        ("dfile 5 10 0", "new"),
+        ("hop 10 20", "other drawer"),
+        ("hop 10 30", "other drawer"),
+        ("dfile 6 10 20", "new"),
+        ("hop 10 20", "provider drawer 6"),
+        ("hop 10 30", "other drawer"),
+        ("dfile 3 10 20 40", "new"),
+        ("hop 10 20", "provider drawer 3"),
+        ("hop 10 40", "provider drawer 3"),
+        ("dclear 3", "cleared 1"),
+        ("hop 10 20", "provider drawer 6"),
+        ("dwithdraw 6 10", "done"),
+        ("hop 10 20", "other drawer"),
+        ("dwithdraw 5 10", "done"),
+        ("hop 10 20", "provider public 1"),
+        // other customers
+        ("hop 20 10", "none"),
+        ("hop 9 20", "none"),
+        ("hop 11 20", "none"),
+        ("dfile 0 9 20", "new"),
+        ("dfile 7 11 20", "new"),
+        ("hop 10 20", "provider public 1"),
+        ("hop 9 20", "provider drawer 0"),
+        ("hop 11 20", "provider drawer 7"),
+        ("hop 10 10", "other public"),
+        ("hop 4294967295 4294967294", "none"),
+        ("dfile 7 4294967295 4294967294", "new"),
+        ("hop 4294967295 4294967294", "provider drawer 7"),
+        ("hop 4294967294 4294967295", "none"),
+        // AS 0 is nobody and can't be asked for
+        ("hop 10 0", "error"),
+        ("hop 0 10", "error"),
+    ]);
+}
+
+#[test]
+fn a_lookup_gives_one_list() {
+    run(&[
+        ("lookup 10 0", "list"),
+        ("file 0 10 20 30", "new"),
+        ("file 2 10 0 40", "new"),
+        ("lookup 10 0", "list 20 30"),
+        ("lookup 10 1", "list"),
+        ("lookup 10 2", "list 0 40"),
+        ("lookup 20 0", "list"),
+        ("lookup 9 0", "list"),
+        ("lookup 11 0", "list"),
+        // rows 4 and 5
+        ("lookup 10 8", "list"),
+        ("lookup 10 4294967295", "list"),
+        ("lookup 0 0", "list"),
+        ("lookup 0 8", "list"),
+        // any override hides the customer's public lists of every source
+        ("dfile 1 10 50", "new"),
+        ("lookup 10 0", "list"),
+        ("lookup 10 1", "list 50"),
+        ("lookup 10 2", "list"),
+        ("dfile 2 10 0", "new"),
+        ("lookup 10 2", "list 0"),
+        ("lookup 10 0", "list"),
+        ("dwithdraw 1 10", "done"),
+        ("lookup 10 1", "list"),
+        ("dclear 2", "cleared 1"),
+        ("lookup 10 0", "list 20 30"),
+        ("lookup 10 2", "list 0 40"),
+        // of a customer beside it
+        ("dfile 0 11 60", "new"),
+        ("lookup 10 0", "list 20 30"),
+        ("lookup 11 0", "list 60"),
+        ("lookup 11 1", "list"),
+        // a bad table gives none, also where the other would answer
+        ("poke drawer 12289 1", "done"),
+        ("lookup 10 0", "list"),
+        ("lookup 11 0", "list"),
+        ("poke drawer 12289 0", "done"),
+        ("poke register 12289 1", "done"),
+        ("lookup 10 0", "list"),
+        ("lookup 11 0", "list"),
+        ("poke register 12289 0", "done"),
+        ("lookup 11 0", "list 60"),
+        ("resize drawer 12291", "done"),
+        ("lookup 10 0", "list"),
+        ("resize drawer 12290", "done"),
+        ("resize register 12289", "done"),
+        ("lookup 11 0", "list"),
+        ("resize register 12290", "done"),
+        ("lookup 10 0", "list 20 30"),
+        // it does not read the ledger
+        ("resize ledger 0", "done"),
+        ("lookup 10 0", "list 20 30"),
+        ("hop 11 60", "provider drawer 0"),
+    ]);
+}
+
+#[test]
+fn the_registers_are_two() {
+    run(&[
+        ("file 2 10 20", "new"),
+        ("dfile 2 10 30", "new"),
+        ("file 2 10 40 50", "replaced"),
+        ("dfile 2 10 60", "replaced"),
+        ("dfile 0 10 70", "new"),
+        ("register", "1 2 10 2 0 2 40 50"),
+        ("drawer", "2 2 10 0 0 1 10 2 1 1 70 60"),
+        ("withdraw 0 10", "refused 7"),
+        ("withdraw 2 10", "done"),
+        ("withdraw 2 10", "refused 7"),
+        ("register", "0 0"),
+        ("drawer", "2 2 10 0 0 1 10 2 1 1 70 60"),
+        ("file 2 10 20", "new"),
+        ("file 2 5 20", "new"),
+        ("dclear 2", "cleared 1"),
+        ("dclear 2", "cleared 0"),
+        ("register", "2 2 5 2 0 1 10 2 1 1 20 20"),
+        ("drawer", "1 1 10 0 0 1 70"),
+        ("dfile 2 10 20", "new"),
+        ("clear 2", "cleared 2"),
+        ("drawer", "2 2 10 0 0 1 10 2 1 1 70 20"),
+        ("clear 0", "cleared 0"),
+        ("dwithdraw 2 10", "done"),
+        ("dwithdraw 1 10", "refused 7"),
+        ("drawer", "1 1 10 0 0 1 70"),
+        ("words drawer", "12290 1 1 10 0 0 1 70"),
+        ("words register", "12290"),
+        // rows 4 to 6 as in the public register
+        ("dfile 8 0", "refused 4"),
+        ("dfile 7 0", "refused 5"),
+        ("dfile 7 1", "refused 6"),
+        ("dfile 7 1 2 2", "refused 6"),
+        ("dfile 7 1 3 2", "refused 6"),
+        ("dfile 7 3 2 3", "refused 6"),
+        ("dwithdraw 8 0", "refused 4"),
+        ("dwithdraw 7 0", "refused 5"),
+        ("dclear 8", "refused 4"),
+        // all three tables
+        ("file 0 1 2", "new"),
+        ("keep 1 1 5 -", "Invalid ground 1"),
+        ("resize drawer 12", "done"),
+        ("words drawer", "12 1 1 10 0 0 1 70"),
+        ("empty", "done"),
+        ("words register", "12290"),
+        ("words drawer", "12290"),
+        ("words ledger", "12802"),
+        ("hop 10 70", "none"),
+    ]);
+}
+
+#[test]
+fn room_in_each_register() {
+    let mut model = Model::new();
+    for customer in 1..=1_024 {
+        let command = format!("dfile {} {customer} 3000", customer % 8);
+        check(&mut model, &[(&command, "new")]);
+    }
+    check(
+        &mut model,
+        &[
+            ("dfile 0 1025 5", "refused 8"),
+            ("dfile 0 1025 1025", "refused 6"),
+            ("file 0 1025 5", "new"),
+            ("dfile 1 1 5 6 7", "replaced"),
+            ("hop 1024 3000", "provider drawer 0"),
+            ("hop 1025 5", "provider public 0"),
+            ("dwithdraw 1 1", "done"),
+            ("dfile 0 1025 5", "new"),
+            ("dfile 1 1 5", "refused 8"),
+            ("file 1 1 5", "new"),
+            ("dclear 3", "cleared 128"),
+            ("dfile 1 1 5", "new"),
+            ("register", "2 2 1 1 0 1 1025 0 1 1 5 5"),
+        ],
+    );
+    let mut model = Model::new();
+    let list = |n: usize| (100..).take(n).map(|i| format!(" {i}")).collect::<String>();
+    for customer in 1..=32 {
+        check(&mut model, &[(&format!("dfile 0 {customer}{}", list(256)), "new")]);
+    }
+    check(
+        &mut model,
+        &[
+            ("dfile 0 33 5", "refused 8"),
+            ("file 0 33 5", "new"),
+            (&format!("file 0 32{}", list(256)), "new"),
+            (&format!("dfile 0 32{}", list(255)), "replaced"),
+            ("dfile 0 33 5 6", "refused 8"),
+            ("dfile 0 33 5", "new"),
+            (&format!("dfile 0 32{}", list(256)), "refused 8"),
+            ("hop 33 5", "provider drawer 0"),
+            ("lookup 32 0", &format!("list{}", list(255))),
+            ("dwithdraw 0 32", "done"),
+            ("lookup 32 0", &format!("list{}", list(256))),
+        ],
+    );
+    // a full public register takes no room of the overrides
+    let mut model = Model::new();
+    for customer in 1..=32 {
+        check(&mut model, &[(&format!("file 0 {customer}{}", list(256)), "new")]);
+    }
+    check(
+        &mut model,
+        &[("file 0 33 5", "refused 8"), ("dfile 0 33 5", "new"), ("dfile 0 1 5", "new")],
+    );
+}
+
+#[test]
+fn rejudging_reads_the_overrides() {
+    let mut model = with_register_d();
+    let b = format!("keep 1 1 40 {}", in_hex(&[40, 20, 10]));
+    let c = format!("keep 2 1 50 {}", in_hex(&[50, 20, 10]));
+    let h = format!("keep 3 3 20 {}", in_hex(&[20, 10, 40]));
+    let paths = "40 20 10 50 20 10 20 10 40";
+    let ledger = |b: &str, c: &str, h: &str| {
+        format!("3 9 1 1 40 0 {b} 0 3 2 1 50 0 {c} 3 3 3 3 20 0 {h} 6 3 {paths}")
+    };
+    let public = ledger("0 0 0", "1 3 0", "1 2 2");
+    check(
+        &mut model,
+        &[
+            (&b, "Valid"),
+            (&c, "Invalid 3 0 public -"),
+            (&h, "Invalid 2 2 public public gap 2"),
+            ("ledger", &public),
+            ("rejudge", "changed 0"),
+            // the sides alone are other ones: no change
+            ("dfile 4 20 40", "new"),
+            (&c.replace("keep 2", "judge"), "Invalid 3 0 drawer -"),
+            (&h.replace("keep 3", "judge"), "Invalid 2 2 public drawer gap 2"),
+            ("rejudge", "changed 0"),
+            ("ledger", &public),
+            // Valid becomes Invalid and Invalid Valid
+            ("dfile 4 20 50", "replaced"),
+            ("ledger", &public),
+            ("rejudge", "changed 2"),
+            ("ledger", &ledger("1 3 0", "0 0 0", "1 2 2")),
+            ("rejudge", "changed 0"),
+            // public filings for 20 are hidden
+            ("withdraw 0 20", "done"),
+            ("rejudge", "changed 0"),
+            ("file 0 20 40", "new"),
+            ("rejudge", "changed 0"),
+            ("dwithdraw 4 20", "done"),
+            ("rejudge", "changed 2"),
+            ("ledger", &public),
+            // H by 10's records too
+            ("dfile 0 20 10", "new"),
+            ("rejudge", "changed 2"),
+            ("ledger", &ledger("1 3 0", "1 3 0", "0 0 0")),
+            ("dclear 0", "cleared 1"),
+            ("rejudge", "changed 2"),
+            ("ledger", &public),
+        ],
+    );
+}
+
+/// What each call answers when tables are not as they should be.
+#[test]
+fn rows_with_three_tables() {
+    let file = hex(&written(&mut small_tables()));
+    let read = format!("read {file}");
+    let calls = [
+        "judge 9 0 02", "keep 1 9 0 02", "rejudge", "hop 10 20", "lookup 10 0", "file 9 0",
+        "dfile 9 0", "withdraw 9 0", "dwithdraw 9 0", "clear 9", "dclear 9", "drop 77", "write 0",
+        &read,
+    ];
+    // in the order of the calls: a row, or l for the list, e for an empty one, d for done
+    for (changes, rows) in [
+        (&[][..], "9 9 c h l 4 4 4 4 4 4 19 21 d"),
+        (&["resize drawer 12289"], "1 1 1 1 e 4 1 4 1 4 1 19 21 d"),
+        (&["resize drawer 12291"], "1 1 1 1 e 4 1 4 1 4 1 19 21 d"),
+        (&["resize drawer 0"], "1 1 1 1 e 4 1 4 1 4 1 19 21 d"),
+        (&["resize drawer 12802"], "1 1 1 1 e 4 1 4 1 4 1 19 21 d"),
+        (&["poke drawer 12289 1"], "2 2 2 2 e 4 2 4 2 4 2 19 21 d"),
+        (&["poke drawer 0 4294967295"], "2 2 2 2 e 4 2 4 2 4 2 19 21 d"),
+        (&["poke register 12289 1"], "2 2 2 2 e 2 4 2 4 2 4 19 2 d"),
+        (&["resize register 12291"], "1 1 1 1 e 1 4 1 4 1 4 19 1 1"),
+        (&["poke register 0 9", "poke drawer 0 9"], "2 2 2 2 e 2 2 2 2 2 2 19 2 d"),
+        (&["resize register 0", "resize drawer 0"], "1 1 1 1 e 1 1 1 1 1 1 19 1 1"),
+        // row 1 of either before row 2 of the other
+        (&["poke register 0 9", "resize drawer 12291"], "1 1 1 1 e 2 1 2 1 2 1 19 2 d"),
+        (&["resize register 12291", "poke drawer 0 9"], "1 1 1 1 e 1 2 1 2 1 2 19 1 1"),
+        // the ledger's length before row 2 of the overrides, and that before row 3
+        (&["poke drawer 0 9", "resize ledger 12801"], "2 1 1 2 e 4 2 4 2 4 2 1 1 1"),
+        (&["poke drawer 0 9", "poke ledger 0 9"], "2 2 2 2 e 4 2 4 2 4 2 3 3 d"),
+        (&["resize drawer 1", "resize ledger 1"], "1 1 1 1 e 4 1 4 1 4 1 1 1 1"),
+        (&["resize drawer 1", "poke ledger 0 9"], "1 1 1 1 e 4 1 4 1 4 1 3 3 d"),
+        (&["poke ledger 0 9"], "9 3 3 h l 4 4 4 4 4 4 3 3 d"),
+        (
+            &["poke register 0 9", "poke drawer 0 9", "poke ledger 0 9"],
+            "2 2 2 2 e 2 2 2 2 2 2 3 2 d",
+        ),
+    ] {
+        let mut model = small_tables();
+        check(&mut model, &[("dfile 0 10 20", "new"), ("rejudge", "changed 1")]);
+        for change in changes {
+            check(&mut model, &[(change, "done")]);
+        }
+        let before = model.clone();
+        for (call, row) in calls.iter().zip(rows.split(' ')) {
+            let expected = match row {
+                "c" => "changed 0".to_string(),
+                "h" => "provider drawer 0".to_string(),
+                "l" => "list 20".to_string(),
+                "e" => "list".to_string(),
+                "d" => "done".to_string(),
+                _ => format!("refused {row}"),
+            };
+            assert_eq!(answer(&mut model, call.as_bytes()), expected, "{call} {changes:?}");
+            if row == "d" {
+                assert_eq!(model.overrides.words(), before.overrides.words());
+            } else {
+                assert!(same_words(&model, &before), "{call} {changes:?}");
+            }
+        }
+    }
+}
+
+/// A word that breaks a rule of the register breaks it in the overrides.
+#[test]
+fn word_rules_of_the_overrides() {
+    for index in 0..33 {
+        for value in [0, 1, 2, 7, 8, 10, 20, 256, 257, 1_025, 8_193, u32::MAX] {
+            let mut model = Model::new();
+            for command in REGISTER_D {
+                check(&mut model, &[(command, "new"), (&format!("d{command}"), "new")]);
+            }
+            let mut other = model.clone();
+            let poke = |table: &str| format!("poke {table} {index} {value}");
+            check(&mut model, &[(&poke("register"), "done")]);
+            check(&mut other, &[(&poke("drawer"), "done")]);
+            assert_eq!(row(model.rejudge()), row(other.rejudge()), "{index} {value}");
+            assert_eq!(row(model.register.clear(7)), row(other.overrides.clear(7)));
+            assert_eq!(row(other.register.clear(7)), 0);
+        }
+    }
+}
+
+#[test]
+fn snapshots_leave_the_overrides_out() {
+    let mut model = small_tables();
+    let file = written(&mut model);
+    let read = format!("read {}", hex(&file));
+    let write = format!("written 160 {}", hex(&file));
+    let judge = "judge 1 20 0202000000140000000a";
+    check(
+        &mut model,
+        &[
+            ("dfile 3 10 30", "new"),
+            ("dfile 4 65010 7", "new"),
+            (judge, "Invalid 2 0 drawer -"),
+            ("write 160", &write),
+            ("lookup 65010 2", "list"),
+            (&read, "done"),
+            ("drawer", "2 2 10 3 0 1 65010 4 1 1 30 7"),
+            (judge, "Invalid 2 0 drawer -"),
+            ("hop 65010 65001", "other drawer"),
+            ("lookup 65010 4", "list 7"),
+            // as it was read, until a re-judging
+            ("ledger", "2 2 7 1 20 0 2 2 0 0 2 9 4 5 1 1 0 0 2 0 20 10"),
+            ("rejudge", "changed 1"),
+            ("ledger", "2 2 7 1 20 0 1 2 0 0 2 9 4 5 1 1 0 0 2 0 20 10"),
+            ("read -", "refused 24"),
+            ("drawer", "2 2 10 3 0 1 65010 4 1 1 30 7"),
+            // over an empty register, and over one that was malformed
+            ("clear 2", "cleared 1"),
+            (&read, "done"),
+            ("register", "2 3 65010 0 0 1 65010 2 1 2 65003 65001 65002"),
+            ("dclear 4", "cleared 1"),
+            ("lookup 65010 2", "list 65001 65002"),
+            ("poke register 0 9", "done"),
+            ("poke drawer 0 9", "done"),
+            (&read, "done"),
+            (judge, "refused 2"),
+            ("words drawer", "12290 9 1 10 3 0 1 30"),
+            ("poke drawer 0 1", "done"),
+            (judge, "Invalid 2 0 drawer -"),
+            // the list's only number is lost
+            ("resize drawer 6", "done"),
+            (&read, "done"),
+            ("write 160", &write),
+            ("words drawer", "6 1 1 10 3 0 1"),
+            ("resize drawer 12290", "done"),
+            ("words drawer", "12290 1 1 10 3 0 1"),
+            ("lookup 10 3", "list 0"),
+        ],
+    );
+}
+
 // The console's errors
 
 #[test]
 fn no_commands() {
     let mut model = with_register_d();
-    let before = model.register.words();
+    let before = model.clone();
     for line in [
         "", " ", "hello", "FILE 0 1 2", "file", "file 0", "file  0 1 2", " file 0 1 2",
         "file 0 1 2 ", "file 00 1 2", "file 0 01 2", "file 0 1 02", "file +0 1 2", "file -1 1 2",
@@ -1745,12 +2278,20 @@ fn no_commands() {
         "resize register 16385", "resize x 1", "resize register -1", "words", "words x",
         "words register x", "empty x", "empty ", "file 0 1 2\r", "write", "write x", "write -",
         "write 131073", "write 4294967296", "write 036", "write 36 36", "read", "read 0",
-        "read 0A", "read 000", "read - -", "read 00 00", "read ",
+        "read 0A", "read 000", "read - -", "read 00 00", "read ", "dfile", "dfile 0",
+        "dfile 0 01 2", "dfile 0 1 2 ", "dfile 0 1 x", "Dfile 0 1 2", "d file 0 1 2",
+        "dwithdraw 0", "dwithdraw 0 1 2", "dwithdraw x 1", "dclear", "dclear 0 0", "dclear 00",
+        "ddrop 1", "dkeep 1 1 5 -", "djudge 1 5 -", "drawer 0", "drawers", "dregister",
+        "overrides", "public", "lookup", "lookup 10", "lookup 10 0 0", "lookup 010 0",
+        "lookup 10 x", "lookup 10 4294967296", "lookup 10 0 ", "hop", "hop 10", "hop 10 20 30",
+        "hop 0 10", "hop 10 0", "hop 0 0", "hop 10 020", "hop 10 -", "hop 10 4294967296",
+        "hop 10  20", "poke drawer 12290 0", "poke drawer 0", "poke drawer 0 0 0",
+        "poke overrides 0 0", "resize drawer 16385", "resize drawer", "words drawer x",
+        "words overrides",
     ] {
         check(&mut model, &[(line, "error")]);
     }
-    assert_eq!(model.register.words(), before);
-    check(&mut model, &[("ledger", "0 0")]);
+    assert!(same_words(&model, &before));
 }
 
 // The verdicts against the slow ones
@@ -1762,24 +2303,35 @@ fn compare_verdicts(path: &[AsNumber], hop: impl Fn(AsNumber, AsNumber) -> Hop) 
         assert_eq!(word, slow::word(role, path, &hop), "role {role} {path:?}");
         assert_eq!(word, slow::steps(role, path, &hop), "role {role} {path:?}");
         assert_eq!((a, b, gap), slow::places(role, word, path, &hop), "role {role} {path:?}");
+        if let Verdict::Invalid(Cause::Hops { a: named, b: other }) = verdict {
+            let sides = (Some(named.side), other.map(|other| other.side));
+            assert_eq!(sides, slow::sides(a, b, path, &hop), "role {role} {path:?}");
+        }
         if let Some(gap) = gap {
             assert!((-511..=511).contains(&gap));
         }
     }
 }
 
-const HOPS: [Hop; 3] = [Hop::NoAttestation, Hop::Provider, Hop::NotProvider];
+const PROVIDER: Hop = Hop::Provider { side: Side::Public, source: 0 };
+
+const HOPS: [Hop; 4] = [
+    Hop::NoAttestation,
+    PROVIDER,
+    Hop::NotProvider { side: Side::Public },
+    Hop::NotProvider { side: Side::Overrides },
+];
 
 /// Every hop function on up to five different numbers.
 #[test]
 fn every_short_path() {
     for n in 1..=5usize {
         let path: Vec<AsNumber> = (0..n as u32).map(AsNumber).collect();
-        for choice in 0..3usize.pow(2 * (n as u32 - 1)) {
+        for choice in 0..4usize.pow(2 * (n as u32 - 1)) {
             // One digit of the choice for each neighbouring pair and direction
             let hop = |x: AsNumber, y: AsNumber| {
                 let digit = 2 * x.0.min(y.0) + u32::from(x > y);
-                HOPS[choice / 3usize.pow(digit) % 3]
+                HOPS[choice / 4usize.pow(digit) % 4]
             };
             compare_verdicts(&path, hop);
         }
@@ -1794,7 +2346,7 @@ fn random_paths_and_hops() {
         let providers = random.pick(&[20, 60, 90, 100]);
         let table: Vec<Hop> = (0..numbers * numbers)
             .map(|_| match random.percent(providers) {
-                true => Hop::Provider,
+                true => PROVIDER,
                 false => random.pick(&HOPS),
             })
             .collect();
@@ -1810,29 +2362,45 @@ fn random_paths_and_hops() {
 #[test]
 fn random_records() {
     let mut random = Random::new(6);
+    let mut sides = [0; 2];
     for _ in 0..1_500 {
-        let records = random_records_of(&mut random, 30, 6, 4);
+        let public = random_records_of(&mut random, 30, 6, 4);
+        let most = random.pick(&[0, 2, 6, 30]);
+        let overrides = random_records_of(&mut random, most, 6, 4);
+        let registers = Registers { public: &public, overrides: &overrides };
         let length = random.between(1, 10);
         let path: Vec<AsNumber> =
             (0..length).map(|_| AsNumber(random.between(1, 7) as u32)).collect();
-        // The hop from one united list, against the one over separate lists
+        // One register with the records that count, and the hop from its united lists
+        let has = |x: AsNumber| overrides.keys().any(|(customer, _)| *customer == x);
+        let mut counting = public.clone();
+        counting.retain(|(customer, _), _| !has(*customer));
+        counting.extend(overrides.clone());
         let united = |x: AsNumber, y: AsNumber| {
-            let lists = records.iter().filter(|((c, _), _)| *c == x);
-            let list: Vec<AsNumber> = lists.flat_map(|(_, l)| l.clone()).collect();
+            let lists = || counting.iter().filter(|((c, _), _)| *c == x);
+            let list: Vec<AsNumber> = lists().flat_map(|(_, l)| l.clone()).collect();
+            let side = if has(x) { Side::Overrides } else { Side::Public };
+            let sources = lists().filter(|(_, l)| l.contains(&y)).map(|((_, source), _)| *source);
             // No list is empty, so an empty union means no record.
             if list.is_empty() {
                 Hop::NoAttestation
             } else if list.contains(&y) {
-                Hop::Provider
+                Hop::Provider { side, source: sources.min().unwrap() }
             } else {
-                Hop::NotProvider
+                Hop::NotProvider { side }
             }
         };
         for pair in path.windows(2) {
-            assert_eq!(judge::hop(&records, pair[0], pair[1]), united(pair[0], pair[1]));
+            assert_eq!(registers.hop(pair[0], pair[1]), united(pair[0], pair[1]));
+            sides[usize::from(has(pair[0]))] += 1;
         }
-        compare_verdicts(&path, |x, y| judge::hop(&records, x, y));
+        for (customer, source) in (0..9).flat_map(|c| (0..9).map(move |s| (AsNumber(c), s))) {
+            let list = counting.get(&(customer, source)).map(|list| &list[..]);
+            assert_eq!(registers.list(customer, source), list);
+        }
+        compare_verdicts(&path, |x, y| registers.hop(x, y));
     }
+    assert!(sides[0] > 1_000 && sides[1] > 1_000, "{sides:?}");
 }
 
 // Tables

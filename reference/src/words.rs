@@ -1,4 +1,4 @@
-//! The two tables as words: their rules, reading, writing out.
+//! Registers and ledger as words: their rules, reading, writing out.
 
 use crate::{
     check_list, AsNumber, Records, Route, RouteNumber, Routes, GREATEST_SOURCE, LONGEST_PATH,
@@ -33,7 +33,7 @@ pub fn padded(mut words: Vec<u32>, length: usize) -> Vec<u32> {
     words
 }
 
-/// The rules that both tables share: counts bounded before they are used,
+/// The rules that all tables share: counts bounded before they are used,
 /// each start the sum of the counts before, their sum the body's length,
 /// zeros to the end. Gives each entry with its body.
 fn entries<const ENTRY: usize>(

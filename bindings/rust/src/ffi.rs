@@ -12,6 +12,9 @@ pub const UNWRITTEN: u32 = u32::MAX;
 /// The result of a judging: the row or 0, the words of the answer, the gap.
 pub type Judged = (u32, [u32; answer::WORDS], i32);
 
+/// The result of a hop: the row or 0; what it is, the register and the source.
+pub type Hopped = (u32, [u32; 3]);
+
 // A slice passes as a pointer and its length.
 extern "C" {
     fn aspa_file(
@@ -25,9 +28,29 @@ extern "C" {
     ) -> u32;
     fn aspa_withdraw(reg: *mut u32, reg_len: usize, source: u32, customer: u32) -> u32;
     fn aspa_clear(reg: *mut u32, reg_len: usize, source: u32, out: *mut [u32; 1]) -> u32;
+    fn aspa_hop(
+        public: *const u32,
+        public_len: usize,
+        overrides: *const u32,
+        overrides_len: usize,
+        x: u32,
+        y: u32,
+        out: *mut [u32; 3],
+    ) -> u32;
+    fn aspa_lookup(
+        public: *const u32,
+        public_len: usize,
+        overrides: *const u32,
+        overrides_len: usize,
+        source: u32,
+        customer: u32,
+        out: *mut [u32; 3],
+    );
     fn aspa_judge(
-        reg: *const u32,
-        reg_len: usize,
+        public: *const u32,
+        public_len: usize,
+        overrides: *const u32,
+        overrides_len: usize,
         role: u32,
         neighbour: u32,
         attribute: *const u8,
@@ -36,8 +59,10 @@ extern "C" {
         gap: *mut i32,
     ) -> u32;
     fn aspa_keep(
-        reg: *const u32,
-        reg_len: usize,
+        public: *const u32,
+        public_len: usize,
+        overrides: *const u32,
+        overrides_len: usize,
         ledger: *mut u32,
         ledger_len: usize,
         route: u32,
@@ -50,8 +75,10 @@ extern "C" {
     ) -> u32;
     fn aspa_drop(ledger: *mut u32, ledger_len: usize, route: u32) -> u32;
     fn aspa_rejudge(
-        reg: *const u32,
-        reg_len: usize,
+        public: *const u32,
+        public_len: usize,
+        overrides: *const u32,
+        overrides_len: usize,
         ledger: *mut u32,
         ledger_len: usize,
         out: *mut [u32; 1],
@@ -104,13 +131,56 @@ pub fn clear(register: &mut [u32], source: u32) -> (u32, u32) {
     (row, out[0])
 }
 
-pub fn judge(register: &[u32], role: u32, neighbour: u32, attribute: &[u8]) -> Judged {
+pub fn hop(public: &[u32], overrides: &[u32], x: u32, y: u32) -> Hopped {
+    let mut out = [UNWRITTEN; 3];
+    // SAFETY: each pointer and length is of one borrowed slice; what is written, out, is borrowed mutably.
+    let row = unsafe {
+        aspa_hop(
+            public.as_ptr(),
+            public.len(),
+            overrides.as_ptr(),
+            overrides.len(),
+            x,
+            y,
+            &mut out,
+        )
+    };
+    (row, out)
+}
+
+/// The register, the list's first word there, and how many it has.
+pub fn lookup(public: &[u32], overrides: &[u32], source: u32, customer: u32) -> [u32; 3] {
+    let mut out = [UNWRITTEN; 3];
+    // SAFETY: each pointer and length is of one borrowed slice; what is written, out, is borrowed mutably.
+    unsafe {
+        aspa_lookup(
+            public.as_ptr(),
+            public.len(),
+            overrides.as_ptr(),
+            overrides.len(),
+            source,
+            customer,
+            &mut out,
+        );
+    }
+    out
+}
+
+pub fn judge(
+    public: &[u32],
+    overrides: &[u32],
+    role: u32,
+    neighbour: u32,
+    attribute: &[u8],
+) -> Judged {
     let (mut out, mut gap) = ([UNWRITTEN; answer::WORDS], 0);
     // SAFETY: each pointer and length is of one borrowed slice; what is written, out and gap, is borrowed mutably.
     let row = unsafe {
         aspa_judge(
-            register.as_ptr(),
-            register.len(),
+            public.as_ptr(),
+            public.len(),
+            overrides.as_ptr(),
+            overrides.len(),
             role,
             neighbour,
             attribute.as_ptr(),
@@ -123,7 +193,8 @@ pub fn judge(register: &[u32], role: u32, neighbour: u32, attribute: &[u8]) -> J
 }
 
 pub fn keep(
-    register: &[u32],
+    public: &[u32],
+    overrides: &[u32],
     ledger: &mut [u32],
     route: u32,
     role: u32,
@@ -134,8 +205,10 @@ pub fn keep(
     // SAFETY: each pointer and length is of one borrowed slice; what is written, ledger, out and gap, is borrowed mutably.
     let row = unsafe {
         aspa_keep(
-            register.as_ptr(),
-            register.len(),
+            public.as_ptr(),
+            public.len(),
+            overrides.as_ptr(),
+            overrides.len(),
             ledger.as_mut_ptr(),
             ledger.len(),
             route,
@@ -155,13 +228,15 @@ pub fn drop_route(ledger: &mut [u32], route: u32) -> u32 {
     unsafe { aspa_drop(ledger.as_mut_ptr(), ledger.len(), route) }
 }
 
-pub fn rejudge(register: &[u32], ledger: &mut [u32]) -> (u32, u32) {
+pub fn rejudge(public: &[u32], overrides: &[u32], ledger: &mut [u32]) -> (u32, u32) {
     let mut out = [UNWRITTEN];
     // SAFETY: each pointer and length is of one borrowed slice; what is written, ledger and out, is borrowed mutably.
     let row = unsafe {
         aspa_rejudge(
-            register.as_ptr(),
-            register.len(),
+            public.as_ptr(),
+            public.len(),
+            overrides.as_ptr(),
+            overrides.len(),
             ledger.as_mut_ptr(),
             ledger.len(),
             &mut out,

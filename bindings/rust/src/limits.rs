@@ -60,6 +60,9 @@ pub(crate) mod route {
     pub const WORDS: usize = COUNT + 1;
 }
 
+/// In place of a source where a hop names none.
+pub(crate) const NO_SOURCE: u32 = GREATEST_SOURCE + 1;
+
 /// The words of an answer to Judge and Keep.
 pub(crate) mod answer {
     pub const VERDICT: usize = 0;
@@ -68,5 +71,7 @@ pub(crate) mod answer {
     pub const PLACE_B: usize = 3;
     pub const HAS_GAP: usize = 4;
     pub const REFUSAL_PLACE: usize = 5;
-    pub const WORDS: usize = REFUSAL_PLACE + 1;
+    pub const ORIGIN_A: usize = 6;
+    pub const ORIGIN_B: usize = 7;
+    pub const WORDS: usize = ORIGIN_B + 1;
 }

@@ -9,14 +9,15 @@ use std::fmt;
 
 /// Why a call was refused. A refused call gives no verdict and changes no table.
 ///
-/// Each call tests the rows that concern its own tables and arguments, lowest number first, but 12 to 16 go by place, and
-/// [`Tables::read`](crate::Tables::read) has an order of its own. The `place` of a refusal is the index of the attribute's byte where the
+/// Each call tests the rows that concern its own tables and arguments, lowest number first and each for all tables before the next, but 12
+/// to 16 go by place, and [`Tables::read`](crate::Tables::read) has an order of its own. The `place` of a refusal is the index of the attribute's byte where the
 /// fault begins.
 ///
 /// ```
 /// use aspa_filter::{AsNumber, Refusal, Register, Role};
 ///
-/// let refusal = Register::new().judge(Role::Peer, AsNumber(20), &[2]).unwrap_err();
+/// let (public, overrides) = (Register::new(), Register::new());
+/// let refusal = public.judge(&overrides, Role::Peer, AsNumber(20), &[2]).unwrap_err();
 /// assert_eq!(refusal, Refusal::CutShort { place: 0 });
 /// assert_eq!(refusal.number(), 12);
 /// assert_eq!(refusal.to_string(), "refused by 12: a segment is cut short (byte 0)");
@@ -26,7 +27,7 @@ use std::fmt;
 pub enum Refusal {
     /// 1: a table has the wrong length. A register has [`REGISTER_WORDS`] words, a ledger [`LEDGER_WORDS`].
     TableLength,
-    /// 2: the register breaks its word rules; of a snapshot that is read, the register in it.
+    /// 2: a register breaks its word rules, whichever of the two it is; of a snapshot that is read, the register in it.
     RegisterMalformed,
     /// 3: the ledger breaks its word rules; of a snapshot that is read, the ledger in it.
     LedgerMalformed,
@@ -193,7 +194,7 @@ impl fmt::Display for Refusal {
                 "a table has the wrong length: \
                  a register has {REGISTER_WORDS} words, a ledger {LEDGER_WORDS}"
             ),
-            Refusal::RegisterMalformed => f.write_str("the register is malformed"),
+            Refusal::RegisterMalformed => f.write_str("a register is malformed"),
             Refusal::LedgerMalformed => f.write_str("the ledger is malformed"),
             Refusal::Source => write!(f, "the source is above {GREATEST_SOURCE}"),
             Refusal::Customer => f.write_str("the customer is 0"),

@@ -1,4 +1,4 @@
-//! Both tables together, as one file.
+//! The public register and the ledger together, as one file.
 use crate::limits::{SHORTEST_SNAPSHOT, SNAPSHOT_BYTES};
 use crate::tables::count;
 use crate::{ffi, Ledger, Refusal, Register};
@@ -10,7 +10,8 @@ use std::path::{Path, PathBuf};
 use std::process;
 use std::sync::atomic::{AtomicU32, Ordering};
 
-/// A register and a ledger together, which a snapshot holds: one file of bytes that is the same on every machine.
+/// The public register and a ledger together, which a snapshot holds: one file of bytes that is the same on every machine. The overrides
+/// are not in it, and reading leaves them; in the place of `register`, beside an empty ledger, they make a snapshot of their own.
 ///
 /// What was written is read back word for word, and a snapshot that is accepted is, byte for byte, the one that the tables which it yields
 /// are written as. Only its form is checked, and not where it comes from. Its verdicts may no longer be true, or never have been: call
@@ -33,7 +34,7 @@ use std::sync::atomic::{AtomicU32, Ordering};
 /// ```
 #[derive(Clone, Debug, Default, PartialEq, Eq)]
 pub struct Tables {
-    /// The provider records.
+    /// The public provider records.
     pub register: Register,
     /// The kept routes.
     pub ledger: Ledger,
@@ -45,14 +46,14 @@ impl Tables {
         Tables::default()
     }
 
-    /// [`Ledger::rejudge`] by the register.
+    /// [`Ledger::rejudge`] by the register and these overrides.
     ///
     /// # Errors
     ///
     /// [`TableLength`](Refusal::TableLength), [`RegisterMalformed`](Refusal::RegisterMalformed),
     /// [`LedgerMalformed`](Refusal::LedgerMalformed).
-    pub fn rejudge(&mut self) -> Result<u32, Refusal> {
-        self.ledger.rejudge(&self.register)
+    pub fn rejudge(&mut self, overrides: &Register) -> Result<u32, Refusal> {
+        self.ledger.rejudge(&self.register, overrides)
     }
 
     /// Writes the snapshot to the start of the output, and answers its length in bytes. The output's bytes behind it stay.
@@ -68,7 +69,7 @@ impl Tables {
         count(told, possible).map(|length| length as usize)
     }
 
-    /// Reads a snapshot into both tables. Their earlier words are not looked at, only their lengths. It takes some 98 KiB of stack.
+    /// Reads a snapshot into both tables. Their earlier words are not looked at, only their lengths. It takes some 101 KiB of stack.
     ///
     /// # Errors
     ///

@@ -1,9 +1,9 @@
-//! The two tables: their calls, and what they hold.
+//! Registers and ledgers: their calls, and what they hold.
 use crate::limits::{
     counters, record, route, GREATEST_SOURCE, LEDGER_WORDS, MOST_PATH, MOST_PROVIDERS,
     MOST_RECORDS, MOST_ROUTES, REGISTER_WORDS,
 };
-use crate::{ffi, Answer, AsNumber, Refusal, Role, RouteNumber, Verdict};
+use crate::{ffi, Answer, AsNumber, Hop, KeptVerdict, Origin, Refusal, Role, RouteNumber};
 use std::fmt;
 use std::iter::FusedIterator;
 use std::ops::RangeInclusive;
@@ -43,8 +43,27 @@ pub(crate) fn count(
 
 /// Provider records from sources 0 to [`GREATEST_SOURCE`].
 ///
+/// There are two of them: the public register, and the overrides, which are the operator's own. Where the overrides hold any record of a
+/// customer, from whichever source, only they count for that customer; where they hold none, only the public register does. Who has no
+/// overrides lends an empty register. Calls that read both are calls of the public register, and are lent the overrides.
+///
+/// ```
+/// use aspa_filter::{AsNumber, Hop, Origin, Register};
+///
+/// let (mut public, mut overrides) = (Register::new(), Register::new());
+/// let (customer, provider) = (AsNumber(64496), AsNumber(64500));
+/// public.file(0, customer, &[AsNumber(64501)])?;
+/// let origin = Origin::Public;
+/// assert_eq!(public.hop(&overrides, customer, provider)?, Hop::NotProviderPlus { origin });
+/// // The public record is wrong.
+/// overrides.file(3, customer, &[provider])?;
+/// let (origin, source) = (Origin::Overrides, 3);
+/// assert_eq!(public.hop(&overrides, customer, provider)?, Hop::ProviderPlus { origin, source });
+/// # Ok::<(), aspa_filter::Refusal>(())
+/// ```
+///
 /// A register owns its [`REGISTER_WORDS`] words of four bytes, which [`words`](Register::words) and [`from_words`](Register::from_words)
-/// give and take. To store and load it with a ledger, see [`Tables`](crate::Tables).
+/// give and take. To store and load the public one with a ledger, see [`Tables`](crate::Tables).
 #[derive(Clone, PartialEq, Eq)]
 pub struct Register(pub(crate) Box<[u32]>);
 
@@ -102,25 +121,74 @@ impl Register {
         count(ffi::clear(&mut self.0, source), 0..=MOST_RECORDS)
     }
 
+    /// Says what the hop from a customer to another network is, by the register that counts for the customer. Both numbers are 1 or more;
+    /// 0 is not refused, but no network.
+    ///
+    /// # Errors
+    ///
+    /// [`TableLength`](Refusal::TableLength), [`RegisterMalformed`](Refusal::RegisterMalformed), of either register.
+    pub fn hop(
+        &self,
+        overrides: &Register,
+        customer: AsNumber,
+        other: AsNumber,
+    ) -> Result<Hop, Refusal> {
+        Hop::told(ffi::hop(&self.0, &overrides.0, customer.0, other.0))
+    }
+
+    /// The list that a source has for a customer in the register that counts for the customer, which is a part of that register.
+    ///
+    /// It is empty, which no list is, where that register has none of this source; where either register has the wrong length or is
+    /// malformed; and for a source above [`GREATEST_SOURCE`] or the customer 0. Nothing is refused.
+    ///
+    /// ```
+    /// use aspa_filter::{AsNumber, Register};
+    ///
+    /// let (mut public, mut overrides) = (Register::new(), Register::new());
+    /// public.file(0, AsNumber(10), &[20, 30].map(AsNumber))?;
+    /// assert_eq!(public.lookup(&overrides, 0, AsNumber(10)), [20, 30].map(AsNumber));
+    /// overrides.file(1, AsNumber(10), &[AsNumber(40)])?;
+    /// assert_eq!(public.lookup(&overrides, 1, AsNumber(10)), [AsNumber(40)]);
+    /// assert!(public.lookup(&overrides, 0, AsNumber(10)).is_empty(), "the overrides have none of source 0");
+    /// # Ok::<(), aspa_filter::Refusal>(())
+    /// ```
+    pub fn lookup<'a>(
+        &'a self,
+        overrides: &'a Register,
+        source: u32,
+        customer: AsNumber,
+    ) -> &'a [AsNumber] {
+        let told = ffi::lookup(&self.0, &overrides.0, source, customer.0);
+        part(self, overrides, told).unwrap_or_default()
+    }
+
     /// Judges a route: the role and the number of the neighbour that sent it, and the value of its AS_PATH attribute with four-byte
-    /// numbers (see [`PathBuilder`](crate::PathBuilder)). Needs no ledger and changes nothing.
+    /// numbers (see [`PathBuilder`](crate::PathBuilder)). Each hop goes by the register that counts for its customer. Needs no ledger
+    /// and changes nothing.
     ///
     /// What is judged is the merged path, in which a run of one number counts once, over the ends of segments too. Before version 0.5.0 a
     /// run ended with its segment.
     ///
     /// # Errors
     ///
-    /// [`TableLength`](Refusal::TableLength), [`RegisterMalformed`](Refusal::RegisterMalformed), [`Neighbour`](Refusal::Neighbour),
-    /// [`AttributeLength`](Refusal::AttributeLength); for the attribute's first fault [`CutShort`](Refusal::CutShort),
-    /// [`SegmentType`](Refusal::SegmentType), [`Confederation`](Refusal::Confederation), [`SegmentEmpty`](Refusal::SegmentEmpty) or
-    /// [`AsZero`](Refusal::AsZero); [`PathLength`](Refusal::PathLength).
+    /// [`TableLength`](Refusal::TableLength), [`RegisterMalformed`](Refusal::RegisterMalformed), of either register;
+    /// [`Neighbour`](Refusal::Neighbour), [`AttributeLength`](Refusal::AttributeLength); for the attribute's first fault
+    /// [`CutShort`](Refusal::CutShort), [`SegmentType`](Refusal::SegmentType), [`Confederation`](Refusal::Confederation),
+    /// [`SegmentEmpty`](Refusal::SegmentEmpty) or [`AsZero`](Refusal::AsZero); [`PathLength`](Refusal::PathLength).
     pub fn judge(
         &self,
+        overrides: &Register,
         role: Role,
         neighbour: AsNumber,
         attribute: &[u8],
     ) -> Result<Answer, Refusal> {
-        Answer::told(ffi::judge(&self.0, role.number(), neighbour.0, attribute))
+        Answer::told(ffi::judge(
+            &self.0,
+            &overrides.0,
+            role.number(),
+            neighbour.0,
+            attribute,
+        ))
     }
 
     /// The records, by customer and then by source.
@@ -144,6 +212,19 @@ impl Register {
     }
 }
 
+/// What a lookup tells of: nothing where there is no list, or what is no part of a register.
+fn part<'a>(
+    public: &'a Register,
+    overrides: &'a Register,
+    [origin, start, count]: [u32; 3],
+) -> Option<&'a [AsNumber]> {
+    let register = match Origin::from_word(origin)? {
+        Origin::Public => public,
+        Origin::Overrides => overrides,
+    };
+    body(&register.0, start, count)
+}
+
 impl Default for Register {
     fn default() -> Register {
         Register::new()
@@ -164,7 +245,7 @@ impl fmt::Debug for Register {
 /// Kept routes with their verdicts.
 ///
 /// A ledger owns its [`LEDGER_WORDS`] words of four bytes, which [`words`](Ledger::words) and [`from_words`](Ledger::from_words) give and
-/// take. To store and load it with its register, see [`Tables`](crate::Tables).
+/// take. To store and load it with the public register, see [`Tables`](crate::Tables).
 #[derive(Clone, PartialEq, Eq)]
 pub struct Ledger(pub(crate) Box<[u32]>);
 
@@ -185,17 +266,18 @@ impl Ledger {
         &self.0
     }
 
-    /// Judges a route as [`Register::judge`] does, and keeps it under a number that is free, with that verdict and its merged path.
+    /// Judges a route as [`Register::judge`] does, by the public register and the overrides, and keeps it under a number that is free,
+    /// with that verdict and its merged path. The registers of the hops are not kept.
     ///
     /// ```
     /// use aspa_filter::{AsNumber, Ledger, PathBuilder, Register, Role, RouteNumber};
     ///
-    /// let (register, mut ledger) = (Register::new(), Ledger::new());
+    /// let (public, overrides, mut ledger) = (Register::new(), Register::new(), Ledger::new());
     /// // AS20 prepends its own number, in a segment of its own.
     /// let path = PathBuilder::new()
     ///     .sequence(&[AsNumber(20)])?
     ///     .sequence(&[20, 10].map(AsNumber))?;
-    /// ledger.keep(&register, RouteNumber(7), Role::Customer, AsNumber(20), path.bytes())?;
+    /// ledger.keep(&public, &overrides, RouteNumber(7), Role::Customer, AsNumber(20), path.bytes())?;
     /// assert_eq!(ledger.routes().next().unwrap().path, [20, 10].map(AsNumber));
     /// # Ok::<(), Box<dyn std::error::Error>>(())
     /// ```
@@ -206,14 +288,16 @@ impl Ledger {
     /// [`LedgerFull`](Refusal::LedgerFull).
     pub fn keep(
         &mut self,
-        register: &Register,
+        public: &Register,
+        overrides: &Register,
         route: RouteNumber,
         role: Role,
         neighbour: AsNumber,
         attribute: &[u8],
     ) -> Result<Answer, Refusal> {
         Answer::told(ffi::keep(
-            &register.0,
+            &public.0,
+            &overrides.0,
             &mut self.0,
             route.0,
             role.number(),
@@ -231,15 +315,16 @@ impl Ledger {
         Refusal::told(ffi::drop_route(&mut self.0, route.0), 0)
     }
 
-    /// Judges every kept route without a ground again by the register as it is now, and answers how many changed in their verdict or
+    /// Judges every kept route without a ground again by both registers as they are now, and answers how many changed in their verdict or
     /// its places. It takes some 17 KiB of stack, and [`Tables::read`](crate::Tables::read) more; every other call takes less than 3 KiB.
     ///
     /// # Errors
     ///
     /// [`TableLength`](Refusal::TableLength), [`RegisterMalformed`](Refusal::RegisterMalformed),
     /// [`LedgerMalformed`](Refusal::LedgerMalformed).
-    pub fn rejudge(&mut self, register: &Register) -> Result<u32, Refusal> {
-        count(ffi::rejudge(&register.0, &mut self.0), 0..=MOST_ROUTES)
+    pub fn rejudge(&mut self, public: &Register, overrides: &Register) -> Result<u32, Refusal> {
+        let told = ffi::rejudge(&public.0, &overrides.0, &mut self.0);
+        count(told, 0..=MOST_ROUTES)
     }
 
     /// The kept routes, by number, with the verdicts of their keeping or of the last re-judging.
@@ -248,14 +333,13 @@ impl Ledger {
     /// not lie in the table or has a word that means nothing, and before any if the two counters lead past the table's end.
     ///
     /// ```
-    /// use aspa_filter::{sequence, AsNumber, Ledger, Register, Role, RouteNumber, Verdict};
+    /// use aspa_filter::{sequence, AsNumber, KeptVerdict, Ledger, Register, Role, RouteNumber};
     ///
-    /// let register = Register::new();
-    /// let mut ledger = Ledger::new();
+    /// let (public, overrides, mut ledger) = (Register::new(), Register::new(), Ledger::new());
     /// let path = sequence(&[20, 10].map(AsNumber))?;
-    /// ledger.keep(&register, RouteNumber(7), Role::Customer, AsNumber(20), &path)?;
+    /// ledger.keep(&public, &overrides, RouteNumber(7), Role::Customer, AsNumber(20), &path)?;
     /// let route = ledger.routes().find(|route| route.number == RouteNumber(7)).unwrap();
-    /// assert_eq!(route.verdict, Verdict::Unknown { a: 2, b: 0 });
+    /// assert_eq!(route.verdict, KeptVerdict::Unknown { a: 2, b: 0 });
     /// assert_eq!(route.path, [20, 10].map(AsNumber));
     /// # Ok::<(), Box<dyn std::error::Error>>(())
     /// ```
@@ -307,7 +391,7 @@ pub struct Route<'a> {
     /// Who sent the route.
     pub neighbour: AsNumber,
     /// The verdict of the keeping or of the last re-judging. A ground, if there is one, is in its cause.
-    pub verdict: Verdict,
+    pub verdict: KeptVerdict,
     /// The merged path, left end first: the last number is the origin. Empty under a ground.
     pub path: &'a [AsNumber],
 }
@@ -387,7 +471,7 @@ impl<'a> Route<'a> {
             number: RouteNumber(slot[route::NUMBER]),
             role: Role::try_from(slot[route::ROLE]).ok()?,
             neighbour: AsNumber(neighbour),
-            verdict: Verdict::from_words(
+            verdict: KeptVerdict::from_words(
                 slot[route::VERDICT],
                 slot[route::GROUND],
                 slot[route::PLACE_A],
@@ -466,6 +550,29 @@ mod tests {
             assert_eq!(count((0, word), SHORTEST_SNAPSHOT..=60), Err(none));
         }
         assert_eq!(count((0, 36), SHORTEST_SNAPSHOT..=60), Ok(36));
+    }
+
+    /// A part of one register, to its last word; nothing else is one.
+    #[test]
+    fn parts() {
+        let [public, overrides] = [[1, 2, 3], [4, 5, 6]].map(Register::from_words);
+        let list = |told| part(&public, &overrides, told).map(AsNumber::words);
+        assert_eq!(list([1, 0, 3]), Some(&[1, 2, 3][..]));
+        assert_eq!(list([2, 1, 2]), Some(&[5, 6][..]));
+        assert_eq!(list([1, 3, 0]), Some(&[][..]));
+        for told in [
+            [0, 0, 0],
+            [0, 1, 1],
+            [3, 0, 1],
+            [UNWRITTEN; 3],
+            [1, 0, 4],
+            [2, 2, 2],
+            [2, 4, 0],
+            [1, UNWRITTEN, 2],
+            [1, 1, UNWRITTEN],
+        ] {
+            assert_eq!(list(told), None, "{told:?}");
+        }
     }
 
     #[test]

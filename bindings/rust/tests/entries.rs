@@ -1,7 +1,7 @@
 //! The iterators and the short text of tables: good, empty and damaged ones.
 use aspa_filter::{
-    sequence, AsNumber, Cause, Filed, Ground, Ledger, Record, Refusal, Register, Role, Route,
-    RouteNumber, Verdict, LEDGER_WORDS, REGISTER_WORDS,
+    sequence, AsNumber, Filed, Ground, KeptCause, KeptVerdict, Ledger, Record, Refusal, Register,
+    Role, Route, RouteNumber, LEDGER_WORDS, REGISTER_WORDS,
 };
 
 const FEW: [AsNumber; 2] = [AsNumber(0), AsNumber(40)];
@@ -19,7 +19,7 @@ fn register() -> Register {
 }
 
 fn ledger() -> Ledger {
-    let (register, mut ledger) = (register(), Ledger::new());
+    let (register, none, mut ledger) = (register(), Register::new(), Ledger::new());
     for (number, role, neighbour, path) in [
         (9, Role::Customer, 20, &UP[1..]),
         (u32::MAX, Role::Provider, 50, &DOWN),
@@ -29,7 +29,7 @@ fn ledger() -> Ledger {
         let (number, neighbour) = (RouteNumber(number), AsNumber(neighbour));
         let path = sequence(path).unwrap();
         ledger
-            .keep(&register, number, role, neighbour, &path)
+            .keep(&register, &none, number, role, neighbour, &path)
             .unwrap();
     }
     ledger
@@ -68,17 +68,17 @@ fn routes() {
         verdict,
         path,
     };
-    let hops = |a, b| Verdict::Invalid(Cause::Hops { a, b });
-    let stranger = Verdict::Invalid(Cause::Ground(Ground::NotNeighbour));
+    let hops = |a, b| KeptVerdict::Invalid(KeptCause::Hops { a, b });
+    let stranger = KeptVerdict::Invalid(KeptCause::Ground(Ground::NotNeighbour));
     let expected = [
         route(0, Role::Peer, 7, stranger, &[][..]),
         route(4, Role::RouteServer, 7, hops(3, 0), &UP),
-        route(9, Role::Customer, 20, Verdict::Valid, &UP[1..]),
+        route(9, Role::Customer, 20, KeptVerdict::Valid, &UP[1..]),
         route(
             u32::MAX,
             Role::Provider,
             50,
-            Verdict::Unknown { a: 1, b: 3 },
+            KeptVerdict::Unknown { a: 1, b: 3 },
             &DOWN,
         ),
     ];
@@ -259,11 +259,13 @@ fn damaged_routes() {
 /// routes are kept anew in another.
 #[test]
 fn equal_neighbours() {
-    let (register, mut words) = (register(), ledger().words().to_vec());
+    let (register, none) = (register(), Register::new());
+    let mut words = ledger().words().to_vec();
     // The path 30 20 10 of the second route becomes 30 30 10.
     words[39] = 30;
     let mut damaged = Ledger::from_words(words);
-    assert_eq!(damaged.rejudge(&register), Err(Refusal::LedgerMalformed));
+    let judged = damaged.rejudge(&register, &none);
+    assert_eq!(judged, Err(Refusal::LedgerMalformed));
     let routes: Vec<Route> = damaged.routes().collect();
     assert_eq!(routes.len(), 4);
     assert_eq!(routes[1].path, [30, 30, 10].map(AsNumber));
@@ -272,11 +274,17 @@ fn equal_neighbours() {
     let mut anew = Ledger::new();
     for route in &routes[1..] {
         let path = sequence(route.path).unwrap();
-        anew.keep(&register, route.number, route.role, route.neighbour, &path)
+        let Route {
+            number,
+            role,
+            neighbour,
+            ..
+        } = *route;
+        anew.keep(&register, &none, number, role, neighbour, &path)
             .unwrap();
     }
     assert_eq!(anew.routes().next().unwrap().path, [30, 10].map(AsNumber));
-    assert_eq!(anew.rejudge(&register), Ok(0));
+    assert_eq!(anew.rejudge(&register, &none), Ok(0));
 }
 
 /// Whatever words are left of a table, reading them ends and shows whole entries alone.

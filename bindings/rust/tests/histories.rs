@@ -1,10 +1,10 @@
-//! Random histories of calls, run through the binding and through the second program's model. Every answer is compared, both tables word
-//! for word and entry by entry every 50 calls, the refusals of damaged tables, and snapshots: each reads what the other wrote, whole or
-//! damaged. The same seed gives the same history.
+//! Random histories of calls, run through the binding and through the second program's model. Every answer is compared, all three tables
+//! word for word and entry by entry every 50 calls, the refusals of damaged tables, and snapshots: each reads what the other wrote, whole
+//! or damaged. The same seed gives the same history.
 use aspa_filter::{
-    Answer, AsNumber, Cause, Filed, Ground, Ledger, Refusal, Register, Role, RouteNumber, Tables,
-    Verdict, LEDGER_WORDS, MOST_ATTRIBUTE_BYTES, MOST_PATH, MOST_SEGMENT, REGISTER_WORDS,
-    SNAPSHOT_BYTES,
+    Answer, AsNumber, Cause, Filed, Ground, Hop, KeptCause, KeptVerdict, Ledger, NamedHop, Origin,
+    Refusal, Register, Role, RouteNumber, Tables, Verdict, LEDGER_WORDS, MOST_ATTRIBUTE_BYTES,
+    MOST_PATH, MOST_SEGMENT, REGISTER_WORDS, SNAPSHOT_BYTES,
 };
 use reference::random::Random;
 use reference::words::{padded, Form};
@@ -22,11 +22,12 @@ const TOO_FAR: u32 = FAR + 1;
 
 // Calls and what they say, in words that both sides share
 
+/// The first three are on this register.
 #[derive(Clone, Debug)]
 enum Call {
-    File(u32, u32, Vec<u32>),
-    Withdraw(u32, u32),
-    Clear(u32),
+    File(Origin, u32, u32, Vec<u32>),
+    Withdraw(Origin, u32, u32),
+    Clear(Origin, u32),
     Judge(Route),
     Keep(u32, Route),
     Drop(u32),
@@ -34,6 +35,9 @@ enum Call {
     /// Into so many bytes.
     Write(usize),
     Read(Vec<u8>),
+    Hop(u32, u32),
+    /// Of a source and a customer.
+    Lookup(u32, u32),
 }
 
 #[derive(Clone, Debug)]
@@ -49,6 +53,8 @@ enum Said {
     Done,
     Count(u32),
     Judged(Answer),
+    Hop(Hop),
+    List(Vec<u32>),
     /// The length, and the whole output.
     Written(usize, Vec<u8>),
     Refused(u32, Option<u32>),
@@ -80,10 +86,37 @@ fn meant_filed(filed: reference::Filed) -> Said {
     })
 }
 
+fn meant_origin(side: by::Side) -> Origin {
+    match side {
+        by::Side::Public => Origin::Public,
+        by::Side::Overrides => Origin::Overrides,
+    }
+}
+
+fn meant_hop(hop: by::Hop) -> Said {
+    Said::Hop(match hop {
+        by::Hop::NoAttestation => Hop::NoAttestation,
+        by::Hop::Provider { side, source } => Hop::ProviderPlus {
+            origin: meant_origin(side),
+            source,
+        },
+        by::Hop::NotProvider { side } => Hop::NotProviderPlus {
+            origin: meant_origin(side),
+        },
+    })
+}
+
 fn meant_answer(judgement: by::Judgement) -> Said {
+    let named = |hop: by::Named| NamedHop {
+        place: hop.place,
+        origin: meant_origin(hop.side),
+    };
     let verdict = match judgement.verdict {
         by::Verdict::Valid => Verdict::Valid,
-        by::Verdict::Invalid(by::Cause::Hops { a, b }) => Verdict::Invalid(Cause::Hops { a, b }),
+        by::Verdict::Invalid(by::Cause::Hops { a, b }) => Verdict::Invalid(Cause::Hops {
+            a: named(a),
+            b: b.map(named),
+        }),
         by::Verdict::Invalid(by::Cause::Ground(ground)) => {
             Verdict::Invalid(Cause::Ground(match ground {
                 by::Ground::Empty => Ground::Empty,
@@ -100,15 +133,16 @@ fn meant_answer(judgement: by::Judgement) -> Said {
 }
 
 /// What a stored route's words mean.
-fn meant_verdict(route: &reference::Route) -> Verdict {
+fn meant_verdict(route: &reference::Route) -> KeptVerdict {
     let (a, b) = (route.place_a, route.place_b);
+    let ground = |ground| KeptVerdict::Invalid(KeptCause::Ground(ground));
     match (route.verdict, route.ground) {
-        (0, 0) => Verdict::Valid,
-        (1, 0) => Verdict::Invalid(Cause::Hops { a, b }),
-        (1, 1) => Verdict::Invalid(Cause::Ground(Ground::Empty)),
-        (1, 2) => Verdict::Invalid(Cause::Ground(Ground::NotNeighbour)),
-        (1, 3) => Verdict::Invalid(Cause::Ground(Ground::AsSet)),
-        (2, 0) => Verdict::Unknown { a, b },
+        (0, 0) => KeptVerdict::Valid,
+        (1, 0) => KeptVerdict::Invalid(KeptCause::Hops { a, b }),
+        (1, 1) => ground(Ground::Empty),
+        (1, 2) => ground(Ground::NotNeighbour),
+        (1, 3) => ground(Ground::AsSet),
+        (2, 0) => KeptVerdict::Unknown { a, b },
         words => panic!("verdict and ground are {words:?}"),
     }
 }
@@ -117,29 +151,40 @@ fn model_numbers(numbers: &[AsNumber]) -> Vec<reference::AsNumber> {
     numbers.iter().map(|n| reference::AsNumber(n.0)).collect()
 }
 
-fn run(tables: &mut Tables, call: &Call) -> Said {
+/// The one of two that is meant.
+fn chosen<'a, T>(origin: Origin, public: &'a mut T, overrides: &'a mut T) -> &'a mut T {
+    match origin {
+        Origin::Public => public,
+        Origin::Overrides => overrides,
+    }
+}
+
+fn run(tables: &mut Tables, overrides: &mut Register, call: &Call) -> Said {
     let Tables { register, ledger } = tables;
     match call {
-        Call::File(source, customer, list) => {
+        Call::File(origin, source, customer, list) => {
             let list: Vec<AsNumber> = list.iter().copied().map(AsNumber).collect();
-            said(
-                register.file(*source, AsNumber(*customer), &list),
-                Said::Filed,
-            )
+            let register = chosen(*origin, register, overrides);
+            let filed = register.file(*source, AsNumber(*customer), &list);
+            said(filed, Said::Filed)
         }
-        Call::Withdraw(source, customer) => {
-            said(register.withdraw(*source, AsNumber(*customer)), |()| {
-                Said::Done
-            })
+        Call::Withdraw(origin, source, customer) => {
+            let register = chosen(*origin, register, overrides);
+            let withdrawn = register.withdraw(*source, AsNumber(*customer));
+            said(withdrawn, |()| Said::Done)
         }
-        Call::Clear(source) => said(register.clear(*source), Said::Count),
+        Call::Clear(origin, source) => {
+            let register = chosen(*origin, register, overrides);
+            said(register.clear(*source), Said::Count)
+        }
         Call::Judge(r) => said(
-            register.judge(r.role, AsNumber(r.neighbour), &r.attribute),
+            register.judge(overrides, r.role, AsNumber(r.neighbour), &r.attribute),
             Said::Judged,
         ),
         Call::Keep(route, r) => said(
             ledger.keep(
                 register,
+                overrides,
                 RouteNumber(*route),
                 r.role,
                 AsNumber(r.neighbour),
@@ -148,7 +193,7 @@ fn run(tables: &mut Tables, call: &Call) -> Said {
             Said::Judged,
         ),
         Call::Drop(route) => said(ledger.drop_route(RouteNumber(*route)), |()| Said::Done),
-        Call::Rejudge => said(tables.rejudge(), Said::Count),
+        Call::Rejudge => said(tables.rejudge(overrides), Said::Count),
         Call::Write(capacity) => {
             let mut to = output(*capacity);
             let written = tables.write(&mut to);
@@ -159,6 +204,14 @@ fn run(tables: &mut Tables, call: &Call) -> Said {
             said(written, |length| Said::Written(length, to.clone()))
         }
         Call::Read(file) => said(tables.read(file), |()| Said::Done),
+        Call::Hop(x, y) => {
+            let hop = register.hop(overrides, AsNumber(*x), AsNumber(*y));
+            said(hop, Said::Hop)
+        }
+        Call::Lookup(source, customer) => {
+            let list = register.lookup(overrides, *source, AsNumber(*customer));
+            Said::List(list.iter().map(|number| number.0).collect())
+        }
     }
 }
 
@@ -166,16 +219,16 @@ fn run_model(model: &mut Model, call: &Call) -> Said {
     use reference::{AsNumber, RouteNumber};
     let count = |n: usize| Said::Count(n as u32);
     match call {
-        Call::File(source, customer, list) => {
+        Call::File(origin, source, customer, list) => {
             let list: Vec<AsNumber> = list.iter().copied().map(AsNumber).collect();
-            meant(model.file(*source, AsNumber(*customer), &list), meant_filed)
+            let filed = of(model, *origin).file(*source, AsNumber(*customer), &list);
+            meant(filed, meant_filed)
         }
-        Call::Withdraw(source, customer) => {
-            meant(model.withdraw(*source, AsNumber(*customer)), |()| {
-                Said::Done
-            })
+        Call::Withdraw(origin, source, customer) => {
+            let withdrawn = of(model, *origin).withdraw(*source, AsNumber(*customer));
+            meant(withdrawn, |()| Said::Done)
         }
-        Call::Clear(source) => meant(model.clear(*source), count),
+        Call::Clear(origin, source) => meant(of(model, *origin).clear(*source), count),
         Call::Judge(r) => meant(
             model.judge(r.role.number(), AsNumber(r.neighbour), &r.attribute),
             meant_answer,
@@ -197,7 +250,16 @@ fn run_model(model: &mut Model, call: &Call) -> Said {
             meant(written, |length| Said::Written(length, to.clone()))
         }
         Call::Read(file) => meant(model.read(file), |()| Said::Done),
+        Call::Hop(x, y) => meant(model.hop(AsNumber(*x), AsNumber(*y)), meant_hop),
+        Call::Lookup(source, customer) => {
+            let list = model.lookup(AsNumber(*customer), *source);
+            Said::List(list.iter().map(|number| number.0).collect())
+        }
     }
+}
+
+fn of(model: &mut Model, origin: Origin) -> &mut Table<reference::Records> {
+    chosen(origin, &mut model.register, &mut model.overrides)
 }
 
 // Histories
@@ -211,18 +273,21 @@ struct Shape {
     /// Percent of lists near 256 providers, and of paths near 64 numbers, one segment, two segments or the most.
     long_lists: usize,
     long_paths: usize,
+    /// Percent of the calls on one register that are on the overrides.
+    overrides: usize,
     /// Weights of the calls, in the order of `Call`.
     weights: [usize; KINDS],
 }
 
 /// How many kinds of calls there are.
-const KINDS: usize = 9;
+const KINDS: usize = 11;
 
 struct History<'a> {
     shape: &'a Shape,
     seed: u64,
     random: Random,
     tables: Tables,
+    overrides: Register,
     model: Model,
     calls: usize,
     /// The last snapshots that the binding wrote.
@@ -238,6 +303,7 @@ impl History<'_> {
             seed,
             random: Random::new(seed),
             tables: Tables::new(),
+            overrides: Register::new(),
             model: Model::new(),
             calls: 0,
             files: vec![],
@@ -267,14 +333,24 @@ impl History<'_> {
 
     fn make(&mut self, call: Call) {
         self.calls += 1;
-        let before = self.tables.clone();
-        let answer = run(&mut self.tables, &call);
+        let before = (self.tables.clone(), self.overrides.clone());
+        let answer = run(&mut self.tables, &mut self.overrides, &call);
         let at = || format!("seed {}, call {}: {call:?}", self.seed, self.calls);
         let meant = run_model(&mut self.model, &call);
         assert!(answer == meant, "{answer:?} and {meant:?}, {}", at());
-        let reads = matches!(call, Call::Judge(_) | Call::Write(_));
-        let stays = reads || matches!(answer, Said::Refused(..));
-        assert!(!stays || self.tables == before, "a table changed: {}", at());
+        let refused = matches!(answer, Said::Refused(..));
+        let (tables, overrides) = match call {
+            _ if refused => (false, false),
+            Call::Judge(_) | Call::Write(_) | Call::Hop(..) | Call::Lookup(..) => (false, false),
+            Call::File(origin, ..) | Call::Withdraw(origin, ..) | Call::Clear(origin, _) => {
+                (origin == Origin::Public, origin == Origin::Overrides)
+            }
+            _ => (true, false),
+        };
+        let stays = tables || self.tables == before.0;
+        assert!(stays, "a table changed: {}", at());
+        let stays = overrides || self.overrides == before.1;
+        assert!(stays, "the overrides changed: {}", at());
         if let Said::Written(length, to) = &answer {
             self.files.push(to[..*length].to_vec());
             if self.files.len() > 4 {
@@ -294,7 +370,7 @@ impl History<'_> {
 
     fn count(&mut self, call: &Call, answer: Said) {
         match (call, &answer) {
-            (Call::File(_, customer, list), Said::Refused(6, _)) if list.contains(customer) => {
+            (Call::File(_, _, customer, list), Said::Refused(6, _)) if list.contains(customer) => {
                 self.tell("own customer filed");
             }
             (Call::Read(file), Said::Refused(2, _)) if holds_own(&file_register(file)) => {
@@ -311,6 +387,11 @@ impl History<'_> {
                     self.tell(key);
                 }
             }
+            (Call::Lookup(source, customer), Said::List(list))
+                if list.is_empty() && self.is_filed(*source, *customer) =>
+            {
+                self.tell("hidden list");
+            }
             _ => {}
         }
         let key = match answer {
@@ -321,6 +402,10 @@ impl History<'_> {
             Said::Count(0) | Said::Done => return,
             Said::Count(_) if matches!(call, Call::Rejudge) => "changed".into(),
             Said::Count(_) => "cleared".into(),
+            Said::Hop(Hop::ProviderPlus { origin, .. }) => format!("provider {origin:?}"),
+            Said::Hop(hop) => format!("{hop:?}"),
+            Said::List(list) if list.is_empty() => "no list".into(),
+            Said::List(_) => "list".into(),
             Said::Judged(Answer { verdict, gap }) => {
                 let way = if gap.is_some() { "down" } else { "up" };
                 if gap.is_some_and(|g| g < 0) {
@@ -334,7 +419,11 @@ impl History<'_> {
                 }
                 match verdict {
                     Verdict::Valid => format!("valid {way}"),
-                    Verdict::Invalid(Cause::Hops { .. }) => format!("invalid {way}"),
+                    Verdict::Invalid(Cause::Hops { a, b }) => {
+                        let others = b.map(|b| format!(" {:?}", b.origin));
+                        let others = others.unwrap_or_default();
+                        format!("invalid {way} {:?}{others}", a.origin)
+                    }
                     Verdict::Invalid(Cause::Ground(ground)) => format!("{ground:?}"),
                     Verdict::Unknown { .. } => format!("unknown {way}"),
                 }
@@ -343,9 +432,20 @@ impl History<'_> {
         self.tell(&key);
     }
 
+    /// Whether the public register, as it stands, has a list of this source for this customer.
+    fn is_filed(&self, source: u32, customer: u32) -> bool {
+        let key = (reference::AsNumber(customer), source);
+        matches!(&self.model.register, Table::Held(records) if records.contains_key(&key))
+    }
+
     fn compare_tables(&self) {
         let at = format!("seed {}, after call {}", self.seed, self.calls);
         let pairs = [
+            (
+                "overrides",
+                self.overrides.words(),
+                self.model.overrides.words(),
+            ),
             (
                 "register",
                 self.tables.register.words(),
@@ -372,7 +472,13 @@ impl History<'_> {
     fn compare_entries(&self) {
         let at = format!("seed {}, after call {}", self.seed, self.calls);
         let Tables { register, ledger } = &self.tables;
-        if let Table::Held(records) = &self.model.register {
+        for (register, model) in [
+            (register, &self.model.register),
+            (&self.overrides, &self.model.overrides),
+        ] {
+            let Table::Held(records) = model else {
+                continue;
+            };
             let ours = register.records().map(|r| {
                 let key = (reference::AsNumber(r.customer.0), r.source);
                 (key, model_numbers(r.providers))
@@ -397,6 +503,12 @@ impl History<'_> {
                 register.records().count(),
                 <reference::Records as Form>::ENTRY,
                 self.model.register.well_formed(),
+            ),
+            (
+                self.overrides.words(),
+                self.overrides.records().count(),
+                <reference::Records as Form>::ENTRY,
+                self.model.overrides.well_formed(),
             ),
             (
                 ledger.words(),
@@ -426,16 +538,20 @@ impl History<'_> {
         }
     }
 
-    /// Damages one table or both, makes every call, and repairs them. Altered words that the word rules allow sometimes stay: verdicts
+    /// Damages one table or more, makes every call, and repairs them. Altered words that the word rules allow sometimes stay: verdicts
     /// that aren't true, other providers, a path that ends with the number that begins the next.
     fn damaged(&mut self) {
-        let kept = (self.tables.clone(), self.model.clone());
-        let (register, ledger) = self.random.pick(&[
-            (true, false),
-            (false, true),
-            (true, false),
-            (false, true),
-            (true, true),
+        let kept = self.kept();
+        let [register, overrides, ledger] = self.random.pick(&[
+            [true, false, false],
+            [false, true, false],
+            [false, false, true],
+            [true, false, false],
+            [false, false, true],
+            [true, true, false],
+            [true, false, true],
+            [false, true, true],
+            [true, true, true],
         ]);
         if ledger {
             let beside = equal_neighbours(&self.tables.ledger);
@@ -450,29 +566,46 @@ impl History<'_> {
             assert!(!ends || self.model.ledger.well_formed(), "equal ends");
             self.tell_equal();
         }
-        if register {
-            let own = own_customers(&self.tables.register);
+        for (origin, damaged) in [(Origin::Public, register), (Origin::Overrides, overrides)] {
+            if !damaged {
+                continue;
+            }
+            let ours = chosen(origin, &mut self.tables.register, &mut self.overrides);
+            let model = of(&mut self.model, origin);
+            let own = own_customers(ours);
             let change = if !own.is_empty() && self.random.percent(20) {
                 Change::Poke(self.random.pick(&own))
             } else {
-                Change::draw(&mut self.random, &self.model.register)
+                Change::draw(&mut self.random, model)
             };
-            let words = change.make(&mut self.model.register, self.tables.register.words());
-            self.tables.register = Register::from_words(words);
-            if holds_own(&self.tables.register) {
+            *ours = Register::from_words(change.make(model, ours.words()));
+            if holds_own(ours) {
                 self.tell("own customer held");
+            }
+            if !of(&mut self.model, origin).well_formed() {
+                self.tell(&format!("damaged {origin:?}"));
             }
         }
         self.compare_tables();
-        let allowed = self.model.register.well_formed() && self.model.ledger.well_formed();
+        let registers = self.model.register.well_formed() && self.model.overrides.well_formed();
+        let allowed = registers && self.model.ledger.well_formed();
         for kind in 0..KINDS {
             self.call(kind);
         }
         self.compare_tables();
         self.tell(if allowed { "altered" } else { "damaged" });
         if !allowed || self.random.percent(50) {
-            (self.tables, self.model) = kept;
+            self.restore(&kept);
         }
+    }
+
+    fn kept(&self) -> (Tables, Register, Model) {
+        let (tables, overrides) = (self.tables.clone(), self.overrides.clone());
+        (tables, overrides, self.model.clone())
+    }
+
+    fn restore(&mut self, kept: &(Tables, Register, Model)) {
+        (self.tables, self.overrides, self.model) = kept.clone();
     }
 
     // Calls
@@ -500,16 +633,35 @@ impl History<'_> {
                 } else {
                     self.list(customer)
                 };
-                Call::File(source, customer, list)
+                Call::File(self.origin(), source, customer, list)
             }
-            1 => Call::Withdraw(self.source(), self.customer()),
-            2 => Call::Clear(self.source()),
+            1 => Call::Withdraw(self.origin(), self.source(), self.customer()),
+            2 => Call::Clear(self.origin(), self.source()),
             3 => Call::Judge(self.route()),
             4 => Call::Keep(self.route_number(), self.route()),
             5 => Call::Drop(self.route_number()),
             6 => Call::Rejudge,
             7 => Call::Write(self.capacity()),
-            _ => Call::Read(self.file()),
+            8 => Call::Read(self.file()),
+            9 => {
+                let customer = self.customer();
+                let providers = self.providers(customer);
+                let other = if !providers.is_empty() && self.random.percent(60) {
+                    self.random.pick(&providers)
+                } else {
+                    self.number()
+                };
+                Call::Hop(customer, other)
+            }
+            _ => Call::Lookup(self.source(), self.customer()),
+        }
+    }
+
+    fn origin(&mut self) -> Origin {
+        if self.random.percent(self.shape.overrides) {
+            Origin::Overrides
+        } else {
+            Origin::Public
         }
     }
 
@@ -724,16 +876,22 @@ impl History<'_> {
         }
     }
 
+    /// By the register that counts.
     fn providers(&self, customer: u32) -> Vec<u32> {
-        let Table::Held(records) = &self.model.register else {
-            return vec![];
-        };
         let customer = reference::AsNumber(customer);
-        records
-            .range((customer, 0)..=(customer, GREATEST_SOURCE))
-            .flat_map(|(_, list)| list.iter().map(|n| n.0))
-            .filter(|n| *n != 0)
-            .collect()
+        for register in [&self.model.overrides, &self.model.register] {
+            let Table::Held(records) = register else {
+                return vec![];
+            };
+            let lists = records.range((customer, 0)..=(customer, GREATEST_SOURCE));
+            let listed: Vec<u32> = lists
+                .flat_map(|(_, list)| list.iter().map(|n| n.0))
+                .collect();
+            if !listed.is_empty() {
+                return listed.into_iter().filter(|n| *n != 0).collect();
+            }
+        }
+        vec![]
     }
 
     /// Mostly from customer to provider by the records, origin first.
@@ -1033,7 +1191,8 @@ fn equal_across(ledger: &Ledger) -> bool {
 /// The farther place of a verdict.
 fn farthest(verdict: Verdict) -> u32 {
     match verdict {
-        Verdict::Invalid(Cause::Hops { a, b }) | Verdict::Unknown { a, b } => a.max(b),
+        Verdict::Invalid(Cause::Hops { a, b }) => b.map_or(a.place, |b| a.place.max(b.place)),
+        Verdict::Unknown { a, b } => a.max(b),
         _ => 0,
     }
 }
@@ -1071,15 +1230,27 @@ fn runs(attribute: &[u8]) -> Vec<&'static str> {
 }
 
 /// What every shape must reach, with the refusals below.
-const REACHED: [&str; 24] = [
+const REACHED: [&str; 37] = [
     "New",
     "Replaced",
     "cleared",
     "changed",
     "valid up",
     "valid down",
-    "invalid up",
-    "invalid down",
+    "invalid up Public",
+    "invalid up Overrides",
+    "invalid down Public Public",
+    "invalid down Public Overrides",
+    "invalid down Overrides Public",
+    "invalid down Overrides Overrides",
+    "NoAttestation",
+    "provider Public",
+    "provider Overrides",
+    "NotProviderPlus { origin: Public }",
+    "NotProviderPlus { origin: Overrides }",
+    "list",
+    "no list",
+    "hidden list",
     "unknown up",
     "unknown down",
     "overlap",
@@ -1090,7 +1261,8 @@ const REACHED: [&str; 24] = [
     "NotNeighbour",
     "AsSet",
     "altered",
-    "damaged",
+    "damaged Public",
+    "damaged Overrides",
     "written",
     "read",
     "own customer filed",
@@ -1149,7 +1321,8 @@ const EVERYTHING: Shape = Shape {
     routes: 60,
     long_lists: 2,
     long_paths: 4,
-    weights: [200, 80, 20, 300, 200, 100, 100, 30, 40],
+    overrides: 40,
+    weights: [200, 80, 20, 300, 200, 100, 100, 30, 40, 100, 60],
 };
 
 #[test]
@@ -1161,13 +1334,17 @@ fn everything() {
 #[test]
 fn single_words() {
     let mut history = History::new(&EVERYTHING, 600);
-    for (source, customer, list) in [
-        (0, 3, vec![0]),
-        (7, 3, vec![4, 6]),
-        (2, 4, vec![3, 5, u32::MAX]),
-        (2, 9, vec![4]),
+    let (public, overrides) = (Origin::Public, Origin::Overrides);
+    for (origin, source, customer, list) in [
+        (public, 0, 3, vec![0]),
+        (public, 7, 3, vec![4, 6]),
+        (public, 2, 4, vec![3, 5, u32::MAX]),
+        (public, 2, 9, vec![4]),
+        (overrides, 1, 4, vec![5]),
+        (overrides, 5, 4, vec![3, 6]),
+        (overrides, 0, 8, vec![0, 3]),
     ] {
-        history.make(Call::File(source, customer, list));
+        history.make(Call::File(origin, source, customer, list));
     }
     let attributes = [
         vec![],
@@ -1187,14 +1364,14 @@ fn single_words() {
     }
     history.compare_tables();
 
-    let kept = (history.tables.clone(), history.model.clone());
+    let kept = history.kept();
     let values = |old: u32| {
         let near = [old.wrapping_add(1), old.wrapping_sub(1), old ^ (1 << 31)];
         (0..=9)
             .chain([256, 257, FAR, TOO_FAR, 8193, u32::MAX])
             .chain(near)
     };
-    let used = kept.1.register.used_words().len();
+    let used = kept.2.register.used_words().len();
     for index in (0..=used).chain([REGISTER_WORDS - 1]) {
         for value in values(kept.0.register.words()[index]) {
             let mut words = kept.0.register.words().to_vec();
@@ -1202,12 +1379,34 @@ fn single_words() {
             history.tables.register = Register::from_words(words);
             assert!(history.model.register.poke(index, value));
             history.compare_entries();
-            history.make(Call::Withdraw(2, 8));
+            history.make(Call::Hop(3, 4));
+            history.make(Call::Lookup(7, 3));
+            history.make(Call::Lookup(5, 4));
+            history.make(Call::Withdraw(public, 2, 8));
             history.make(Call::Rejudge);
-            (history.tables, history.model) = kept.clone();
+            history.restore(&kept);
         }
     }
-    let used = kept.1.ledger.used_words().len();
+    let used = kept.2.overrides.used_words().len();
+    for index in (0..=used).chain([REGISTER_WORDS - 1]) {
+        for value in values(kept.1.words()[index]) {
+            let mut words = kept.1.words().to_vec();
+            words[index] = value;
+            history.overrides = Register::from_words(words);
+            assert!(history.model.overrides.poke(index, value));
+            history.compare_entries();
+            history.make(Call::Hop(4, 3));
+            history.make(Call::Hop(8, 3));
+            history.make(Call::Lookup(5, 4));
+            history.make(Call::Lookup(7, 3));
+            history.make(Call::Withdraw(overrides, 2, 8));
+            history.make(Call::File(public, 3, 3, vec![5]));
+            history.make(Call::Write(SNAPSHOT_BYTES));
+            history.make(Call::Rejudge);
+            history.restore(&kept);
+        }
+    }
+    let used = kept.2.ledger.used_words().len();
     for index in (0..=used).chain([LEDGER_WORDS - 1]) {
         for value in values(kept.0.ledger.words()[index]) {
             let mut words = kept.0.ledger.words().to_vec();
@@ -1218,7 +1417,7 @@ fn single_words() {
             history.compare_entries();
             history.make(Call::Drop(1));
             history.make(Call::Rejudge);
-            (history.tables, history.model) = kept.clone();
+            history.restore(&kept);
         }
     }
     let file = history.model_file().expect("well formed");
@@ -1226,7 +1425,7 @@ fn single_words() {
         for value in values(snapshot::number_at(&file, index)) {
             let file = snapshot::with(&file, &[(index, value)]);
             history.make(Call::Read(file));
-            (history.tables, history.model) = kept.clone();
+            history.restore(&kept);
         }
     }
     println!("{} calls: {:?}", history.calls, history.tally);
@@ -1244,7 +1443,8 @@ fn many_records() {
         routes: 60,
         long_lists: 0,
         long_paths: 8,
-        weights: [1000, 20, 1, 80, 80, 60, 19, 20, 10],
+        overrides: 12,
+        weights: [1200, 20, 1, 80, 80, 60, 19, 20, 10, 30, 30],
     };
     histories(200, shape, &[8]);
 }
@@ -1256,7 +1456,8 @@ fn long_lists() {
         routes: 60,
         long_lists: 60,
         long_paths: 15,
-        weights: [300, 60, 4, 300, 150, 100, 86, 20, 30],
+        overrides: 30,
+        weights: [300, 60, 4, 300, 150, 100, 86, 20, 30, 40, 40],
     };
     histories(300, shape, &[8]);
 }
@@ -1268,7 +1469,8 @@ fn many_routes() {
         routes: 700,
         long_lists: 1,
         long_paths: 1,
-        weights: [100, 30, 3, 80, 700, 30, 57, 20, 20],
+        overrides: 30,
+        weights: [100, 30, 3, 80, 700, 30, 57, 20, 20, 40, 40],
     };
     histories(400, shape, &[20]);
 }
@@ -1280,7 +1482,8 @@ fn long_paths() {
         routes: 150,
         long_lists: 10,
         long_paths: 75,
-        weights: [150, 50, 5, 150, 450, 60, 135, 20, 30],
+        overrides: 30,
+        weights: [150, 50, 5, 150, 450, 60, 135, 20, 30, 40, 40],
     };
     histories(500, shape, &[20]);
 }

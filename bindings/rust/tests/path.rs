@@ -82,29 +82,29 @@ fn lengths() {
 /// However long it is, a path is read as it was built.
 #[test]
 fn kept() {
-    let (register, role) = (Register::new(), Role::Customer);
+    let (register, none, role) = (Register::new(), Register::new(), Role::Customer);
     let path: Vec<AsNumber> = (1..=513).map(AsNumber).collect();
     for length in [1, 254, 255, 256, 509, 510, 511, 512] {
         let mut ledger = Ledger::new();
         let attribute = sequence(&path[..length]).unwrap();
         let (number, neighbour) = (RouteNumber(1), path[0]);
         ledger
-            .keep(&register, number, role, neighbour, &attribute)
+            .keep(&register, &none, number, role, neighbour, &attribute)
             .unwrap();
         assert_eq!(ledger.routes().next().unwrap().path, &path[..length]);
     }
-    let refused = register.judge(role, path[0], &sequence(&path).unwrap());
+    let refused = register.judge(&none, role, path[0], &sequence(&path).unwrap());
     assert_eq!(refused, Err(Refusal::PathLength));
 }
 
 /// What is built is read as it was meant.
 #[test]
 fn judged() {
-    let mut register = Register::new();
+    let (mut register, none) = (Register::new(), Register::new());
     register.file(0, AsNumber(10), &[AsNumber(20)]).unwrap();
     register.file(0, AsNumber(20), &[AsNumber(30)]).unwrap();
     let judge = |path: &PathBuilder| {
-        let answer = register.judge(Role::Customer, AsNumber(30), path.bytes());
+        let answer = register.judge(&none, Role::Customer, AsNumber(30), path.bytes());
         answer.unwrap().verdict
     };
     let top = PathBuilder::new().sequence(&[AsNumber(30)]).unwrap();

@@ -1,4 +1,4 @@
-//! Every row through the binding: its number, its place, its text, and both tables as they were.
+//! Every row through the binding: its number, its place, its text, and all tables as they were.
 use aspa_filter::{
     sequence, AsNumber, Ledger, PathBuilder, Refusal, Register, Role, RouteNumber, Tables,
     LEDGER_WORDS, MOST_ATTRIBUTE_BYTES, MOST_PATH, MOST_PROVIDERS, MOST_RECORDS, MOST_ROUTES,
@@ -6,7 +6,40 @@ use aspa_filter::{
 };
 use std::collections::BTreeSet;
 
-type Call = Box<dyn Fn(&mut Tables) -> Result<(), Refusal>>;
+/// The tables of a snapshot, and overrides.
+#[derive(Clone, PartialEq)]
+struct All {
+    register: Register,
+    overrides: Register,
+    ledger: Ledger,
+}
+
+impl All {
+    /// The same with the registers exchanged.
+    fn exchanged(&self) -> All {
+        All {
+            register: self.overrides.clone(),
+            overrides: self.register.clone(),
+            ledger: self.ledger.clone(),
+        }
+    }
+
+    fn tables(&self) -> Tables {
+        Tables {
+            register: self.register.clone(),
+            ledger: self.ledger.clone(),
+        }
+    }
+
+    fn read(&mut self, snapshot: &[u8]) -> Result<(), Refusal> {
+        let mut tables = self.tables();
+        let read = tables.read(snapshot);
+        (self.register, self.ledger) = (tables.register, tables.ledger);
+        read
+    }
+}
+
+type Call = Box<dyn Fn(&mut All) -> Result<(), Refusal>>;
 
 /// The refusal of a fault at a place.
 type Faulty = fn(u32) -> Refusal;
@@ -14,7 +47,7 @@ type Faulty = fn(u32) -> Refusal;
 /// The text of each row.
 const TEXTS: [&str; 24] = [
     "refused by 1: a table has the wrong length: a register has 12290 words, a ledger 12802",
-    "refused by 2: the register is malformed",
+    "refused by 2: a register is malformed",
     "refused by 3: the ledger is malformed",
     "refused by 4: the source is above 7",
     "refused by 5: the customer is 0",
@@ -43,17 +76,37 @@ fn path() -> Vec<u8> {
     sequence(&[20, 10].map(AsNumber)).unwrap()
 }
 
+/// The customer of the one override, which is on no path.
+const ELSEWHERE: AsNumber = AsNumber(3_999_999_999);
+
+fn overrides() -> Register {
+    let mut overrides = Register::new();
+    overrides.file(3, ELSEWHERE, &[AsNumber(20)]).unwrap();
+    overrides
+}
+
 /// A few records and two routes.
-fn some() -> Tables {
-    let (mut register, mut ledger) = (Register::new(), Ledger::new());
+fn some() -> All {
+    let (mut register, overrides, mut ledger) = (Register::new(), overrides(), Ledger::new());
     register.file(0, AsNumber(10), &[AsNumber(20)]).unwrap();
     register.file(7, AsNumber(20), &[AsNumber(0)]).unwrap();
     for (number, role) in [(1, Role::Customer), (4, Role::Provider)] {
         ledger
-            .keep(&register, RouteNumber(number), role, AsNumber(20), &path())
+            .keep(
+                &register,
+                &overrides,
+                RouteNumber(number),
+                role,
+                AsNumber(20),
+                &path(),
+            )
             .unwrap();
     }
-    Tables { register, ledger }
+    All {
+        register,
+        overrides,
+        ledger,
+    }
 }
 
 fn numbers(count: usize) -> Vec<AsNumber> {
@@ -61,9 +114,10 @@ fn numbers(count: usize) -> Vec<AsNumber> {
 }
 
 /// As many records, and routes, as there may be.
-fn full() -> Tables {
-    let Tables {
+fn full() -> All {
+    let All {
         mut register,
+        overrides,
         mut ledger,
     } = some();
     for customer in 100.. {
@@ -78,15 +132,26 @@ fn full() -> Tables {
         }
         let number = RouteNumber(number);
         ledger
-            .keep(&register, number, Role::Peer, AsNumber(20), &path())
+            .keep(
+                &register,
+                &overrides,
+                number,
+                Role::Peer,
+                AsNumber(20),
+                &path(),
+            )
             .unwrap();
     }
-    Tables { register, ledger }
+    All {
+        register,
+        overrides,
+        ledger,
+    }
 }
 
 /// As many provider numbers, and path numbers, as there may be, but few entries. The customers are 1001 to 1032.
-fn full_bodies() -> Tables {
-    let (mut register, mut ledger) = (Register::new(), Ledger::new());
+fn full_bodies() -> All {
+    let (mut register, overrides, mut ledger) = (Register::new(), overrides(), Ledger::new());
     for customer in 1001..=1032 {
         let providers = numbers(MOST_PROVIDERS);
         register.file(1, AsNumber(customer), &providers).unwrap();
@@ -95,18 +160,34 @@ fn full_bodies() -> Tables {
     for number in 1..=16 {
         let number = RouteNumber(number);
         ledger
-            .keep(&register, number, Role::Peer, AsNumber(1), &path)
+            .keep(
+                &register,
+                &overrides,
+                number,
+                Role::Peer,
+                AsNumber(1),
+                &path,
+            )
             .unwrap();
     }
-    Tables { register, ledger }
+    All {
+        register,
+        overrides,
+        ledger,
+    }
 }
 
-fn with_words(change: impl Fn(&mut Vec<u32>, &mut Vec<u32>)) -> Tables {
-    let Tables { register, ledger } = some();
+fn with_words(change: impl Fn(&mut Vec<u32>, &mut Vec<u32>)) -> All {
+    let All {
+        register,
+        overrides,
+        ledger,
+    } = some();
     let (mut r, mut l) = (register.words().to_vec(), ledger.words().to_vec());
     change(&mut r, &mut l);
-    Tables {
+    All {
         register: Register::from_words(r),
+        overrides,
         ledger: Ledger::from_words(l),
     }
 }
@@ -128,19 +209,22 @@ fn clear(source: u32) -> Call {
 
 fn judge(neighbour: u32, attribute: Vec<u8>) -> Call {
     Box::new(move |t| {
-        let answer = t
-            .register
-            .judge(Role::Customer, AsNumber(neighbour), &attribute);
+        let (role, neighbour) = (Role::Customer, AsNumber(neighbour));
+        let answer = t.register.judge(&t.overrides, role, neighbour, &attribute);
         answer.map(|_| ())
     })
 }
 
 fn keep(number: u32, neighbour: u32, attribute: Vec<u8>) -> Call {
     Box::new(move |t| {
-        let (number, neighbour) = (RouteNumber(number), AsNumber(neighbour));
-        let answer = t
-            .ledger
-            .keep(&t.register, number, Role::Customer, neighbour, &attribute);
+        let answer = t.ledger.keep(
+            &t.register,
+            &t.overrides,
+            RouteNumber(number),
+            Role::Customer,
+            AsNumber(neighbour),
+            &attribute,
+        );
         answer.map(|_| ())
     })
 }
@@ -150,7 +234,16 @@ fn drop_route(number: u32) -> Call {
 }
 
 fn rejudge() -> Call {
-    Box::new(|t| t.ledger.rejudge(&t.register).map(|_| ()))
+    Box::new(|t| t.ledger.rejudge(&t.register, &t.overrides).map(|_| ()))
+}
+
+fn hop(customer: u32, other: u32) -> Call {
+    Box::new(move |t| {
+        let hop = t
+            .register
+            .hop(&t.overrides, AsNumber(customer), AsNumber(other));
+        hop.map(|_| ())
+    })
 }
 
 /// Into so many bytes, none of which may change where it is refused.
@@ -158,7 +251,7 @@ fn write(capacity: usize) -> Call {
     Box::new(move |t| {
         let before: Vec<u8> = (0..capacity).map(|i| i as u8).collect();
         let mut output = before.clone();
-        let written = t.write(&mut output).map(|_| ());
+        let written = t.tables().write(&mut output).map(|_| ());
         assert!(written.is_ok() || output == before);
         written
     })
@@ -168,24 +261,34 @@ fn read(snapshot: Vec<u8>) -> Call {
     Box::new(move |t| t.read(&snapshot))
 }
 
-fn snapshot(tables: &Tables) -> Vec<u8> {
+fn snapshot(tables: &All) -> Vec<u8> {
     let mut bytes = Vec::new();
-    tables.write_to(&mut bytes).unwrap();
+    tables.tables().write_to(&mut bytes).unwrap();
     bytes
 }
 
-/// Every call that looks at a register.
-fn on_register() -> Vec<Call> {
+/// Every call that looks at both registers, and may be refused.
+fn on_both() -> Vec<Call> {
     vec![
-        file(0, 10, numbers(1)),
-        withdraw(0, 10),
-        clear(0),
         judge(20, path()),
         keep(2, 20, path()),
         rejudge(),
+        hop(10, 20),
+        hop(0, 0),
+    ]
+}
+
+/// Every call that looks at the public register, or at the one that it is lent.
+fn on_register() -> Vec<Call> {
+    let mut calls = vec![
+        file(0, 10, numbers(1)),
+        withdraw(0, 10),
+        clear(0),
         write(0),
         write(SNAPSHOT_BYTES),
-    ]
+    ];
+    calls.extend(on_both());
+    calls
 }
 
 /// Every call that looks at a ledger.
@@ -205,15 +308,31 @@ struct Seen(BTreeSet<u32>);
 
 impl Seen {
     /// Each call on these tables is refused so.
-    fn all(&mut self, tables: &Tables, refusal: Refusal, calls: Vec<Call>) {
+    fn all(&mut self, tables: &All, refusal: Refusal, calls: Vec<Call>) {
         for (i, call) in calls.iter().enumerate() {
             let mut after = tables.clone();
             assert_eq!(call(&mut after), Err(refusal), "call {i}");
             // By words: the tables' own text is short.
             assert_eq!(after.register.words(), tables.register.words());
+            assert_eq!(after.overrides.words(), tables.overrides.words());
             assert_eq!(after.ledger.words(), tables.ledger.words());
         }
         self.told(refusal);
+    }
+
+    /// A public register that is refused, by every call that looks at it; so it is as the overrides, and as both. Nothing is found then.
+    fn registers(&mut self, tables: &All, refusal: Refusal) {
+        self.all(tables, refusal, on_register());
+        self.all(&tables.exchanged(), refusal, on_both());
+        let mut both = tables.clone();
+        both.overrides = both.register.clone();
+        self.all(&both, refusal, on_both());
+        for tables in [tables, &tables.exchanged(), &both] {
+            for (source, customer) in [(0, AsNumber(10)), (3, ELSEWHERE)] {
+                let list = tables.register.lookup(&tables.overrides, source, customer);
+                assert_eq!(list, []);
+            }
+        }
     }
 
     fn told(&mut self, refusal: Refusal) {
@@ -247,7 +366,7 @@ fn every_row() {
             r.resize(register, 0);
             l.resize(ledger, 0);
         });
-        seen.all(&tables, Refusal::TableLength, on_register());
+        seen.registers(&tables, Refusal::TableLength);
         seen.all(&tables, Refusal::TableLength, on_ledger());
         let calls = || vec![read(snapshot(&some)), read(vec![])];
         seen.all(&tables, Refusal::TableLength, calls());
@@ -267,7 +386,7 @@ fn every_row() {
         r[0] = u32::MAX;
         l[0] = u32::MAX;
     });
-    seen.all(&tables, Refusal::RegisterMalformed, on_register());
+    seen.registers(&tables, Refusal::RegisterMalformed);
     let tables = with_words(|_, l| l[1] += 1);
     seen.all(&tables, Refusal::LedgerMalformed, on_ledger());
 
@@ -293,7 +412,9 @@ fn every_row() {
     for number in [0, 7, u32::MAX] {
         let judged = |number| -> Result<_, Refusal> {
             let role = Role::try_from(number)?;
-            some.register.judge(role, AsNumber(20), &path())
+            let neighbour = AsNumber(20);
+            some.register
+                .judge(&some.overrides, role, neighbour, &path())
         };
         assert_eq!(judged(number), Err(Refusal::Role));
     }
@@ -403,6 +524,103 @@ fn every_row() {
     assert!(seen.0.into_iter().eq(1..=24), "every row");
 }
 
+/// A table as it should be, with a word too few, or malformed.
+#[derive(Clone, Copy, PartialEq)]
+enum State {
+    Sound,
+    Short,
+    Broken,
+}
+
+impl State {
+    const ALL: [State; 3] = [State::Sound, State::Short, State::Broken];
+
+    fn of(self, words: &[u32]) -> Vec<u32> {
+        let mut words = words.to_vec();
+        match self {
+            State::Sound => {}
+            State::Short => drop(words.pop()),
+            State::Broken => words[1] += 1,
+        }
+        words
+    }
+}
+
+/// The row of tables in these states: of all lengths, then of either register, then of the ledger.
+fn row(registers: &[State], ledger: State) -> Result<(), Refusal> {
+    let any = |state| registers.contains(&state);
+    if any(State::Short) || ledger == State::Short {
+        Err(Refusal::TableLength)
+    } else if any(State::Broken) {
+        Err(Refusal::RegisterMalformed)
+    } else if ledger == State::Broken {
+        Err(Refusal::LedgerMalformed)
+    } else {
+        Ok(())
+    }
+}
+
+/// Every table in every state, for every call: each looks at those that it is lent, and in this order.
+#[test]
+fn orders() {
+    let good = some();
+    let file_of_some = snapshot(&good);
+    let faulty = || (0, vec![0; MOST_ATTRIBUTE_BYTES + 1]);
+    for register in State::ALL {
+        for overrides in State::ALL {
+            for ledger in State::ALL {
+                let tables = All {
+                    register: Register::from_words(register.of(good.register.words())),
+                    overrides: Register::from_words(overrides.of(good.overrides.words())),
+                    ledger: Ledger::from_words(ledger.of(good.ledger.words())),
+                };
+                let check = |calls: Vec<Call>, row: Result<(), Refusal>| {
+                    for call in calls {
+                        let mut after = tables.clone();
+                        assert_eq!(call(&mut after), row);
+                        assert!(row.is_ok() || after == tables);
+                    }
+                };
+                let both = [register, overrides];
+                let read_both = row(&both, State::Sound);
+                check(vec![judge(20, path()), hop(10, 20)], read_both);
+                let found = tables.register.lookup(&tables.overrides, 0, AsNumber(10));
+                let overridden = tables.register.lookup(&tables.overrides, 3, ELSEWHERE);
+                for list in [found, overridden] {
+                    assert_eq!(list.len(), usize::from(read_both.is_ok()));
+                }
+                check(vec![keep(2, 20, path()), rejudge()], row(&both, ledger));
+                // The tables go before the arguments.
+                if let Err(refusal) = read_both {
+                    let (neighbour, attribute) = faulty();
+                    check(vec![judge(neighbour, attribute)], Err(refusal));
+                }
+                if let Err(refusal) = row(&both, ledger) {
+                    let (neighbour, attribute) = faulty();
+                    check(vec![keep(1, neighbour, attribute)], Err(refusal));
+                }
+                // One register, whichever it is: the other is not looked at.
+                let calls = || vec![file(0, 77, numbers(1)), clear(5)];
+                check(calls(), row(&[register], State::Sound));
+                for call in calls() {
+                    let mut after = tables.exchanged();
+                    assert_eq!(call(&mut after), row(&[overrides], State::Sound));
+                }
+                check(vec![drop_route(1)], row(&[], ledger));
+                check(vec![write(SNAPSHOT_BYTES)], row(&[register], ledger));
+                // Reading goes by lengths alone.
+                let lengths = [register, ledger].contains(&State::Short);
+                let told = if lengths {
+                    Err(Refusal::TableLength)
+                } else {
+                    Ok(())
+                };
+                check(vec![read(file_of_some.clone())], told);
+            }
+        }
+    }
+}
+
 /// So many numbers, two apart, with this one at this position. The numbers beside it are not in the list.
 fn around(number: u32, length: usize, position: usize) -> Vec<AsNumber> {
     let numbers = (0..length as u32).map(|i| number + 2 * i - 2 * position as u32);
@@ -452,7 +670,7 @@ fn own_customer_filed() {
 
 /// Three records of three providers, in which the number at this position is one above the customer: the customer in its place is the
 /// register's one fault. Gives the tables, and each of those words with its customer.
-fn nearly_own(position: usize) -> (Tables, [(usize, u32); 3]) {
+fn nearly_own(position: usize) -> (All, [(usize, u32); 3]) {
     let mut tables = some();
     tables.register = Register::new();
     let words = [0, 1, 2].map(|i| {
@@ -474,11 +692,11 @@ fn own_customer_held() {
         for (index, customer) in words {
             let mut held = good.register.words().to_vec();
             held[index] = customer;
-            let tables = Tables {
+            let tables = All {
                 register: Register::from_words(held),
-                ledger: good.ledger.clone(),
+                ..good.clone()
             };
-            seen.all(&tables, malformed, on_register());
+            seen.registers(&tables, malformed);
             // The register goes before the list, and before the ledger.
             seen.all(&tables, malformed, vec![file(0, 1, numbers(1))]);
             let mut both = tables.clone();
@@ -498,7 +716,7 @@ fn own_customer_held() {
     }
     // The customer changes and not the list: 10 is filed with 20, and then becomes 20.
     let tables = with_words(|r, _| r[2] = 20);
-    seen.all(&tables, malformed, on_register());
+    seen.registers(&tables, malformed);
 }
 
 /// Each list is held against its own customer alone.
@@ -533,7 +751,7 @@ const ENDS: [(u32, Role, &[u32]); 5] = [
 ];
 
 /// The records of `some` and these routes.
-fn equal_ends() -> Tables {
+fn equal_ends() -> All {
     let mut tables = some();
     tables.ledger = Ledger::new();
     for (number, role, path) in ENDS {
@@ -543,7 +761,14 @@ fn equal_ends() -> Tables {
         let number = RouteNumber(number);
         tables
             .ledger
-            .keep(&tables.register, number, role, neighbour, &attribute)
+            .keep(
+                &tables.register,
+                &tables.overrides,
+                number,
+                role,
+                neighbour,
+                &attribute,
+            )
             .unwrap();
     }
     tables
@@ -576,9 +801,11 @@ fn equal_neighbours_held() {
         let with = |value: u32| {
             let mut words = good.ledger.words().to_vec();
             words[index] = value;
-            let register = good.register.clone();
             let ledger = Ledger::from_words(words);
-            Tables { register, ledger }
+            All {
+                ledger,
+                ..good.clone()
+            }
         };
         let tables = with(value);
         seen.all(&tables, malformed, on_ledger());
@@ -662,16 +889,16 @@ fn faults_at_the_end() {
 }
 
 /// One route with so many numbers and these places.
-fn one_route(count: u32, a: u32, b: u32) -> Tables {
+fn one_route(count: u32, a: u32, b: u32) -> All {
     let mut words = vec![1, count, 9, 3, 1, 0, 2, a, b, 0, count];
     words.extend(1..=count);
     words.resize(LEDGER_WORDS, 0);
     let ledger = Ledger::from_words(words);
-    Tables { ledger, ..some() }
+    All { ledger, ..some() }
 }
 
 /// The snapshot of these tables, made without the library, which writes none of malformed ones.
-fn snapshot_of(tables: &Tables) -> Vec<u8> {
+fn snapshot_of(tables: &All) -> Vec<u8> {
     fn used(words: &[u32], width: u32) -> &[u32] {
         &words[..(2 + width * words[0] + words[1]) as usize]
     }

@@ -52,6 +52,7 @@ fn small() -> Tables {
     ledger
         .keep(
             register,
+            &Register::new(),
             RouteNumber(7),
             Role::Customer,
             AsNumber(20),
@@ -74,7 +75,7 @@ fn bytes(words: &[u32]) -> Vec<u8> {
 
 /// All counts at their limits.
 fn full() -> Tables {
-    let mut tables = Tables::new();
+    let (mut tables, none) = (Tables::new(), Register::new());
     let Tables { register, ledger } = &mut tables;
     for i in 0..MOST_RECORDS as u32 {
         let providers: Vec<AsNumber> = (0..8).map(|j| AsNumber((i << 20) + j)).collect();
@@ -86,7 +87,7 @@ fn full() -> Tables {
         let role = Role::ALL[i as usize % 6];
         let bytes = sequence(&path).unwrap();
         ledger
-            .keep(register, RouteNumber(7 * i), role, path[0], &bytes)
+            .keep(register, &none, RouteNumber(7 * i), role, path[0], &bytes)
             .unwrap();
     }
     tables
@@ -136,7 +137,7 @@ fn bytes_of_a_snapshot() {
 
 #[test]
 fn round_trips() {
-    let mut long = Tables::new();
+    let (mut long, none) = (Tables::new(), Register::new());
     let providers: Vec<AsNumber> = (1..=MOST_PROVIDERS as u32).map(AsNumber).collect();
     for customer in 1001..=1032 {
         let customer = AsNumber(customer);
@@ -147,7 +148,7 @@ fn round_trips() {
     for number in 1..=16 {
         let (number, role) = (RouteNumber(number), Role::Provider);
         long.ledger
-            .keep(&long.register, number, role, path[0], &bytes)
+            .keep(&long.register, &none, number, role, path[0], &bytes)
             .unwrap();
     }
     assert_eq!(long.ledger.words()[1] as usize, MOST_PATH_WORDS);
@@ -277,7 +278,7 @@ fn equal_neighbours() {
     fs::write(directory.file(), &merged).unwrap();
     let mut tables = Tables::load(directory.file()).unwrap();
     assert_eq!(written(&tables), merged);
-    assert_eq!(tables.rejudge(), Ok(1));
+    assert_eq!(tables.rejudge(&Register::new()), Ok(1));
     let route = tables.ledger.routes().next().unwrap();
     assert_eq!(route.verdict.to_string(), "Valid");
 }
@@ -290,7 +291,14 @@ fn equal_ends() {
     let path = sequence(&[10, 30].map(AsNumber)).unwrap();
     let (number, role) = (RouteNumber(8), Role::RouteServer);
     ledger
-        .keep(register, number, role, AsNumber(99), &path)
+        .keep(
+            register,
+            &Register::new(),
+            number,
+            role,
+            AsNumber(99),
+            &path,
+        )
         .unwrap();
     let file = written(&tables);
     assert_eq!(file[file.len() - 16..], bytes(&[20, 10, 10, 30]));
@@ -307,8 +315,37 @@ fn verdicts_are_judged_anew() {
     let mut tables = Tables::read_from(&bytes(&words)[..]).unwrap();
     let route = tables.ledger.routes().next().unwrap();
     assert_eq!(route.verdict.to_string(), "Invalid 2 0");
-    assert_eq!(tables.rejudge(), Ok(1));
+    assert_eq!(tables.rejudge(&Register::new()), Ok(1));
     assert!(tables == small());
+}
+
+/// The overrides are in no snapshot: they count for the tables that are read as for those that were written, and in the place of a
+/// register make one of their own.
+#[test]
+fn overrides() {
+    let mut overrides = Register::new();
+    overrides.file(3, AsNumber(10), &[AsNumber(30)]).unwrap();
+    let mut tables = small();
+    assert_eq!(tables.rejudge(&overrides), Ok(1));
+    assert_eq!(written(&tables).len(), bytes(&SMALL).len());
+    let mut read = other();
+    assert_eq!(read.read(&written(&tables)), Ok(()));
+    assert!(read == tables);
+    assert_eq!(read.rejudge(&overrides), Ok(0));
+    assert_eq!(read.rejudge(&Register::new()), Ok(1));
+    assert!(read == small());
+
+    let damaged = Register::from_words(vec![u32::MAX; REGISTER_WORDS]);
+    let refused = read.rejudge(&damaged);
+    assert_eq!(refused, Err(Refusal::RegisterMalformed));
+    assert!(read == small());
+
+    let own = Tables {
+        register: overrides.clone(),
+        ledger: Ledger::new(),
+    };
+    let read = Tables::read_from(&written(&own)[..]).unwrap();
+    assert_eq!(read.register, overrides);
 }
 
 #[test]

@@ -1,6 +1,7 @@
 //! What is written, what is read back, and what is not read.
 use aspa_filter::{
-    Answer, AsNumber, Cause, Ground, Ledger, Refusal, Register, Role, RouteNumber, Verdict,
+    Answer, AsNumber, Cause, Ground, Hop, KeptCause, KeptVerdict, Ledger, NamedHop, Origin,
+    Refusal, Register, Role, RouteNumber, Verdict,
 };
 use std::error::Error;
 
@@ -130,6 +131,12 @@ fn grounds() {
     }
 }
 
+fn hops(place: u32, origin: Origin, b: Option<(u32, Origin)>) -> Verdict {
+    let b = b.map(|(place, origin)| NamedHop { place, origin });
+    let a = NamedHop { place, origin };
+    Verdict::Invalid(Cause::Hops { a, b })
+}
+
 #[test]
 fn verdicts() {
     let top = u32::MAX;
@@ -147,13 +154,34 @@ fn verdicts() {
             Verdict::Invalid(Cause::Ground(Ground::AsSet)),
             "Invalid ground 3",
         ),
-        (Verdict::Invalid(Cause::Hops { a: 3, b: 0 }), "Invalid 3 0"),
-        (Verdict::Invalid(Cause::Hops { a: 2, b: 5 }), "Invalid 2 5"),
+        (hops(3, Origin::Public, None), "Invalid 3 0 public -"),
+        (hops(3, Origin::Overrides, None), "Invalid 3 0 drawer -"),
+        (
+            hops(2, Origin::Public, Some((5, Origin::Public))),
+            "Invalid 2 5 public public",
+        ),
+        (
+            hops(2, Origin::Public, Some((2, Origin::Overrides))),
+            "Invalid 2 2 public drawer",
+        ),
+        (
+            hops(2, Origin::Overrides, Some((5, Origin::Public))),
+            "Invalid 2 5 drawer public",
+        ),
+        (
+            hops(top, Origin::Overrides, Some((top, Origin::Overrides))),
+            "Invalid 4294967295 4294967295 drawer drawer",
+        ),
         (Verdict::Unknown { a: 1, b: 3 }, "Unknown 1 3"),
         (Verdict::Unknown { a: top, b: 0 }, "Unknown 4294967295 0"),
     ] {
         assert_eq!(verdict.to_string(), text);
         assert_eq!(text.parse(), Ok(verdict));
+        // Kept, it is the same without the origins.
+        let kept = KeptVerdict::from(verdict);
+        let words: Vec<&str> = text.split(' ').take(3).collect();
+        assert_eq!(kept.to_string(), words.join(" "));
+        assert_eq!(words.join(" ").parse(), Ok(kept));
         let (plain, with_gap) = (
             Answer { verdict, gap: None },
             Answer {
@@ -191,6 +219,24 @@ fn verdicts() {
         "Invalid +3 0",
         "Invalid 03 0",
         "Invalid 3 4294967296",
+        "Invalid 3 0 public",
+        "Invalid 3 0 - -",
+        "Invalid 3 0 - public",
+        "Invalid 3 0 public public",
+        "Invalid 3 5 public -",
+        "Invalid 3 5 - drawer",
+        "Invalid 0 0 - -",
+        "Invalid 0 0 public -",
+        "Invalid 3 0 overrides -",
+        "Invalid 3 0 Public -",
+        "Invalid 3 0 public  -",
+        "Invalid 3 0 public - ",
+        "Invalid 3 0 public - gap 1",
+        "Invalid +3 0 public -",
+        "Invalid ground 1 public -",
+        "Invalid ground 1 - -",
+        "Unknown 3 0 public -",
+        "Valid public -",
         "Unknown",
         "Unknown 1",
         "Unknown ground 1",
@@ -198,29 +244,62 @@ fn verdicts() {
         "Unknown 1 3\n",
     ] {
         assert!(text.parse::<Verdict>().is_err(), "{text:?}");
+        assert!(text.parse::<KeptVerdict>().is_err(), "{text:?}");
     }
+    // Of an answer the origins are told, and of a kept verdict not.
+    assert!("Invalid 3 0".parse::<Verdict>().is_err());
+    assert!("Invalid 2 5".parse::<Verdict>().is_err());
+    assert!("Invalid 3 0 public -".parse::<KeptVerdict>().is_err());
+    // Places of a kept verdict may be any.
+    let nowhere = KeptVerdict::Invalid(KeptCause::Hops { a: 0, b: 9 });
+    assert_eq!("Invalid 0 9".parse(), Ok(nowhere));
     assert_eq!(
         "valid".parse::<Verdict>().unwrap_err().to_string(),
-        "no verdict: it is `Valid`, `Invalid ground G`, `Invalid A B` or `Unknown A B`"
+        "no verdict: it is `Valid`, `Invalid ground G`, `Invalid A B` (of an answer with two origins behind it) or `Unknown A B`"
     );
 }
 
 /// An answer's text is the one in README.md's table of the console.
 #[test]
 fn answers_of_judgings() {
-    let mut register = Register::new();
+    let (mut public, mut overrides) = (Register::new(), Register::new());
     let path = aspa_filter::sequence(&[80, 70].map(AsNumber)).unwrap();
-    let judged = |register: &Register, role| {
-        let answer = register.judge(role, AsNumber(80), &path).unwrap();
+    let judged = |public: &Register, overrides: &Register, role| {
+        let answer = public.judge(overrides, role, AsNumber(80), &path).unwrap();
         answer.to_string()
     };
-    assert_eq!(judged(&register, Role::Peer), "Unknown 2 0");
-    assert_eq!(judged(&register, Role::Provider), "Valid gap 1");
-    register.file(0, AsNumber(70), &[AsNumber(80)]).unwrap();
-    register.file(0, AsNumber(80), &[AsNumber(70)]).unwrap();
-    assert_eq!(judged(&register, Role::MutualTransit), "Valid gap -1");
-    register.file(0, AsNumber(70), &[AsNumber(0)]).unwrap();
-    assert_eq!(judged(&register, Role::Customer), "Invalid 2 0");
+    assert_eq!(judged(&public, &overrides, Role::Peer), "Unknown 2 0");
+    assert_eq!(judged(&public, &overrides, Role::Provider), "Valid gap 1");
+    public.file(0, AsNumber(70), &[AsNumber(80)]).unwrap();
+    public.file(0, AsNumber(80), &[AsNumber(70)]).unwrap();
+    let both_ways = judged(&public, &overrides, Role::MutualTransit);
+    assert_eq!(both_ways, "Valid gap -1");
+    public.file(0, AsNumber(70), &[AsNumber(0)]).unwrap();
+    let invalid = judged(&public, &overrides, Role::Customer);
+    assert_eq!(invalid, "Invalid 2 0 public -");
+    overrides.file(0, AsNumber(70), &[AsNumber(90)]).unwrap();
+    let invalid = judged(&public, &overrides, Role::Customer);
+    assert_eq!(invalid, "Invalid 2 0 drawer -");
+}
+
+/// So is a hop's.
+#[test]
+fn hops_of_registers() {
+    let (mut public, mut overrides) = (Register::new(), Register::new());
+    let told = |public: &Register, overrides: &Register| {
+        let hop: Hop = public.hop(overrides, AsNumber(70), AsNumber(80)).unwrap();
+        hop.to_string()
+    };
+    assert_eq!(told(&public, &overrides), "none");
+    public.file(3, AsNumber(70), &[AsNumber(80)]).unwrap();
+    assert_eq!(told(&public, &overrides), "provider public 3");
+    overrides.file(7, AsNumber(70), &[AsNumber(0)]).unwrap();
+    assert_eq!(told(&public, &overrides), "other drawer");
+    overrides.file(5, AsNumber(70), &[AsNumber(80)]).unwrap();
+    assert_eq!(told(&public, &overrides), "provider drawer 5");
+    public.file(3, AsNumber(70), &[AsNumber(0)]).unwrap();
+    overrides = Register::new();
+    assert_eq!(told(&public, &overrides), "other public");
 }
 
 #[test]

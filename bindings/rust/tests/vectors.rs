@@ -1,7 +1,9 @@
-//! The worked vectors A to O, runs over the ends of segments, the limits, and the calls on whole tables.
+//! The worked vectors A to O, runs over the ends of segments, the limits, and the calls on whole tables. What is judged by public records
+//! is judged by the same as overrides too.
 use aspa_filter::{
-    Answer, AsNumber, Cause, Filed, Ground, Ledger, Refusal, Register, Role, RouteNumber, Verdict,
-    LEDGER_WORDS, MOST_ATTRIBUTE_BYTES, MOST_PATH, MOST_RECORDS, REGISTER_WORDS,
+    Answer, AsNumber, Cause, Filed, Ground, Ledger, NamedHop, Origin, Refusal, Register, Role,
+    RouteNumber, Verdict, LEDGER_WORDS, MOST_ATTRIBUTE_BYTES, MOST_PATH, MOST_RECORDS,
+    REGISTER_WORDS,
 };
 
 fn numbers(list: &[u32]) -> Vec<AsNumber> {
@@ -42,11 +44,43 @@ fn judge_from(
     neighbour: u32,
     path: &[u32],
 ) -> Result<Answer, Refusal> {
-    register.judge(
+    judge_bytes(
+        register,
         Role::try_from(role).unwrap(),
-        AsNumber(neighbour),
+        neighbour,
         &sequence(path),
     )
+}
+
+/// By a public register without overrides. As overrides, it gives the same answer with the other origin.
+fn judge_bytes(
+    register: &Register,
+    role: Role,
+    neighbour: u32,
+    bytes: &[u8],
+) -> Result<Answer, Refusal> {
+    let (none, neighbour) = (Register::new(), AsNumber(neighbour));
+    let answer = register.judge(&none, role, neighbour, bytes);
+    let other = none.judge(register, role, neighbour, bytes);
+    assert_eq!(other, answer.map(mirrored));
+    answer
+}
+
+/// An answer from public records, had they been overrides.
+fn mirrored(answer: Answer) -> Answer {
+    let mirrored = |hop: NamedHop| {
+        assert_eq!(hop.origin, Origin::Public);
+        let origin = Origin::Overrides;
+        NamedHop { origin, ..hop }
+    };
+    let verdict = match answer.verdict {
+        Verdict::Invalid(Cause::Hops { a, b }) => Verdict::Invalid(Cause::Hops {
+            a: mirrored(a),
+            b: b.map(mirrored),
+        }),
+        other => other,
+    };
+    Answer { verdict, ..answer }
 }
 
 fn valid(gap: Option<i32>) -> Result<Answer, Refusal> {
@@ -56,7 +90,11 @@ fn valid(gap: Option<i32>) -> Result<Answer, Refusal> {
     })
 }
 
+/// By public records; without a hop at 0.
 fn invalid(a: u32, b: u32, gap: Option<i32>) -> Result<Answer, Refusal> {
+    let origin = Origin::Public;
+    let [a, b] = [a, b].map(|place| (place > 0).then_some(NamedHop { place, origin }));
+    let a = a.expect("a place");
     Ok(Answer {
         verdict: Verdict::Invalid(Cause::Hops { a, b }),
         gap,
@@ -128,11 +166,12 @@ fn vector_o() {
     let d = register_d();
     let bytes = [sequence(&[20]), sequence(&[20, 10])].concat();
     let (customer, neighbour) = (Role::Customer, AsNumber(20));
-    assert_eq!(d.judge(customer, neighbour, &bytes), valid(None));
+    assert_eq!(judge_bytes(&d, customer, 20, &bytes), valid(None));
     // As within one segment.
     assert_eq!(judge(&d, 1, &[20, 20, 10]), valid(None));
     let mut ledger = Ledger::new();
-    let kept = ledger.keep(&d, RouteNumber(13), customer, neighbour, &bytes);
+    let none = Register::new();
+    let kept = ledger.keep(&d, &none, RouteNumber(13), customer, neighbour, &bytes);
     assert_eq!(kept, valid(None));
     let mut words = vec![1, 2, 13, 1, 20, 0, 0, 0, 0, 0, 2, 20, 10];
     words.resize(LEDGER_WORDS, 0);
@@ -145,12 +184,14 @@ fn merge_to(register: &Register, parts: &[&[u32]], merged: &[u32]) {
     let (bytes, once) = (bytes.concat(), sequence(merged));
     let neighbour = AsNumber(merged[0]);
     for role in Role::ALL {
-        let judged = register.judge(role, neighbour, &bytes);
+        let judged = judge_bytes(register, role, neighbour.0, &bytes);
         assert!(judged.is_ok(), "{parts:?}");
-        assert_eq!(judged, register.judge(role, neighbour, &once), "{parts:?}");
+        let judged_once = judge_bytes(register, role, neighbour.0, &once);
+        assert_eq!(judged, judged_once, "{parts:?}");
         let [kept, plainly] = [&bytes, &once].map(|attribute| {
             let mut ledger = Ledger::new();
-            let answer = ledger.keep(register, RouteNumber(1), role, neighbour, attribute);
+            let (none, number) = (Register::new(), RouteNumber(1));
+            let answer = ledger.keep(register, &none, number, role, neighbour, attribute);
             assert_eq!(answer, judged, "{parts:?}");
             ledger
         });
@@ -186,7 +227,7 @@ fn runs_over_segments() {
         &[20, 0x114, 0x100_0014, 20],
     );
     // Grounds and faults go by the segments as they stand.
-    let judge_bytes = |bytes: Vec<u8>| d.judge(Role::Customer, AsNumber(20), &bytes);
+    let judge_bytes = |bytes: Vec<u8>| judge_bytes(&d, Role::Customer, 20, &bytes);
     let set = [vec![1, 1, 0, 0, 0, 20], sequence(&[20, 10])];
     assert_eq!(
         judge_bytes([sequence(&[20]), set.concat()].concat()),
@@ -220,10 +261,11 @@ fn limit_over_segments() {
         // 514 numbers, of which 513 are left.
         let bytes = [sequence(&path[..cut]), sequence(&path[cut - 1..])].concat();
         for role in Role::ALL {
-            let judged = d.judge(role, AsNumber(1000), &bytes);
+            let judged = judge_bytes(&d, role, 1000, &bytes);
             assert_eq!(refused(judged), (17, None), "{cut}");
-            let mut ledger = Ledger::new();
-            let kept = ledger.keep(&d, RouteNumber(1), role, AsNumber(1000), &bytes);
+            let (mut ledger, none) = (Ledger::new(), Register::new());
+            let (number, neighbour) = (RouteNumber(1), AsNumber(1000));
+            let kept = ledger.keep(&d, &none, number, role, neighbour, &bytes);
             assert_eq!(refused(kept), (17, None), "{cut}");
             assert_eq!(ledger, Ledger::new());
         }
@@ -233,7 +275,7 @@ fn limit_over_segments() {
 #[test]
 fn grounds_and_limits() {
     let d = register_d();
-    let judge_bytes = |bytes: &[u8]| d.judge(Role::Customer, AsNumber(20), bytes);
+    let judge_bytes = |bytes: &[u8]| judge_bytes(&d, Role::Customer, 20, bytes);
     assert_eq!(judge_bytes(&[]), ground(Ground::Empty));
     assert_eq!(
         judge_bytes(&[sequence(&[20]), vec![1, 1, 0, 0, 0, 10]].concat()),
@@ -248,7 +290,7 @@ fn grounds_and_limits() {
     let stranger = judge_from(&d, 1, 999, &path);
     assert_eq!(stranger, ground(Ground::NotNeighbour));
     let with_set = [sequence(&path), vec![1, 1, 0, 0, 0, 10]].concat();
-    let judged = d.judge(Role::Customer, AsNumber(1000), &with_set);
+    let judged = d.judge(&Register::new(), Role::Customer, AsNumber(1000), &with_set);
     assert_eq!(judged, ground(Ground::AsSet));
 
     assert_eq!(refused(judge_bytes(&[2])), (12, Some(0)));
@@ -266,7 +308,7 @@ fn grounds_and_limits() {
     );
     assert_eq!(refused(judge_bytes(&sequence(&[20, 0]))), (16, Some(6)));
     assert_eq!(
-        refused(d.judge(Role::Customer, AsNumber(0), &[])),
+        refused(d.judge(&Register::new(), Role::Customer, AsNumber(0), &[])),
         (10, None)
     );
 }
@@ -293,7 +335,7 @@ fn longest_attribute() {
     ] {
         let mut bytes = longest(merged);
         assert_eq!(bytes.len(), 4096);
-        let judge = |bytes: &[u8]| register.judge(Role::Customer, AsNumber(1), bytes);
+        let judge = |bytes: &[u8]| judge_bytes(&register, Role::Customer, 1, bytes);
         assert_eq!(judge(&bytes), told, "{merged}");
         bytes.push(2);
         assert_eq!(refused(judge(&bytes)), (11, None));
@@ -329,10 +371,11 @@ fn gap_at_both_ends() {
 /// The farthest places, as they are kept and as they are judged again.
 #[test]
 fn farthest_places() {
-    let (mut register, mut ledger) = (Register::new(), Ledger::new());
+    let (mut register, none, mut ledger) = (Register::new(), Register::new(), Ledger::new());
     let bytes = sequence(&longest_path());
     let mut keep = |register: &Register, number, role| {
-        ledger.keep(register, RouteNumber(number), role, AsNumber(1), &bytes)
+        let number = RouteNumber(number);
+        ledger.keep(register, &none, number, role, AsNumber(1), &bytes)
     };
     let kept = keep(&register, 1, Role::Provider);
     assert_eq!(kept, unknown(1, 512, Some(511)));
@@ -346,12 +389,12 @@ fn farthest_places() {
     let words = |ledger: &Ledger| [6, 15].map(|at| ledger.words()[at..at + 3].to_vec());
     assert_eq!(words(&ledger), [[2, 1, 512], [2, 512, 0]]);
     register.file(0, AsNumber(2), &numbers(&[0])).unwrap();
-    assert_eq!(ledger.rejudge(&register), Ok(2));
+    assert_eq!(ledger.rejudge(&register, &none), Ok(2));
     assert_eq!(words(&ledger), [[0, 0, 0], [1, 512, 0]]);
     let verdicts = ledger.routes().map(|route| route.verdict.to_string());
     assert!(verdicts.eq(["Valid", "Invalid 512 0"]));
     register.clear(0).unwrap();
-    assert_eq!(ledger.rejudge(&register), Ok(2));
+    assert_eq!(ledger.rejudge(&register, &none), Ok(2));
     assert_eq!(words(&ledger), [[2, 1, 512], [2, 2, 0]]);
     let verdicts = ledger.routes().map(|route| route.verdict.to_string());
     assert!(verdicts.eq(["Unknown 1 512", "Unknown 2 0"]));
@@ -432,18 +475,23 @@ fn wrong_tables() {
     words[1] = 1;
     let mut ledger = Ledger::from_words(words.clone());
     assert_eq!(refused(ledger.drop_route(RouteNumber(1))), (3, None));
-    assert_eq!(refused(ledger.rejudge(&damaged)), (2, None));
-    assert_eq!(refused(ledger.rejudge(&Register::new())), (3, None));
+    let good = Register::new();
+    assert_eq!(refused(ledger.rejudge(&damaged, &good)), (2, None));
+    assert_eq!(refused(ledger.rejudge(&good, &damaged)), (2, None));
+    assert_eq!(refused(ledger.rejudge(&good, &good)), (3, None));
+    assert_eq!(refused(ledger.rejudge(&damaged, &short)), (1, None));
+    assert_eq!(refused(ledger.rejudge(&short, &damaged)), (1, None));
     assert_eq!(ledger.words(), words);
 }
 
 #[test]
 fn kept_and_judged_again() {
-    let mut register = register_d();
+    let (mut register, none) = (register_d(), Register::new());
     let mut ledger = Ledger::new();
     let path = [50, 20, 10];
     let kept = ledger.keep(
         &register,
+        &none,
         RouteNumber(7),
         Role::Customer,
         AsNumber(50),
@@ -451,12 +499,20 @@ fn kept_and_judged_again() {
     );
     assert_eq!(kept, invalid(3, 0, None));
     assert_eq!(
-        ledger.keep(&register, RouteNumber(3), Role::Provider, AsNumber(9), &[]),
+        ledger.keep(
+            &register,
+            &none,
+            RouteNumber(3),
+            Role::Provider,
+            AsNumber(9),
+            &[]
+        ),
         ground(Ground::Empty)
     );
     assert_eq!(
         refused(ledger.keep(
             &register,
+            &none,
             RouteNumber(7),
             Role::Customer,
             AsNumber(50),
@@ -470,12 +526,12 @@ fn kept_and_judged_again() {
     words.resize(LEDGER_WORDS, 0);
     assert_eq!(ledger.words(), words);
 
-    assert_eq!(ledger.rejudge(&register), Ok(0));
+    assert_eq!(ledger.rejudge(&register, &none), Ok(0));
     register.file(1, AsNumber(20), &numbers(&[50])).unwrap();
-    assert_eq!(ledger.rejudge(&register), Ok(1));
+    assert_eq!(ledger.rejudge(&register, &none), Ok(1));
     assert_eq!(ledger.words()[15..18], [0, 0, 0]);
     register.withdraw(0, AsNumber(10)).unwrap();
-    assert_eq!(ledger.rejudge(&register), Ok(1));
+    assert_eq!(ledger.rejudge(&register, &none), Ok(1));
     assert_eq!(ledger.words()[15..18], [2, 2, 0]);
 
     assert_eq!(ledger.drop_route(RouteNumber(3)), Ok(()));
@@ -484,7 +540,7 @@ fn kept_and_judged_again() {
     assert_eq!(ledger, Ledger::new());
 }
 
-/// One register serves several threads, and a table may be made in one and used in another.
+/// Two registers serve several threads, and a table may be made in one and used in another.
 #[test]
 fn threads() {
     let register = std::thread::spawn(register_d).join().unwrap();

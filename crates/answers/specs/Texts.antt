@@ -4,6 +4,12 @@ use mathlib.Core.List.{List, [], _∷_, _++_}
 use lib.ListN.{take}
 use Rattle.types.specs.declared.Answer.{Answer}
 use Rattle.types.specs.declared.Answer.the-variants.{Plain, WithGap}
+use Rattle.types.specs.declared.Origin.{Origin}
+use Rattle.types.specs.declared.Origin.the-variants.{Public, Overrides}
+use Rattle.types.specs.declared.Origins.{Origins}
+use Rattle.types.specs.declared.Origins.the-variants.{One, Two}
+use Rattle.types.specs.declared.Hop.{Hop}
+use Rattle.types.specs.declared.Hop.the-variants.{NoAttestation, ProviderPlus, NotProviderPlus}
 use Rattle.types.specs.declared.Cause.{Cause}
 use Rattle.types.specs.declared.Cause.the-variants.{ByGround, ByHops}
 use Rattle.types.specs.declared.Verdict.{Verdict}
@@ -11,6 +17,8 @@ use Rattle.types.specs.declared.Verdict.the-variants.{Valid, Invalid, Unknown}
 use Rattle.types.specs.declared.Refusal.{Refusal}
 use Rattle.types.specs.declared.Place.{Place}
 use Rattle.types.specs.declared.Place.the-variants.{Nowhere, Byte}
+use Rattle.types.specs.declared.Hopped.{Hopped}
+use Rattle.types.specs.declared.Hopped.the-variants as hopped
 use Rattle.types.specs.declared.Filed.{Filed}
 use Rattle.types.specs.declared.Filed.the-variants as filed
 use Rattle.types.specs.declared.Removal.{Removal}
@@ -37,6 +45,17 @@ verdictRoom = 64
 abbrev pub answerRoom : ℕ
 answerRoom = 128
 
+-- ---- registers
+
+abbrev pub originText : Origin → List ℕ
+originText Public = ascii "public"
+originText Overrides = ascii "drawer"
+
+-- The register of each of two hops, a space before it; a dash where the second is not named.
+abbrev pub originsText : Origins → List ℕ
+originsText (One a) = (ascii " " ++ originText a) ++ ascii " -"
+originsText (Two a b) = (ascii " " ++ originText a) ++ (ascii " " ++ originText b)
+
 -- ---- verdicts
 
 abbrev pub placesText : ℕ → ℕ → List ℕ
@@ -44,7 +63,7 @@ placesText a b = decimalOf a ++ (ascii " " ++ decimalOf b)
 
 abbrev pub causeText : Cause → List ℕ
 causeText (ByGround g) = ascii "Invalid ground " ++ decimalOf (groundNumber g)
-causeText (ByHops a b) = ascii "Invalid " ++ placesText a b
+causeText (ByHops a b o) = (ascii "Invalid " ++ placesText a b) ++ originsText o
 
 abbrev pub verdictText : Verdict → List ℕ
 verdictText Valid = ascii "Valid"
@@ -69,6 +88,15 @@ refusalText r = (ascii "refused " ++ decimalOf (refusalNumber r)) ++ placeText (
 abbrev pub judgedText : Judged → List ℕ
 judgedText (judged.Answered a) = answerText a
 judgedText (judged.Refused r) = refusalText r
+
+abbrev pub hopText : Hop → List ℕ
+hopText NoAttestation = ascii "none"
+hopText (ProviderPlus o source) = (ascii "provider " ++ originText o) ++ (ascii " " ++ decimalOf source)
+hopText (NotProviderPlus o) = ascii "other " ++ originText o
+
+abbrev pub hoppedText : Hopped → List ℕ
+hoppedText (hopped.Answered h) = hopText h
+hoppedText (hopped.Refused r) = refusalText r
 
 abbrev pub filedText : Filed → List ℕ
 filedText filed.New = ascii "new"
@@ -107,6 +135,10 @@ writtenText output (written.Refused r) = refusalText r
 unfoldable pub eachText : List ℕ → List ℕ
 eachText [] = []
 eachText (x ∷ xs) = 32 ∷ (decimalOf x ++ eachText xs)
+
+-- The providers of a list that was looked up.
+abbrev pub listText : List ℕ → List ℕ
+listText providers = ascii "list" ++ eachText providers
 
 -- Separated by spaces.
 abbrev pub spacedText : List ℕ → List ℕ

@@ -3,7 +3,11 @@ use types::Answer;
 use types::Cause;
 use types::Cleared;
 use types::Filed;
+use types::Hop;
+use types::Hopped;
 use types::Judged;
+use types::Origin;
+use types::Origins;
 use types::Place;
 use types::Refusal;
 use types::Rejudged;
@@ -20,7 +24,7 @@ ghost use Rattle.text.specs.Numbers.{decimalOf};
 ghost use Rattle.text.specs.Bytes.{hexText};
 ghost use Rattle.answers.specs.Texts.{verdictRoom, answerRoom};
 ghost use Rattle.answers.specs.Texts.{placesText, causeText, verdictText, answerText, refusalText, judgedText, filedText, removalText, clearedText};
-ghost use Rattle.answers.specs.Texts.{rejudgedText, restoredText, fileText, writtenText, eachText};
+ghost use Rattle.answers.specs.Texts.{rejudgedText, restoredText, fileText, writtenText, eachText, originText, originsText, hopText, hoppedText, listText};
 
 // A word and the number after it.
 fn put_with(out: &mut [u8], at: usize, word: &[u8], n: u64) -> usize
@@ -42,6 +46,38 @@ fn put_places(out: &mut [u8], at: usize, word: &[u8], a: u32, b: u32) -> usize
     put_with(out, next, b" ", b as u64)
 }
 
+// A word and the register after it.
+fn put_origin(out: &mut [u8], at: usize, word: &[u8], origin: Origin) -> usize
+    requires { ⌜ at + length (now word) + 6 ≤ length (now out) ⌝ }
+    ensures { λ r. ⌜ (r ≡ at + length (now (word .entry) ++ originText origin))
+        × (now (out .exit) ≡ sets (now (out .entry)) at (now (word .entry) ++ originText origin))
+        × (r ≤ at + (length (now (word .entry)) + 6)) ⌝ }
+{
+    let next = text::put(word, out, at);
+    match origin {
+        Origin::Public => text::put(b"public", out, next),
+        Origin::Overrides => text::put(b"drawer", out, next),
+    }
+}
+
+// The register of each of two hops; a dash where the second is not named.
+fn put_origins(out: &mut [u8], at: usize, origins: Origins) -> usize
+    requires { ⌜ at + 14 ≤ length (now out) ⌝ }
+    ensures { λ r. ⌜ (r ≡ at + length (originsText origins)) × (now (out .exit) ≡ sets (now (out .entry)) at (originsText origins))
+        × (r ≤ at + 14) ⌝ }
+{
+    match origins {
+        Origins::One(a) => {
+            let next = put_origin(out, at, b" ", a);
+            text::put(b" -", out, next)
+        }
+        Origins::Two(a, b) => {
+            let next = put_origin(out, at, b" ", a);
+            put_origin(out, next, b" ", b)
+        }
+    }
+}
+
 fn put_cause(out: &mut [u8], at: usize, cause: Cause) -> usize
     requires { ⌜ at + verdictRoom ≤ length (now out) ⌝ }
     ensures { λ r. ⌜ (r ≡ at + length (causeText cause)) × (now (out .exit) ≡ sets (now (out .entry)) at (causeText cause))
@@ -49,7 +85,10 @@ fn put_cause(out: &mut [u8], at: usize, cause: Cause) -> usize
 {
     match cause {
         Cause::ByGround(g) => put_with(out, at, b"Invalid ground ", g.number() as u64),
-        Cause::ByHops(a, b) => put_places(out, at, b"Invalid ", a, b),
+        Cause::ByHops(a, b, o) => {
+            let next = put_places(out, at, b"Invalid ", a, b);
+            put_origins(out, next, o)
+        }
     }
 }
 
@@ -100,6 +139,32 @@ pub fn put_judged(out: &mut [u8], at: usize, judged: Judged) -> usize
     match judged {
         Judged::Answered(a) => put_answer(out, at, a),
         Judged::Refused(r) => put_refusal(out, at, r),
+    }
+}
+
+fn put_hop(out: &mut [u8], at: usize, hop: Hop) -> usize
+    requires { ⌜ at + answerRoom ≤ length (now out) ⌝ }
+    ensures { λ r. ⌜ (r ≡ at + length (hopText hop)) × (now (out .exit) ≡ sets (now (out .entry)) at (hopText hop))
+        × (r ≤ at + answerRoom) ⌝ }
+{
+    match hop {
+        Hop::NoAttestation => text::put(b"none", out, at),
+        Hop::ProviderPlus(o, source) => {
+            let next = put_origin(out, at, b"provider ", o);
+            put_with(out, next, b" ", source as u64)
+        }
+        Hop::NotProviderPlus(o) => put_origin(out, at, b"other ", o),
+    }
+}
+
+pub fn put_hopped(out: &mut [u8], at: usize, hopped: Hopped) -> usize
+    requires { ⌜ at + answerRoom ≤ length (now out) ⌝ }
+    ensures { λ r. ⌜ (r ≡ at + length (hoppedText hopped)) × (now (out .exit) ≡ sets (now (out .entry)) at (hoppedText hopped))
+        × (r ≤ at + answerRoom) ⌝ }
+{
+    match hopped {
+        Hopped::Answered(h) => put_hop(out, at, h),
+        Hopped::Refused(r) => put_refusal(out, at, r),
     }
 }
 
@@ -214,4 +279,15 @@ pub fn put_each(out: &mut [u8], at: usize, words: &[u32]) -> usize
         i += 1;
     }
     next
+}
+
+// The providers of a list that was looked up.
+pub fn put_list(out: &mut [u8], at: usize, providers: &[u32]) -> usize
+    requires { ⌜ at + (answerRoom + 11 * length (now providers)) ≤ length (now out) ⌝ }
+    ensures { λ r. ⌜ (r ≡ at + length (listText (now (providers .entry))))
+        × (now (out .exit) ≡ sets (now (out .entry)) at (listText (now (providers .entry))))
+        × (r ≤ at + (answerRoom + 11 * length (now (providers .entry)))) ⌝ }
+{
+    let next = text::put(b"list", out, at);
+    put_each(out, next, providers)
 }

@@ -1,10 +1,18 @@
 -- The statements of specs/Laws.antt. Assumes nothing.
-use Prim.Native.Nat.{ℕ, _≤_}
+use Prim.Native.Nat.{ℕ, _-_, _≤_}
 use mathlib.Core.Path.{_≡_, refl, sym, _∙_, ap}
+use mathlib.Core.Bool.{Bool, true, false}
 use mathlib.Core.List.{List, [], _∷_}
 use mathlib.Core.Option.{Option, none, some}
 use native.Mathlib.Omega.{arith}
-use borrow.Author.Tests.{not-false}
+use borrow.Author.Tests.{not-false, eqb-true}
+use lib.Dec.{eqb}
+use Rattle.types.specs.declared.Origin.{Origin}
+use Rattle.types.specs.declared.Origin.the-variants.{Public, Overrides}
+use Rattle.types.specs.declared.Hop.{Hop}
+use Rattle.types.specs.declared.Hop.the-variants.{NoAttestation, ProviderPlus, NotProviderPlus}
+use Rattle.types.specs.declared.Hopped.{Hopped}
+use Rattle.types.specs.declared.Hopped.the-variants as hopped
 use Rattle.types.specs.declared.Verdict.{Verdict}
 use Rattle.types.specs.declared.Verdict.the-variants.{Valid, Invalid, Unknown}
 use Rattle.types.specs.declared.Fault.{Fault}
@@ -21,21 +29,25 @@ use Rattle.types.specs.declared.Rejudged.{Rejudged}
 use Rattle.types.specs.declared.Rejudged.the-variants as rejudged
 use Rattle.types.specs.declared.Written.{Written}
 use Rattle.types.specs.declared.Written.the-variants as written
-use Rattle.types.specs.Numbers.{verdictNumber, verdictOf, faultNumber, refusalNumber}
+use Rattle.types.specs.Numbers.{verdictNumber, originNumber, verdictOf, faultNumber, refusalNumber}
 use Rattle.types.specs.Rows.{firstGiven, Effect, effect, unlessRefused}
 use Rattle.types.proofs.Refusing.{accepted-none, row-passed}
-use Rattle.register.specs.Register.{mostRecords, recordsOf, registerOf}
+use Rattle.register.specs.Register as register
+use Rattle.register.specs.Register.{mostRecords, recordsOf}
 use Rattle.register.specs.Calls.{countRecords, clearRecords, clearRows, clearEffect}
 use Rattle.register.proofs.Laws.{register-laws}
 use Rattle.register.proofs.Looking.{few}
 use Rattle.ledger.specs.Routes.{mostRoutes}
-use Rattle.filter.specs.Calls.{rejudgeEffect}
+use Rattle.registers.specs.declared.Part.{Part}
+use Rattle.registers.specs.Registers.{Registers, chosen}
+use Rattle.filter.specs.Calls.{rejudgeEffect, lookupPart, lookupList}
+use Rattle.filter.proofs.Looking.{Cut, cut-is}
 use Rattle.filter.proofs.Tables.{rejudge-accepts}
 use Rattle.filter.proofs.Answers.{rejudge-accepted}
 use Rattle.filter.proofs.Rejudgings.{few-changed}
 use Rattle.snapshot.specs.Calls.{writeEffect}
-use Rattle.c_api.specs.Answers.{noVerdict, notFiled, noCount, noBytes, filedTold, clearedTold, rejudgedTold, judgedTold, writtenTold}
-use Rattle.c_api.specs.Laws.{Marks, RefusalLaws}
+use Rattle.c_api.specs.Answers.{noVerdict, noHop, notFiled, noCount, noBytes, filedTold, clearedTold, rejudgedTold, judgedTold, hopWords, hoppedTold, partTold, writtenTold}
+use Rattle.c_api.specs.Laws.{Marks, RefusalLaws, registerOf, listAt, LeadsToList}
 use Rattle.c_api.proofs.Tellings.{some-bytes}
 
 -- ---- the word of a refusal, and any other
@@ -93,6 +105,15 @@ judge-marks : (j : Judged) → Marks noVerdict (judgedTold j .result) (judgedTol
 judge-marks (judged.Answered a) = answered (no-verdict (verdictOf a))
 judge-marks (judged.Refused r) = refused r
 
+no-hop : (h : Hop) → Marks noHop 0 (hopWords h)
+no-hop NoAttestation = answered (λ e. omega arith)
+no-hop (ProviderPlus o s) = answered (λ e. omega arith)
+no-hop (NotProviderPlus o) = answered (λ e. omega arith)
+
+hop-marks : (h : Hopped) → Marks noHop (hoppedTold h .result) (hoppedTold h .words)
+hop-marks (hopped.Answered h) = no-hop h
+hop-marks (hopped.Refused r) = refused r
+
 -- No more records go than the register has.
 gone-few : (reg : List ℕ) (source : ℕ) → firstGiven (clearRows reg source) ≡ none → countRecords source (recordsOf reg) ≤ mostRecords
 gone-few reg source e =
@@ -105,14 +126,14 @@ unfolding clearEffect
 clear-marks reg source = go (firstGiven (clearRows reg source)) refl
   where
     done : Effect Cleared
-    done = effect (cleared.Gone (countRecords source (recordsOf reg))) (registerOf (clearRecords source (recordsOf reg)))
+    done = effect (cleared.Gone (countRecords source (recordsOf reg))) (register.registerOf (clearRecords source (recordsOf reg)))
 
     go : (o : Option Refusal) → firstGiven (clearRows reg source) ≡ o
         → Marks noCount (clearedTold (unlessRefused o cleared.Refused reg done .answer) .result) (clearedTold (unlessRefused o cleared.Refused reg done .answer) .words)
     go (some r) e = refused r
     go none e = answered (λ z. omega (arith, z, gone-few reg source e))
 
-rejudge-marks : (reg led : List ℕ)
+rejudge-marks : (reg : Registers) (led : List ℕ)
     → Marks noCount (rejudgedTold (rejudgeEffect reg led .answer) .result) (rejudgedTold (rejudgeEffect reg led .answer) .words)
 rejudge-marks reg led = go (rejudgeEffect reg led .answer) refl
   where
@@ -138,4 +159,23 @@ write-marks reg led output = go (writeEffect reg led output .answer) refl
     go (written.Refused r) e = refused r
 
 pub refusal-laws : RefusalLaws
-refusal-laws = record { file = file-marks; clear = clear-marks; rejudge = rejudge-marks; judge = judge-marks; write = write-marks }
+refusal-laws = record { file = file-marks; clear = clear-marks; rejudge = rejudge-marks; judge = judge-marks; hop = hop-marks; write = write-marks }
+
+-- ---- the look-up
+
+-- The register of an origin's number.
+by-number : (o : Origin) (reg : Registers) → registerOf (originNumber o) reg ≡ chosen o reg
+by-number Public reg = refl
+by-number Overrides reg = refl
+
+leads : (reg : Registers) (source customer : ℕ) (p : Part) → Cut reg source customer p → listAt reg (partTold p) ≡ lookupList reg source customer
+leads reg source customer p c = go (eqb (p .from) (p .to)) refl
+  where
+    go : (b : Bool) → eqb (p .from) (p .to) ≡ b → listAt reg (partTold p) ≡ lookupList reg source customer
+    go true e =
+        let z : p .to - p .from ≡ 0 = omega (arith, eqb-true (p .from) (p .to) e) in
+        rw e (rw z at (c .list))
+    go false e = rw (e, by-number (p .origin) reg) (c .list)
+
+pub leads-to-list : LeadsToList
+leads-to-list reg source customer = leads reg source customer (lookupPart reg source customer) (cut-is reg source customer)

@@ -1,11 +1,15 @@
 -- A call's answer, matched and told in words. Assumes nothing.
-use Prim.Native.Nat.{ℕ, _≤_, _<_}
+use Prim.Native.Nat.{ℕ, _-_, _≤_, _<_}
 use mathlib.Core.Path.{_≡_, refl, sym, _∙_, ap}
-use mathlib.Core.List.{List}
+use mathlib.Core.List.{List, [], _∷_}
 use mathlib.Core.Option.{some}
 use native.Mathlib.Omega.{arith}
+use borrow.Author.Tests.{ne-eqb}
 use lib.IntN.{ℤ}
 use lib.ListN.{length}
+use Rattle.types.specs.declared.Origin.{Origin}
+use Rattle.types.specs.declared.Hop.{Hop}
+use Rattle.types.specs.declared.Hop.the-variants.{ProviderPlus}
 use Rattle.types.specs.declared.Place.{Place}
 use Rattle.types.specs.declared.Place.the-variants.{Nowhere, Byte}
 use Rattle.types.specs.declared.Refusal.{Refusal}
@@ -13,14 +17,16 @@ use Rattle.types.specs.declared.Judged.{Judged}
 use Rattle.types.specs.declared.Judged.the-variants.{Answered, Refused}
 use Rattle.types.specs.declared.Written.the-variants as written
 use Rattle.types.specs.declared.Restored.{Restored}
-use Rattle.types.specs.Numbers.{refusalPlace}
+use Rattle.types.specs.Numbers.{originNumber, refusalPlace}
 use Rattle.types.specs.Rows.{Effect, effect}
 use Rattle.rules.specs.Judging.{mostBytes, refusalIn}
+use Rattle.registers.specs.declared.Part.{Part}
+use Rattle.registers.specs.Registers.{Registers}
 use Rattle.filter.specs.Calls.{Keeping, judgeAnswer, keepEffect}
 use Rattle.filter.proofs.Places.{place-within, judge-placed, keep-placed}
 use Rattle.snapshot.specs.Calls.{writeEffect, reading, Reading}
 use Rattle.snapshot.proofs.Laws.{snapshot-laws}
-use Rattle.c_api.specs.Answers.{toldRoute, toldTables, placeWord, telling, restoredTold, readingTold}
+use Rattle.c_api.specs.Answers.{toldRoute, toldTables, placeWord, telling, hopWords, partTold, restoredTold, readingTold}
 use Rattle.c_api.specs.Helpers.{placeIn}
 
 -- The answer a is what the step s answers, and it matched v: so what is told of v is told of s.
@@ -41,12 +47,12 @@ place-below (Refused r) h = go (refusalPlace r) refl
     go (Byte p) e = h r refl p e
 
 -- So are those of Judge and Keep.
-pub judge-below : (reg : List ℕ) (role neighbour : ℕ) (attribute : List ℕ) → placeIn (judgeAnswer reg role neighbour attribute) < mostBytes
+pub judge-below : (reg : Registers) (role neighbour : ℕ) (attribute : List ℕ) → placeIn (judgeAnswer reg role neighbour attribute) < mostBytes
 judge-below reg role neighbour attribute =
     place-below (judgeAnswer reg role neighbour attribute)
     (λ r e p h. place-within attribute r p (judge-placed role neighbour attribute reg r e p h) .1)
 
-pub keep-below : (reg led : List ℕ) (k : Keeping) → placeIn (keepEffect reg led k .answer) < mostBytes
+pub keep-below : (reg : Registers) (led : List ℕ) (k : Keeping) → placeIn (keepEffect reg led k .answer) < mostBytes
 keep-below reg led k =
     place-below (keepEffect reg led k .answer) (λ r e p h. place-within (k .attribute) r p (keep-placed reg led k r e p h) .1)
 
@@ -65,3 +71,13 @@ module _ (reg led output : List ℕ) (n : ℕ) (h : writeEffect reg led output .
   -- It is not 0.
   pub some-bytes : 36 ≤ n
   some-bytes = let w = snapshot-laws .write .accepted-formed reg led output n h in omega (arith, w .1, snapshot-laws .write .least reg led (w .0))
+
+-- ---- Hop and the look-up
+
+-- A Provider+, told.
+pub plus-told : {h : Hop} {o : Origin} {s n : ℕ} → h ≡ ProviderPlus o s → n ≡ originNumber o → 1 ∷ n ∷ s ∷ [] ≡ hopWords h
+plus-told e q = rw (e, q)
+
+-- A part that is not empty, told.
+pub part-told : (p : Part) {n : ℕ} → (p .from ≡ p .to → ⊥) → n ≡ originNumber (p .origin) → n ∷ p .from ∷ ((p .to - p .from) ∷ []) ≡ partTold p
+part-told p h q = rw (ne-eqb (p .from) (p .to) h, q)

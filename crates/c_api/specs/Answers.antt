@@ -1,8 +1,12 @@
 -- The answers as C gets them: the refusal's number as the result, 0 where there is none, and the rest in words.
-use Prim.Native.Nat.{ℕ}
+use Prim.Native.Nat.{ℕ, _-_}
+use mathlib.Core.Bool.{cond}
 use mathlib.Core.List.{List, [], _∷_}
 use mathlib.Core.Option.{Option, none, some}
+use lib.Dec.{eqb}
 use lib.IntN.{ℤ, pos}
+use Rattle.types.specs.declared.Hop.{Hop}
+use Rattle.types.specs.declared.Hop.the-variants.{NoAttestation, ProviderPlus, NotProviderPlus}
 use Rattle.types.specs.declared.Verdict.{Verdict}
 use Rattle.types.specs.declared.Place.{Place}
 use Rattle.types.specs.declared.Place.the-variants.{Nowhere, Byte}
@@ -12,6 +16,8 @@ use Rattle.types.specs.declared.Removal.{Removal}
 use Rattle.types.specs.declared.Removal.the-variants as removal
 use Rattle.types.specs.declared.Cleared.{Cleared}
 use Rattle.types.specs.declared.Cleared.the-variants as cleared
+use Rattle.types.specs.declared.Hopped.{Hopped}
+use Rattle.types.specs.declared.Hopped.the-variants as hopped
 use Rattle.types.specs.declared.Judged.{Judged}
 use Rattle.types.specs.declared.Judged.the-variants as judged
 use Rattle.types.specs.declared.Rejudged.{Rejudged}
@@ -20,8 +26,9 @@ use Rattle.types.specs.declared.Written.{Written}
 use Rattle.types.specs.declared.Written.the-variants as written
 use Rattle.types.specs.declared.Restored.{Restored}
 use Rattle.types.specs.declared.Restored.the-variants as restored
-use Rattle.types.specs.Numbers.{verdictNumber, verdictGround, placeA, placeB, verdictOf, answerGap, refusalNumber, refusalPlace}
+use Rattle.types.specs.Numbers.{verdictNumber, verdictGround, placeA, placeB, originNumber, originA, originB, verdictOf, answerGap, refusalNumber, refusalPlace}
 use Rattle.types.specs.Rows.{Effect, effect}
+use Rattle.registers.specs.declared.Part.{Part}
 use Rattle.snapshot.specs.Calls.{Reading}
 
 -- What C gets of a call: its result, and the words that it writes.
@@ -50,6 +57,10 @@ telling tell e = effect (tell (e .answer)) (e .words)
 -- In place of a verdict: the verdicts are 0, 1 and 2.
 abbrev pub noVerdict : ℕ
 noVerdict = 3
+
+-- In place of a hop: the hops are 0, 1 and 2.
+abbrev pub noHop : ℕ
+noHop = 3
 
 -- In place of new and replaced, 0 and 1.
 abbrev pub notFiled : ℕ
@@ -102,13 +113,33 @@ abbrev pub gapTold : Option ℤ → ℤ
 gapTold none = pos 0
 gapTold (some g) = g
 
--- Verdict, ground, place a, place b, whether a gap is given, and the place of a refusal.
+-- Verdict, ground, place a, place b, whether a gap is given, the place of a refusal, and the registers of the hops at a and at b.
 abbrev pub verdictWords : Verdict → ℕ → List ℕ
-verdictWords v given = verdictNumber v ∷ verdictGround v ∷ placeA v ∷ placeB v ∷ given ∷ 0 ∷ []
+verdictWords v given = verdictNumber v ∷ verdictGround v ∷ placeA v ∷ placeB v ∷ given ∷ 0 ∷ originA v ∷ originB v ∷ []
 
 abbrev pub judgedTold : Judged → ToldRoute
 judgedTold (judged.Answered a) = toldRoute 0 (verdictWords (verdictOf a) (gapGiven (answerGap a))) (gapTold (answerGap a))
-judgedTold (judged.Refused r) = toldRoute (refusalNumber r) (noVerdict ∷ 0 ∷ 0 ∷ 0 ∷ 0 ∷ placeWord (refusalPlace r) ∷ []) (pos 0)
+judgedTold (judged.Refused r) = toldRoute (refusalNumber r) (noVerdict ∷ 0 ∷ 0 ∷ 0 ∷ 0 ∷ placeWord (refusalPlace r) ∷ 0 ∷ 0 ∷ []) (pos 0)
+
+-- ---- Hop and the look-up
+
+-- In place of a source where a hop names none: the sources are 0 to 7.
+abbrev pub noSource : ℕ
+noSource = 8
+
+-- Hops: 0 No Attestation, 1 Provider+, 2 Not Provider+. Then the register, and the source.
+abbrev pub hopWords : Hop → List ℕ
+hopWords NoAttestation = 0 ∷ 0 ∷ noSource ∷ []
+hopWords (ProviderPlus o s) = 1 ∷ originNumber o ∷ s ∷ []
+hopWords (NotProviderPlus o) = 2 ∷ originNumber o ∷ noSource ∷ []
+
+abbrev pub hoppedTold : Hopped → Told
+hoppedTold (hopped.Answered h) = told 0 (hopWords h)
+hoppedTold (hopped.Refused r) = told (refusalNumber r) (noHop ∷ 0 ∷ noSource ∷ [])
+
+-- The register of a part, where it starts, and how many words it has; all 0 where it is empty.
+abbrev pub partTold : Part → List ℕ
+partTold p = cond (eqb (p .from) (p .to)) (0 ∷ 0 ∷ 0 ∷ []) (originNumber (p .origin) ∷ (p .from ∷ ((p .to - p .from) ∷ [])))
 
 -- ---- Write and Read
 

@@ -5,21 +5,27 @@ use mathlib.Core.Bool.{true, false}
 use mathlib.Core.List.{List}
 use Rattle.text.specs.Ascii.{ascii}
 use Rattle.text.specs.Bytes.{sameBytes}
-use Rattle.commands.specs.declared.Named.the-variants.{Register, Ledger, Neither}
-use Rattle.commands.specs.Commands.{is, namedBy, fileCommand, withdrawCommand, clearCommand, judgeCommand, keepCommand, dropCommand, rejudgeCommand, readCommand, writeCommand, showCommand, pokeCommand, resizeCommand, wordsCommand, emptyCommand, lookCommand, snapshotCommand, routeCommand, lentCommand, commandOf}
+use Rattle.types.specs.declared.Origin.the-variants as origin
+use Rattle.commands.specs.declared.Named.the-variants.{Register, Overrides, Ledger, Neither}
+use Rattle.commands.specs.Commands.{is, namedBy, fileCommand, withdrawCommand, clearCommand, judgeCommand, keepCommand, dropCommand, rejudgeCommand, hopCommand, lookupCommand, readCommand, writeCommand, showCommand, pokeCommand, resizeCommand, wordsCommand, emptyCommand, lookCommand, askCommand, overridesCommand, snapshotCommand, routeCommand, lentCommand, commandOf}
 
 module _ (word : List ℕ) where
   pub names-register : sameBytes word (ascii "register") ≡ true → Register ≡ namedBy word
   unfolding namedBy
   names-register e = rw e refl
 
-  pub names-ledger : sameBytes word (ascii "register") ≡ false → sameBytes word (ascii "ledger") ≡ true → Ledger ≡ namedBy word
-  unfolding namedBy
-  names-ledger e f = rw (e, f) refl
+  module _ (e : sameBytes word (ascii "register") ≡ false) where
+    pub names-overrides : sameBytes word (ascii "drawer") ≡ true → Overrides ≡ namedBy word
+    unfolding namedBy
+    names-overrides f = rw (e, f) refl
 
-  pub names-neither : sameBytes word (ascii "register") ≡ false → sameBytes word (ascii "ledger") ≡ false → Neither ≡ namedBy word
-  unfolding namedBy
-  names-neither e f = rw (e, f) refl
+    pub names-ledger : sameBytes word (ascii "drawer") ≡ false → sameBytes word (ascii "ledger") ≡ true → Ledger ≡ namedBy word
+    unfolding namedBy
+    names-ledger f g = rw (e, f, g) refl
+
+    pub names-neither : sameBytes word (ascii "drawer") ≡ false → sameBytes word (ascii "ledger") ≡ false → Neither ≡ namedBy word
+    unfolding namedBy
+    names-neither f g = rw (e, f, g) refl
 
 module _ (ws : List (List ℕ)) where
   pub is-resize : is ws "resize" ≡ true → commandOf ws ≡ resizeCommand ws
@@ -34,17 +40,17 @@ module _ (ws : List (List ℕ)) where
   unfolding commandOf
   is-lent e f = rw (e, f) refl
 
-  pub is-file : is ws "file" ≡ true → lentCommand ws ≡ fileCommand ws
+  pub is-file : is ws "file" ≡ true → lentCommand ws ≡ fileCommand origin.Public ws
   unfolding lentCommand
   is-file e = rw e refl
 
   module _ (e : is ws "file" ≡ false) where
-    pub is-withdraw : is ws "withdraw" ≡ true → lentCommand ws ≡ withdrawCommand ws
+    pub is-withdraw : is ws "withdraw" ≡ true → lentCommand ws ≡ withdrawCommand origin.Public ws
     unfolding lentCommand
     is-withdraw f = rw (e, f) refl
 
     module _ (f : is ws "withdraw" ≡ false) where
-      pub is-clear : is ws "clear" ≡ true → lentCommand ws ≡ clearCommand ws
+      pub is-clear : is ws "clear" ≡ true → lentCommand ws ≡ clearCommand origin.Public ws
       unfolding lentCommand
       is-clear g = rw (e, f, g) refl
 
@@ -81,8 +87,37 @@ module _ (ws : List (List ℕ)) where
   unfolding snapshotCommand
   is-write e f = rw (e, f) refl
 
-  pub is-look : is ws "read" ≡ false → is ws "write" ≡ false → snapshotCommand ws ≡ lookCommand ws
+  pub is-overriding : is ws "read" ≡ false → is ws "write" ≡ false → snapshotCommand ws ≡ overridesCommand ws
   unfolding snapshotCommand
+  is-overriding e f = rw (e, f) refl
+
+  pub is-dfile : is ws "dfile" ≡ true → overridesCommand ws ≡ fileCommand origin.Overrides ws
+  unfolding overridesCommand
+  is-dfile e = rw e refl
+
+  module _ (e : is ws "dfile" ≡ false) where
+    pub is-dwithdraw : is ws "dwithdraw" ≡ true → overridesCommand ws ≡ withdrawCommand origin.Overrides ws
+    unfolding overridesCommand
+    is-dwithdraw f = rw (e, f) refl
+
+    pub is-dclear : is ws "dwithdraw" ≡ false → is ws "dclear" ≡ true → overridesCommand ws ≡ clearCommand origin.Overrides ws
+    unfolding overridesCommand
+    is-dclear f g = rw (e, f, g) refl
+
+    pub is-ask : is ws "dwithdraw" ≡ false → is ws "dclear" ≡ false → overridesCommand ws ≡ askCommand ws
+    unfolding overridesCommand
+    is-ask f g = rw (e, f, g) refl
+
+  pub is-hop : is ws "hop" ≡ true → askCommand ws ≡ hopCommand ws
+  unfolding askCommand
+  is-hop e = rw e refl
+
+  pub is-lookup : is ws "hop" ≡ false → is ws "lookup" ≡ true → askCommand ws ≡ lookupCommand ws
+  unfolding askCommand
+  is-lookup e f = rw (e, f) refl
+
+  pub is-look : is ws "hop" ≡ false → is ws "lookup" ≡ false → askCommand ws ≡ lookCommand ws
+  unfolding askCommand
   is-look e f = rw (e, f) refl
 
   pub is-poke : is ws "poke" ≡ true → lookCommand ws ≡ pokeCommand ws

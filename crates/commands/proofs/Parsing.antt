@@ -19,13 +19,18 @@ use Rattle.lines.proofs.Readings.{read-list, read-all, read-bytes-in}
 use Rattle.types.specs.declared.Filed.{Filed}
 use Rattle.types.specs.declared.Judged as judged
 use Rattle.types.specs.declared.Restored.{Restored}
-use Rattle.types.specs.Rows.{effect}
+use Rattle.types.specs.declared.Origin.{Origin}
+use Rattle.types.specs.declared.Origin.the-variants.{Public, Overrides}
+use Rattle.types.specs.Rows.{Effect, effect}
 use Rattle.register.specs.Calls.{fileEffect}
+use Rattle.registers.specs.Registers.{Registers, lent, chosen}
+use Rattle.history.specs.Calls.{rewritten}
 use Rattle.filter.specs.Calls.{judgeAnswer, keeping, keepEffect}
 use Rattle.snapshot.specs.Calls.{reading, readEffect}
+use Rattle.commands.specs.declared.Reply.{Reply}
 use Rattle.commands.specs.declared.Reply.the-variants as reply
-use Rattle.commands.specs.Commands.{Command, bad, ofWords, withNumber, withBytes, withNumbers, upTo, fileCommand, judgeCommand, keepCommand, readCommand}
-use Rattle.commands.specs.Performing.{Result, both, result, performed}
+use Rattle.commands.specs.Commands.{Command, bad, ofWords, withNumber, withBytes, withNumbers, upTo, fromOne, fileCommand, judgeCommand, keepCommand, readCommand}
+use Rattle.commands.specs.Performing.{WorksOn, Result, tablesOf, result, performed}
 
 -- ---- the parts
 
@@ -80,6 +85,15 @@ module _ (most n : ℕ) (command : Command) where
   unfolding upTo
   not-too-many h = rw (le-ltb most n h) refl
 
+module _ (n : ℕ) (command : Command) where
+  pub is-zero : n ≡ 0 → fromOne n command ≡ bad
+  unfolding fromOne
+  is-zero e = rw (eq-eqb n 0 e) refl
+
+  pub not-zero : (n ≡ 0 → ⊥) → fromOne n command ≡ command
+  unfolding fromOne
+  not-zero h = rw (ne-eqb n 0 h) refl
+
 -- ---- what was read into a buffer
 
 pub bytes-given :
@@ -96,14 +110,30 @@ numbers-given ws into {k = k} p q l e =
 
 -- ---- what is done
 
-module _ (reg led : List ℕ) (c : Command) where
+-- A reply, and the registers as one.
+abbrev pub replied : Reply → Registers → List ℕ → Result
+replied r reg led = record { reply = r; tables = record { registers = reg; ledger = led } }
+
+module _ (reg overrides led : List ℕ) (c : Command) where
   -- A command that is read as another does what that one does.
-  pub does : {o : Result} {d : Command} → c ≡ d → o ≡ performed (both reg led) d → o ≡ performed (both reg led) c
-  does e p = p ∙ ap (performed (both reg led)) (sym e)
+  pub does : {o : Result} {d : Command} → c ≡ d → o ≡ performed (tablesOf reg overrides led) d → o ≡ performed (tablesOf reg overrides led) c
+  does e p = p ∙ ap (performed (tablesOf reg overrides led)) (sym e)
 
   -- What is no command changes nothing.
-  pub does-nothing : c ≡ bad → result reply.Error reg led ≡ performed (both reg led) c
+  pub does-nothing : c ≡ bad → result reply.Error reg overrides led ≡ performed (tablesOf reg overrides led) c
   does-nothing e = does e refl
+
+-- A call on the register of an origin leaves the other as it is.
+module _ {A : Type 0} (f : List ℕ → Effect A) (reg overrides : List ℕ) {o : Origin} {a : A} {words : List ℕ} where
+  pub on-public :
+      o ≡ Public → effect a words ≡ f reg
+      → WorksOn o f (lent reg overrides) a (lent words overrides)
+  on-public e p = rw e (ap (λ x. x .answer) p, ap (λ x. lent (x .words) overrides) p)
+
+  pub on-overrides :
+      o ≡ Overrides → effect a words ≡ f overrides
+      → WorksOn o f (lent reg overrides) a (lent reg words)
+  on-overrides e p = rw e (ap (λ x. x .answer) p, ap (λ x. lent reg (x .words)) p)
 
 -- ---- a call whose last argument was read into a buffer
 
@@ -117,42 +147,44 @@ pub buffered :
     → r ≡ bytes.Read k → Buffered w after k
 buffered w into p q l e = record { length-read = sym p ∙ e; bytes-read = bytes-given w into p q l e }
 
-module _ (reg led : List ℕ) (ws : List (List ℕ)) {after : List ℕ} {k : ℕ} {role neighbour : ℕ} {j : judged.Judged} where
+module _ (reg overrides led : List ℕ) (ws : List (List ℕ)) {after : List ℕ} {k : ℕ} {role neighbour : ℕ} {j : judged.Judged} where
   pub judges :
       length ws ≡ 4 → numberOf (getD ws 1 []) ≡ number.Is role → numberOf (getD ws 2 []) ≡ number.Is neighbour → Buffered (getD ws 3 []) after k
-      → j ≡ judgeAnswer reg role neighbour (take k after) → result (reply.Judged j) reg led ≡ performed (both reg led) (judgeCommand ws)
+      → j ≡ judgeAnswer (lent reg overrides) role neighbour (take k after) → result (reply.Judged j) reg overrides led ≡ performed (tablesOf reg overrides led) (judgeCommand ws)
   judges l r n a e =
-      does reg led (judgeCommand ws) (right-count ws 4 _ l ∙ number-is ws 1 _ r ∙ number-is ws 2 _ n ∙ bytes-are ws 3 _ (a .length-read))
-      (λ i. result (reply.Judged ((e ∙ ap (judgeAnswer reg role neighbour) (a .bytes-read)) i)) reg led)
+      does reg overrides led (judgeCommand ws) (right-count ws 4 _ l ∙ number-is ws 1 _ r ∙ number-is ws 2 _ n ∙ bytes-are ws 3 _ (a .length-read))
+      (λ i. result (reply.Judged ((e ∙ ap (judgeAnswer (lent reg overrides) role neighbour) (a .bytes-read)) i)) reg overrides led)
 
   pub keeps :
       {route : ℕ} {led' : List ℕ} → length ws ≡ 5 → numberOf (getD ws 1 []) ≡ number.Is route → numberOf (getD ws 2 []) ≡ number.Is role
       → numberOf (getD ws 3 []) ≡ number.Is neighbour → Buffered (getD ws 4 []) after k
-      → effect j led' ≡ keepEffect reg led (keeping route role neighbour (take k after))
-      → result (reply.Judged j) reg led' ≡ performed (both reg led) (keepCommand ws)
+      → effect j led' ≡ keepEffect (lent reg overrides) led (keeping route role neighbour (take k after))
+      → result (reply.Judged j) reg overrides led' ≡ performed (tablesOf reg overrides led) (keepCommand ws)
   keeps {route = route} l m r n a e =
-      let left = e ∙ ap (λ b. keepEffect reg led (keeping route role neighbour b)) (a .bytes-read) in
-      does reg led (keepCommand ws)
+      let left = e ∙ ap (λ b. keepEffect (lent reg overrides) led (keeping route role neighbour b)) (a .bytes-read) in
+      does reg overrides led (keepCommand ws)
       (right-count ws 5 _ l ∙ number-is ws 1 _ m ∙ number-is ws 2 _ r ∙ number-is ws 3 _ n ∙ bytes-are ws 4 _ (a .length-read))
-      (λ i. result (reply.Judged (left i .answer)) reg (left i .words))
+      (λ i. result (reply.Judged (left i .answer)) reg overrides (left i .words))
 
 pub reads :
-    (reg led : List ℕ) (ws : List (List ℕ)) {after : List ℕ} {k : ℕ} {restored : Restored} {reg' led' : List ℕ} → length ws ≡ 2
+    (reg overrides led : List ℕ) (ws : List (List ℕ)) {after : List ℕ} {k : ℕ} {restored : Restored} {reg' led' : List ℕ} → length ws ≡ 2
     → Buffered (getD ws 1 []) after k → reading restored reg' led' ≡ readEffect (take k after) reg led
-    → result (reply.Restored restored) reg' led' ≡ performed (both reg led) (readCommand ws)
-reads reg led ws l a e =
+    → result (reply.Restored restored) reg' overrides led' ≡ performed (tablesOf reg overrides led) (readCommand ws)
+reads reg overrides led ws l a e =
     let left = e ∙ ap (λ file. readEffect file reg led) (a .bytes-read) in
-    does reg led (readCommand ws) (right-count ws 2 _ l ∙ bytes-are ws 1 _ (a .length-read))
-    (λ i. result (reply.Restored (left i .answer)) (left i .register) (left i .ledger))
+    does reg overrides led (readCommand ws) (right-count ws 2 _ l ∙ bytes-are ws 1 _ (a .length-read))
+    (λ i. result (reply.Restored (left i .answer)) (left i .register) overrides (left i .ledger))
 
 pub files :
-    (reg led : List ℕ) (ws : List (List ℕ)) (into : List ℕ) {after : List ℕ} {k source customer : ℕ} {r : list-type.List} {filed : Filed} {reg' : List ℕ} → 3 ≤ length ws
+    (o : Origin) (reg overrides led : List ℕ) (ws : List (List ℕ)) (into : List ℕ) {after : List ℕ} {k source customer : ℕ} {r : list-type.List} {filed : Filed} {reg' overrides' : List ℕ} → 3 ≤ length ws
     → numberOf (getD ws 1 []) ≡ number.Is source → numberOf (getD ws 2 []) ≡ number.Is customer → r ≡ listRead (drop 3 ws)
     → after ≡ sets into 0 (numbersIn (drop 3 ws)) → listCount r ≤ length into → r ≡ list.Read k
-    → effect filed reg' ≡ fileEffect reg source customer (take k after)
-    → result (reply.Filed filed) reg' led ≡ performed (both reg led) (fileCommand ws)
-files reg led ws into {after = after} {k = k} {source = source} {customer = customer} l s c p q b e f =
-    let left = f ∙ ap (λ x. fileEffect reg source customer x) (numbers-given (drop 3 ws) into p q b e) in
-    does reg led (fileCommand ws)
+    → WorksOn o (λ words. fileEffect words source customer (take k after)) (lent reg overrides) filed (lent reg' overrides')
+    → result (reply.Filed filed) reg' overrides' led ≡ performed (tablesOf reg overrides led) (fileCommand o ws)
+files o reg overrides led ws into {after = after} {k = k} {source = source} {customer = customer} l s c p q b e f =
+    let read = numbers-given (drop 3 ws) into p q b e in
+    let answer = f .0 ∙ ap (λ x. fileEffect (chosen o (lent reg overrides)) source customer x .answer) read in
+    let left = f .1 ∙ ap (λ x. rewritten o (lent reg overrides) (fileEffect (chosen o (lent reg overrides)) source customer x .words)) read in
+    does reg overrides led (fileCommand o ws)
     (enough-words ws _ l ∙ number-is ws 1 _ s ∙ number-is ws 2 _ c ∙ numbers-are ws 3 _ (read-all (drop 3 ws) k (sym p ∙ e)))
-    (λ i. result (reply.Filed (left i .answer)) (left i .words) led)
+    (λ i. replied (reply.Filed (answer i)) (left i) led)

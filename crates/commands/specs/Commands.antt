@@ -9,14 +9,18 @@ use Rattle.text.specs.Ascii.{ascii}
 use Rattle.text.specs.Numbers.{numberOf, ifNumber}
 use Rattle.text.specs.Bytes.{bytesOf, bytesIn, ifBytes, sameBytes}
 use Rattle.lines.specs.Words.{allNumbers, numbersIn}
+use Rattle.types.specs.declared.Origin.{Origin}
+use Rattle.types.specs.declared.Origin.the-variants as origin
 use Rattle.filter.specs.Calls.{keeping}
 use Rattle.history.specs.Calls.{Call, file, withdraw, clear, keep, drop as dropRoute, rejudge}
 use Rattle.commands.specs.declared.Named.{Named}
-use Rattle.commands.specs.declared.Named.the-variants.{Register, Ledger, Neither}
+use Rattle.commands.specs.declared.Named.the-variants.{Register, Overrides, Ledger, Neither}
 
 pub data Command : Type 0 where
   call : Call → Command
   judge : (role neighbour : ℕ) → (attribute : List ℕ) → Command
+  hop : (x y : ℕ) → Command
+  lookup : (source customer : ℕ) → Command
   read : (file : List ℕ) → Command
   write : (capacity : ℕ) → Command
   show : Named → Command
@@ -41,7 +45,11 @@ is ws name = sameBytes (getD ws 0 []) (ascii name)
 
 -- The table that a word names.
 unfoldable pub namedBy : List ℕ → Named
-namedBy word = cond (sameBytes word (ascii "register")) Register (cond (sameBytes word (ascii "ledger")) Ledger Neither)
+namedBy word =
+    cond (sameBytes word (ascii "register")) Register
+    (cond (sameBytes word (ascii "drawer")) Overrides
+    (cond (sameBytes word (ascii "ledger")) Ledger
+    Neither))
 
 unfoldable pub ofWords : List (List ℕ) → ℕ → Command → Command
 ofWords ws n command = cond (eqb (length ws) n) command bad
@@ -66,18 +74,22 @@ mostOutput = 131072
 unfoldable pub upTo : ℕ → ℕ → Command → Command
 upTo most n command = cond (ltb most n) bad command
 
+unfoldable pub fromOne : ℕ → Command → Command
+fromOne n command = cond (eqb n 0) bad command
+
 -- ---- the commands, each after its name was read
 
-abbrev pub fileCommand : List (List ℕ) → Command
-fileCommand ws =
+-- On the register of an origin.
+abbrev pub fileCommand : Origin → List (List ℕ) → Command
+fileCommand o ws =
     cond (ltb (length ws) 3) bad
-    (withNumber ws 1 (λ source. withNumber ws 2 (λ customer. withNumbers ws 3 (λ list. call (file source customer list)))))
+    (withNumber ws 1 (λ source. withNumber ws 2 (λ customer. withNumbers ws 3 (λ list. call (file o source customer list)))))
 
-abbrev pub withdrawCommand : List (List ℕ) → Command
-withdrawCommand ws = ofWords ws 3 (withNumber ws 1 (λ source. withNumber ws 2 (λ customer. call (withdraw source customer))))
+abbrev pub withdrawCommand : Origin → List (List ℕ) → Command
+withdrawCommand o ws = ofWords ws 3 (withNumber ws 1 (λ source. withNumber ws 2 (λ customer. call (withdraw o source customer))))
 
-abbrev pub clearCommand : List (List ℕ) → Command
-clearCommand ws = ofWords ws 2 (withNumber ws 1 (λ source. call (clear source)))
+abbrev pub clearCommand : Origin → List (List ℕ) → Command
+clearCommand o ws = ofWords ws 2 (withNumber ws 1 (λ source. call (clear o source)))
 
 abbrev pub judgeCommand : List (List ℕ) → Command
 judgeCommand ws =
@@ -93,6 +105,13 @@ dropCommand ws = ofWords ws 2 (withNumber ws 1 (λ number. call (dropRoute numbe
 
 abbrev pub rejudgeCommand : List (List ℕ) → Command
 rejudgeCommand ws = ofWords ws 1 (call rejudge)
+
+abbrev pub hopCommand : List (List ℕ) → Command
+hopCommand ws = ofWords ws 3 (withNumber ws 1 (λ x. withNumber ws 2 (λ y. fromOne x (fromOne y (hop x y)))))
+
+-- The customer stands before the source.
+abbrev pub lookupCommand : List (List ℕ) → Command
+lookupCommand ws = ofWords ws 3 (withNumber ws 1 (λ customer. withNumber ws 2 (λ source. lookup source customer)))
 
 abbrev pub readCommand : List (List ℕ) → Command
 readCommand ws = ofWords ws 2 (withBytes ws 1 (λ file. read file))
@@ -121,9 +140,21 @@ emptyCommand ws = ofWords ws 1 empty
 unfoldable pub lookCommand : List (List ℕ) → Command
 lookCommand ws = cond (is ws "poke") (pokeCommand ws) (cond (is ws "words") (wordsCommand ws) (showCommand ws))
 
+-- Those that ask both registers.
+unfoldable pub askCommand : List (List ℕ) → Command
+askCommand ws = cond (is ws "hop") (hopCommand ws) (cond (is ws "lookup") (lookupCommand ws) (lookCommand ws))
+
+-- Those that change the overrides.
+unfoldable pub overridesCommand : List (List ℕ) → Command
+overridesCommand ws =
+    cond (is ws "dfile") (fileCommand origin.Overrides ws)
+    (cond (is ws "dwithdraw") (withdrawCommand origin.Overrides ws)
+    (cond (is ws "dclear") (clearCommand origin.Overrides ws)
+    (askCommand ws)))
+
 -- Those of the snapshot.
 unfoldable pub snapshotCommand : List (List ℕ) → Command
-snapshotCommand ws = cond (is ws "read") (readCommand ws) (cond (is ws "write") (writeCommand ws) (lookCommand ws))
+snapshotCommand ws = cond (is ws "read") (readCommand ws) (cond (is ws "write") (writeCommand ws) (overridesCommand ws))
 
 -- Those that are lent the ledger.
 unfoldable pub routeCommand : List (List ℕ) → Command
@@ -133,12 +164,12 @@ routeCommand ws =
     (cond (is ws "rejudge") (rejudgeCommand ws)
     (snapshotCommand ws)))
 
--- Those that leave both lengths as they are.
+-- Those that leave the lengths as they are.
 unfoldable pub lentCommand : List (List ℕ) → Command
 lentCommand ws =
-    cond (is ws "file") (fileCommand ws)
-    (cond (is ws "withdraw") (withdrawCommand ws)
-    (cond (is ws "clear") (clearCommand ws)
+    cond (is ws "file") (fileCommand origin.Public ws)
+    (cond (is ws "withdraw") (withdrawCommand origin.Public ws)
+    (cond (is ws "clear") (clearCommand origin.Public ws)
     (cond (is ws "judge") (judgeCommand ws)
     (routeCommand ws))))
 

@@ -4,14 +4,20 @@ use lines::List;
 use text::Bytes;
 use text::Number;
 use types::AsNumber;
+use types::Cleared;
+use types::Filed;
+use types::Origin;
+use types::Removal;
 use types::RouteNumber;
 ghost use mathlib.Core.Path.{_≡_};
 ghost use Prim.Native.Nat.{_*_, _≤_};
 ghost use lib.ListN.{length};
 ghost use Rattle.lines.specs.Words.{wordsOf};
 ghost use Rattle.commands.specs.Commands.{mostLine, mostParts, fileCommand, withdrawCommand, clearCommand, judgeCommand, keepCommand, dropCommand};
-ghost use Rattle.commands.specs.Commands.{rejudgeCommand, readCommand, writeCommand};
-ghost use Rattle.commands.specs.Performing.{result, performedOn};
+ghost use Rattle.register.specs.Calls.{fileEffect, withdrawEffect, clearEffect};
+ghost use Rattle.registers.specs.Registers.{lent};
+ghost use Rattle.commands.specs.Commands.{rejudgeCommand, readCommand, writeCommand, hopCommand, lookupCommand};
+ghost use Rattle.commands.specs.Performing.{result, performedOn, WorksOn};
 
 // The most numbers, or bytes in hex, of a line: each takes two of its bytes.
 const MOST_PARTS: usize = crate::MOST_LINE / 2;
@@ -46,16 +52,62 @@ fn few_bytes() -> [u8; SHORT_PARTS]
     [0; SHORT_PARTS]
 }
 
+// File, Withdraw and Clear work on the register of an origin, and are lent no other.
+fn file_in(
+    origin: Origin,
+    reg: &mut [u32],
+    overrides: &mut [u32],
+    source: u32,
+    customer: AsNumber,
+    providers: &[u32],
+) -> Filed
+    ensures { λ r. ⌜ WorksOn origin (λ words. fileEffect words source (customer .0) (now (providers .entry)))
+        (lent (now (reg .entry)) (now (overrides .entry))) r (lent (now (reg .exit)) (now (overrides .exit))) ⌝ }
+{
+    match origin {
+        Origin::Public => filter::file(reg, source, customer, providers),
+        Origin::Overrides => filter::file(overrides, source, customer, providers),
+    }
+}
+
+fn withdraw_in(
+    origin: Origin,
+    reg: &mut [u32],
+    overrides: &mut [u32],
+    source: u32,
+    customer: AsNumber,
+) -> Removal
+    ensures { λ r. ⌜ WorksOn origin (λ words. withdrawEffect words source (customer .0))
+        (lent (now (reg .entry)) (now (overrides .entry))) r (lent (now (reg .exit)) (now (overrides .exit))) ⌝ }
+{
+    match origin {
+        Origin::Public => filter::withdraw(reg, source, customer),
+        Origin::Overrides => filter::withdraw(overrides, source, customer),
+    }
+}
+
+fn clear_in(origin: Origin, reg: &mut [u32], overrides: &mut [u32], source: u32) -> Cleared
+    ensures { λ r. ⌜ WorksOn origin (λ words. clearEffect words source)
+        (lent (now (reg .entry)) (now (overrides .entry))) r (lent (now (reg .exit)) (now (overrides .exit))) ⌝ }
+{
+    match origin {
+        Origin::Public => filter::clear(reg, source),
+        Origin::Overrides => filter::clear(overrides, source),
+    }
+}
+
 fn file_into(
     line: &[u8],
     n: usize,
+    origin: Origin,
     providers: &mut [u32],
     reg: &mut [u32],
+    overrides: &mut [u32],
     led: &mut [u32],
 ) -> Reply
     requires { ⌜ (length (now line) ≤ 2 * length (now providers)) × (n ≡ length (wordsOf (now line))) ⌝ }
-    ensures { λ r. ⌜ result r (now (reg .exit)) (now (led .exit))
-        ≡ performedOn (now (reg .entry)) (now (led .entry)) (fileCommand (wordsOf (now (line .entry)))) ⌝ }
+    ensures { λ r. ⌜ result r (now (reg .exit)) (now (overrides .exit)) (now (led .exit))
+        ≡ performedOn (now (reg .entry)) (now (overrides .entry)) (now (led .entry)) (fileCommand origin (wordsOf (now (line .entry)))) ⌝ }
 {
     if n < 3 {
         return Reply::Error;
@@ -69,27 +121,48 @@ fn file_into(
     let List::Read(k) = lines::numbers(line, 3, providers) else {
         return Reply::Error;
     };
-    let filed = filter::file(reg, source, AsNumber(customer), &providers[..k]);
+    let filed = file_in(
+        origin,
+        reg,
+        overrides,
+        source,
+        AsNumber(customer),
+        &providers[..k],
+    );
     Reply::Filed(filed)
 }
 
-pub fn file(line: &[u8], n: usize, reg: &mut [u32], led: &mut [u32]) -> Reply
+pub fn file(
+    line: &[u8],
+    n: usize,
+    origin: Origin,
+    reg: &mut [u32],
+    overrides: &mut [u32],
+    led: &mut [u32],
+) -> Reply
     requires { ⌜ (length (now line) ≤ mostLine) × (n ≡ length (wordsOf (now line))) ⌝ }
-    ensures { λ r. ⌜ result r (now (reg .exit)) (now (led .exit))
-        ≡ performedOn (now (reg .entry)) (now (led .entry)) (fileCommand (wordsOf (now (line .entry)))) ⌝ }
+    ensures { λ r. ⌜ result r (now (reg .exit)) (now (overrides .exit)) (now (led .exit))
+        ≡ performedOn (now (reg .entry)) (now (overrides .entry)) (now (led .entry)) (fileCommand origin (wordsOf (now (line .entry)))) ⌝ }
 {
     if line.len() <= SHORT_LINE {
         let mut providers = few_numbers();
-        return file_into(line, n, &mut providers, reg, led);
+        return file_into(line, n, origin, &mut providers, reg, overrides, led);
     }
     let mut providers = no_numbers();
-    file_into(line, n, &mut providers, reg, led)
+    file_into(line, n, origin, &mut providers, reg, overrides, led)
 }
 
-pub fn withdraw(line: &[u8], n: usize, reg: &mut [u32], led: &mut [u32]) -> Reply
+pub fn withdraw(
+    line: &[u8],
+    n: usize,
+    origin: Origin,
+    reg: &mut [u32],
+    overrides: &mut [u32],
+    led: &mut [u32],
+) -> Reply
     requires { ⌜ n ≡ length (wordsOf (now line)) ⌝ }
-    ensures { λ r. ⌜ result r (now (reg .exit)) (now (led .exit))
-        ≡ performedOn (now (reg .entry)) (now (led .entry)) (withdrawCommand (wordsOf (now (line .entry)))) ⌝ }
+    ensures { λ r. ⌜ result r (now (reg .exit)) (now (overrides .exit)) (now (led .exit))
+        ≡ performedOn (now (reg .entry)) (now (overrides .entry)) (now (led .entry)) (withdrawCommand origin (wordsOf (now (line .entry)))) ⌝ }
 {
     if n != 3 {
         return Reply::Error;
@@ -100,14 +173,21 @@ pub fn withdraw(line: &[u8], n: usize, reg: &mut [u32], led: &mut [u32]) -> Repl
     let Number::Is(customer) = lines::number(line, 2) else {
         return Reply::Error;
     };
-    let removal = filter::withdraw(reg, source, AsNumber(customer));
+    let removal = withdraw_in(origin, reg, overrides, source, AsNumber(customer));
     Reply::Removed(removal)
 }
 
-pub fn clear(line: &[u8], n: usize, reg: &mut [u32], led: &mut [u32]) -> Reply
+pub fn clear(
+    line: &[u8],
+    n: usize,
+    origin: Origin,
+    reg: &mut [u32],
+    overrides: &mut [u32],
+    led: &mut [u32],
+) -> Reply
     requires { ⌜ n ≡ length (wordsOf (now line)) ⌝ }
-    ensures { λ r. ⌜ result r (now (reg .exit)) (now (led .exit))
-        ≡ performedOn (now (reg .entry)) (now (led .entry)) (clearCommand (wordsOf (now (line .entry)))) ⌝ }
+    ensures { λ r. ⌜ result r (now (reg .exit)) (now (overrides .exit)) (now (led .exit))
+        ≡ performedOn (now (reg .entry)) (now (overrides .entry)) (now (led .entry)) (clearCommand origin (wordsOf (now (line .entry)))) ⌝ }
 {
     if n != 2 {
         return Reply::Error;
@@ -115,7 +195,7 @@ pub fn clear(line: &[u8], n: usize, reg: &mut [u32], led: &mut [u32]) -> Reply
     let Number::Is(source) = lines::number(line, 1) else {
         return Reply::Error;
     };
-    let cleared = filter::clear(reg, source);
+    let cleared = clear_in(origin, reg, overrides, source);
     Reply::Cleared(cleared)
 }
 
@@ -124,11 +204,12 @@ fn judge_into(
     n: usize,
     attribute: &mut [u8],
     reg: &mut [u32],
+    overrides: &mut [u32],
     led: &mut [u32],
 ) -> Reply
     requires { ⌜ (length (now line) ≤ 2 * length (now attribute)) × (n ≡ length (wordsOf (now line))) ⌝ }
-    ensures { λ r. ⌜ result r (now (reg .exit)) (now (led .exit))
-        ≡ performedOn (now (reg .entry)) (now (led .entry)) (judgeCommand (wordsOf (now (line .entry)))) ⌝ }
+    ensures { λ r. ⌜ result r (now (reg .exit)) (now (overrides .exit)) (now (led .exit))
+        ≡ performedOn (now (reg .entry)) (now (overrides .entry)) (now (led .entry)) (judgeCommand (wordsOf (now (line .entry)))) ⌝ }
 {
     if n != 4 {
         return Reply::Error;
@@ -142,27 +223,40 @@ fn judge_into(
     let Bytes::Read(k) = lines::bytes(line, 3, attribute) else {
         return Reply::Error;
     };
-    let judged = filter::judge(reg, role, AsNumber(neighbour), &attribute[..k]);
+    let judged = filter::judge(reg, overrides, role, AsNumber(neighbour), &attribute[..k]);
     Reply::Judged(judged)
 }
 
-pub fn judge(line: &[u8], n: usize, reg: &mut [u32], led: &mut [u32]) -> Reply
+pub fn judge(
+    line: &[u8],
+    n: usize,
+    reg: &mut [u32],
+    overrides: &mut [u32],
+    led: &mut [u32],
+) -> Reply
     requires { ⌜ (length (now line) ≤ mostLine) × (n ≡ length (wordsOf (now line))) ⌝ }
-    ensures { λ r. ⌜ result r (now (reg .exit)) (now (led .exit))
-        ≡ performedOn (now (reg .entry)) (now (led .entry)) (judgeCommand (wordsOf (now (line .entry)))) ⌝ }
+    ensures { λ r. ⌜ result r (now (reg .exit)) (now (overrides .exit)) (now (led .exit))
+        ≡ performedOn (now (reg .entry)) (now (overrides .entry)) (now (led .entry)) (judgeCommand (wordsOf (now (line .entry)))) ⌝ }
 {
     if line.len() <= SHORT_LINE {
         let mut attribute = few_bytes();
-        return judge_into(line, n, &mut attribute, reg, led);
+        return judge_into(line, n, &mut attribute, reg, overrides, led);
     }
     let mut attribute = no_bytes();
-    judge_into(line, n, &mut attribute, reg, led)
+    judge_into(line, n, &mut attribute, reg, overrides, led)
 }
 
-fn keep_into(line: &[u8], n: usize, attribute: &mut [u8], reg: &mut [u32], led: &mut [u32]) -> Reply
+fn keep_into(
+    line: &[u8],
+    n: usize,
+    attribute: &mut [u8],
+    reg: &mut [u32],
+    overrides: &mut [u32],
+    led: &mut [u32],
+) -> Reply
     requires { ⌜ (length (now line) ≤ 2 * length (now attribute)) × (n ≡ length (wordsOf (now line))) ⌝ }
-    ensures { λ r. ⌜ result r (now (reg .exit)) (now (led .exit))
-        ≡ performedOn (now (reg .entry)) (now (led .entry)) (keepCommand (wordsOf (now (line .entry)))) ⌝ }
+    ensures { λ r. ⌜ result r (now (reg .exit)) (now (overrides .exit)) (now (led .exit))
+        ≡ performedOn (now (reg .entry)) (now (overrides .entry)) (now (led .entry)) (keepCommand (wordsOf (now (line .entry)))) ⌝ }
 {
     if n != 5 {
         return Reply::Error;
@@ -181,6 +275,7 @@ fn keep_into(line: &[u8], n: usize, attribute: &mut [u8], reg: &mut [u32], led: 
     };
     let judged = filter::keep(
         reg,
+        overrides,
         led,
         RouteNumber(number),
         role,
@@ -190,23 +285,23 @@ fn keep_into(line: &[u8], n: usize, attribute: &mut [u8], reg: &mut [u32], led: 
     Reply::Judged(judged)
 }
 
-pub fn keep(line: &[u8], n: usize, reg: &mut [u32], led: &mut [u32]) -> Reply
+pub fn keep(line: &[u8], n: usize, reg: &mut [u32], overrides: &mut [u32], led: &mut [u32]) -> Reply
     requires { ⌜ (length (now line) ≤ mostLine) × (n ≡ length (wordsOf (now line))) ⌝ }
-    ensures { λ r. ⌜ result r (now (reg .exit)) (now (led .exit))
-        ≡ performedOn (now (reg .entry)) (now (led .entry)) (keepCommand (wordsOf (now (line .entry)))) ⌝ }
+    ensures { λ r. ⌜ result r (now (reg .exit)) (now (overrides .exit)) (now (led .exit))
+        ≡ performedOn (now (reg .entry)) (now (overrides .entry)) (now (led .entry)) (keepCommand (wordsOf (now (line .entry)))) ⌝ }
 {
     if line.len() <= SHORT_LINE {
         let mut attribute = few_bytes();
-        return keep_into(line, n, &mut attribute, reg, led);
+        return keep_into(line, n, &mut attribute, reg, overrides, led);
     }
     let mut attribute = no_bytes();
-    keep_into(line, n, &mut attribute, reg, led)
+    keep_into(line, n, &mut attribute, reg, overrides, led)
 }
 
-pub fn drop(line: &[u8], n: usize, reg: &mut [u32], led: &mut [u32]) -> Reply
+pub fn drop(line: &[u8], n: usize, reg: &mut [u32], overrides: &mut [u32], led: &mut [u32]) -> Reply
     requires { ⌜ n ≡ length (wordsOf (now line)) ⌝ }
-    ensures { λ r. ⌜ result r (now (reg .exit)) (now (led .exit))
-        ≡ performedOn (now (reg .entry)) (now (led .entry)) (dropCommand (wordsOf (now (line .entry)))) ⌝ }
+    ensures { λ r. ⌜ result r (now (reg .exit)) (now (overrides .exit)) (now (led .exit))
+        ≡ performedOn (now (reg .entry)) (now (overrides .entry)) (now (led .entry)) (dropCommand (wordsOf (now (line .entry)))) ⌝ }
 {
     if n != 2 {
         return Reply::Error;
@@ -218,23 +313,29 @@ pub fn drop(line: &[u8], n: usize, reg: &mut [u32], led: &mut [u32]) -> Reply
     Reply::Removed(removal)
 }
 
-pub fn rejudge(line: &[u8], n: usize, reg: &mut [u32], led: &mut [u32]) -> Reply
+pub fn rejudge(
+    line: &[u8],
+    n: usize,
+    reg: &mut [u32],
+    overrides: &mut [u32],
+    led: &mut [u32],
+) -> Reply
     requires { ⌜ n ≡ length (wordsOf (now line)) ⌝ }
-    ensures { λ r. ⌜ result r (now (reg .exit)) (now (led .exit))
-        ≡ performedOn (now (reg .entry)) (now (led .entry)) (rejudgeCommand (wordsOf (now (line .entry)))) ⌝ }
+    ensures { λ r. ⌜ result r (now (reg .exit)) (now (overrides .exit)) (now (led .exit))
+        ≡ performedOn (now (reg .entry)) (now (overrides .entry)) (now (led .entry)) (rejudgeCommand (wordsOf (now (line .entry)))) ⌝ }
 {
     if n != 1 {
         return Reply::Error;
     }
-    let rejudged = filter::rejudge(reg, led);
+    let rejudged = filter::rejudge(reg, overrides, led);
     Reply::Rejudged(rejudged)
 }
 
-// A snapshot goes into both tables.
-pub fn read(line: &[u8], n: usize, reg: &mut [u32], led: &mut [u32]) -> Reply
+// A snapshot goes into the public register and the ledger.
+pub fn read(line: &[u8], n: usize, reg: &mut [u32], overrides: &mut [u32], led: &mut [u32]) -> Reply
     requires { ⌜ (length (now line) ≤ mostLine) × (n ≡ length (wordsOf (now line))) ⌝ }
-    ensures { λ r. ⌜ result r (now (reg .exit)) (now (led .exit))
-        ≡ performedOn (now (reg .entry)) (now (led .entry)) (readCommand (wordsOf (now (line .entry)))) ⌝ }
+    ensures { λ r. ⌜ result r (now (reg .exit)) (now (overrides .exit)) (now (led .exit))
+        ≡ performedOn (now (reg .entry)) (now (overrides .entry)) (now (led .entry)) (readCommand (wordsOf (now (line .entry)))) ⌝ }
 {
     if n != 2 {
         return Reply::Error;
@@ -248,10 +349,16 @@ pub fn read(line: &[u8], n: usize, reg: &mut [u32], led: &mut [u32]) -> Reply
 }
 
 // The snapshot is written when the reply is put as text: it changes no table.
-pub fn write(line: &[u8], n: usize, reg: &mut [u32], led: &mut [u32]) -> Reply
+pub fn write(
+    line: &[u8],
+    n: usize,
+    reg: &mut [u32],
+    overrides: &mut [u32],
+    led: &mut [u32],
+) -> Reply
     requires { ⌜ n ≡ length (wordsOf (now line)) ⌝ }
-    ensures { λ r. ⌜ result r (now (reg .exit)) (now (led .exit))
-        ≡ performedOn (now (reg .entry)) (now (led .entry)) (writeCommand (wordsOf (now (line .entry)))) ⌝ }
+    ensures { λ r. ⌜ result r (now (reg .exit)) (now (overrides .exit)) (now (led .exit))
+        ≡ performedOn (now (reg .entry)) (now (overrides .entry)) (now (led .entry)) (writeCommand (wordsOf (now (line .entry)))) ⌝ }
 {
     if n != 2 {
         return Reply::Error;
@@ -264,4 +371,52 @@ pub fn write(line: &[u8], n: usize, reg: &mut [u32], led: &mut [u32]) -> Reply
         return Reply::Error;
     }
     Reply::Written(bytes)
+}
+
+pub fn hop(line: &[u8], n: usize, reg: &mut [u32], overrides: &mut [u32], led: &mut [u32]) -> Reply
+    requires { ⌜ n ≡ length (wordsOf (now line)) ⌝ }
+    ensures { λ r. ⌜ result r (now (reg .exit)) (now (overrides .exit)) (now (led .exit))
+        ≡ performedOn (now (reg .entry)) (now (overrides .entry)) (now (led .entry)) (hopCommand (wordsOf (now (line .entry)))) ⌝ }
+{
+    if n != 3 {
+        return Reply::Error;
+    }
+    let Number::Is(x) = lines::number(line, 1) else {
+        return Reply::Error;
+    };
+    let Number::Is(y) = lines::number(line, 2) else {
+        return Reply::Error;
+    };
+    if x == 0 {
+        return Reply::Error;
+    }
+    if y == 0 {
+        return Reply::Error;
+    }
+    let hopped = filter::hop(reg, overrides, AsNumber(x), AsNumber(y));
+    Reply::Hopped(hopped)
+}
+
+// The list is looked up when the reply is put as text: that changes no table.
+pub fn lookup(
+    line: &[u8],
+    n: usize,
+    reg: &mut [u32],
+    overrides: &mut [u32],
+    led: &mut [u32],
+) -> Reply
+    requires { ⌜ n ≡ length (wordsOf (now line)) ⌝ }
+    ensures { λ r. ⌜ result r (now (reg .exit)) (now (overrides .exit)) (now (led .exit))
+        ≡ performedOn (now (reg .entry)) (now (overrides .entry)) (now (led .entry)) (lookupCommand (wordsOf (now (line .entry)))) ⌝ }
+{
+    if n != 3 {
+        return Reply::Error;
+    }
+    let Number::Is(customer) = lines::number(line, 1) else {
+        return Reply::Error;
+    };
+    let Number::Is(source) = lines::number(line, 2) else {
+        return Reply::Error;
+    };
+    Reply::Listed(source, customer)
 }

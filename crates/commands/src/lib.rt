@@ -1,6 +1,7 @@
 // The commands of the console that leave the lengths of the tables as they are: a line's words read, and what they ask for carried out.
 use types::Cleared;
 use types::Filed;
+use types::Hopped;
 use types::Judged;
 use types::Rejudged;
 use types::Removal;
@@ -22,11 +23,13 @@ pub const MOST_OUTPUT: usize = 131072;
 // The table that a word names.
 pub enum Named {
     Register,
+    Overrides,
     Ledger,
     Neither,
 }
 
-// Shown and Sized look at a table when they are put as text, and Written at both: it has the bytes of the output that a snapshot is written to.
+// Shown and Sized look at a table when they are put as text, Written at the public register and the ledger, and Listed at both registers. Written has
+// the bytes of the output that a snapshot is written to, and Listed the source and the customer whose list is looked up.
 pub enum Reply {
     Done,
     Error,
@@ -34,9 +37,11 @@ pub enum Reply {
     Removed(Removal),
     Cleared(Cleared),
     Judged(Judged),
+    Hopped(Hopped),
     Rejudged(Rejudged),
     Restored(Restored),
     Written(usize),
+    Listed(u32, u32),
     Shown(Named),
     Sized(Named),
 }

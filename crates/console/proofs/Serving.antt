@@ -12,22 +12,22 @@ use Rattle.ledger.specs.Routes.{ledgerWords}
 use Rattle.protocol.specs.declared.State.{State}
 use Rattle.protocol.specs.declared.Lent.{Lent}
 use Rattle.commands.specs.Commands.{mostLent}
-use Rattle.protocol.specs.Feeding.{Session, fed, fedBytes, HeldBoth, lentTables, lineIn, mostText, Ready}
+use Rattle.protocol.specs.Feeding.{Session, fed, fedBytes, HeldAll, lentTables, lineIn, mostText, Ready}
 use Rattle.protocol.specs.Sessions.{fedAll}
 use Rattle.protocol.proofs.Feedings.{some-used}
 use Rattle.protocol.proofs.Holding.{lends-zeros}
 
 -- The tables are held as they were, and there is room for an answer.
 pub ready :
-    (r : State) {lent : Lent} (line reg led out : List ℕ) → length line ≡ mostLine → HeldBoth lent reg led → r .lent ≡ lent → r .out + mostText ≤ length out
-    → Ready r line reg led out
-ready r line reg led out l h e room = record { line-size = l; held = rw e h; room = room }
+    (r : State) {lent : Lent} (line reg overrides led out : List ℕ) → length line ≡ mostLine → HeldAll lent reg overrides led → r .lent ≡ lent → r .out + mostText ≤ length out
+    → Ready r line reg overrides led out
+ready r line reg overrides led out l h e room = record { line-size = l; held = rw e h; room = room }
 
 -- The session is the same where what is lent and the line are.
 pub same-session :
-    {l k : Lent} {m n : ℕ} (line reg led : List ℕ) → l ≡ k → m ≡ n
-    → _≡_ {A = Session} (record { tables = lentTables l reg led; line = lineIn m line }) (record { tables = lentTables k reg led; line = lineIn n line })
-same-session line reg led e f = λ i. record { tables = lentTables (e i) reg led; line = lineIn (f i) line }
+    {l k : Lent} {m n : ℕ} (line reg overrides led : List ℕ) → l ≡ k → m ≡ n
+    → _≡_ {A = Session} (record { tables = lentTables l reg overrides led; line = lineIn m line }) (record { tables = lentTables k reg overrides led; line = lineIn n line })
+same-session line reg overrides led e f = λ i. record { tables = lentTables (e i) reg overrides led; line = lineIn (f i) line }
 
 -- ---- a piece, from index from on
 
@@ -84,15 +84,16 @@ module _ {piece : List ℕ} {first now : Session} {from : ℕ} (g : Taking piece
       let e : drop from piece ≡ [] = drop-of-length-le piece {i = from} h in
       sym (fed-none (g .most) now) ∙ ap (fedAll (g .most) now) (sym e) ∙ g .rest
 
--- Both tables empty, of their full lengths.
+-- All three tables empty, of their full lengths.
 pub starts :
-    (line reg led out : List ℕ) → length line ≡ mostLine → reg ≡ replicate mostLent 0 → led ≡ replicate mostLent 0 → mostText ≤ length out
-    → Ready (record { lent = record { register = registerWords; ledger = ledgerWords }; line = 0; out = 0 }) line reg led out
-starts line reg led out l e f room =
+    (line reg overrides led out : List ℕ) → length line ≡ mostLine → reg ≡ replicate mostLent 0 → overrides ≡ replicate mostLent 0 → led ≡ replicate mostLent 0 → mostText ≤ length out
+    → Ready (record { lent = record { register = registerWords; overrides = registerWords; ledger = ledgerWords }; line = 0; out = 0 }) line reg overrides led out
+starts line reg overrides led out l e o f room =
     record {
       line-size = l;
       held = record {
         register-held = lends-zeros registerWords reg (omega arith) e .held;
+        overrides-held = lends-zeros registerWords overrides (omega arith) o .held;
         ledger-held = lends-zeros ledgerWords led (omega arith) f .held;
       };
       room = omega arith;

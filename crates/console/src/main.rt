@@ -70,16 +70,17 @@ fn serve_line(
     s: State,
     line: &mut [u8],
     reg: &mut [u32],
+    overrides: &mut [u32],
     led: &mut [u32],
     out: &mut [u8],
 ) -> Used
-    requires { ⌜ (Ready s (now line) (now reg) (now led) (now out)) × (from < length (now piece)) ⌝ }
-    ensures { λ r. ⌜ (sessionIn (r .state) (now (line .exit)) (now (reg .exit)) (now (led .exit))
-        ≡ fed (sessionIn s (now (line .entry)) (now (reg .entry)) (now (led .entry))) (drop from (now (piece .entry))))
+    requires { ⌜ (Ready s (now line) (now reg) (now overrides) (now led) (now out)) × (from < length (now piece)) ⌝ }
+    ensures { λ r. ⌜ (sessionIn (r .state) (now (line .exit)) (now (reg .exit)) (now (overrides .exit)) (now (led .exit))
+        ≡ fed (sessionIn s (now (line .entry)) (now (reg .entry)) (now (overrides .entry)) (now (led .entry))) (drop from (now (piece .entry))))
         × (r .to ≡ from + fedBytes (drop from (now (piece .entry))))
-        × (Ready (r .state) (now (line .exit)) (now (reg .exit)) (now (led .exit)) (now (out .exit))) ⌝ }
+        × (Ready (r .state) (now (line .exit)) (now (reg .exit)) (now (overrides .exit)) (now (led .exit)) (now (out .exit))) ⌝ }
 {
-    let fed = protocol::feed(&piece[from..], s, line, reg, led, out);
+    let fed = protocol::feed(&piece[from..], s, line, reg, overrides, led, out);
     let next = fed.state;
     let served = with_room(next, out);
     let state = served.state;
@@ -96,19 +97,20 @@ fn serve_piece(
     first: State,
     line: &mut [u8],
     reg: &mut [u32],
+    overrides: &mut [u32],
     led: &mut [u32],
     out: &mut [u8],
 ) -> Served
-    requires { ⌜ Ready first (now line) (now reg) (now led) (now out) ⌝ }
-    ensures { λ r. ⌜ (r .more ≡ true → sessionIn (r .state) (now (line .exit)) (now (reg .exit)) (now (led .exit))
+    requires { ⌜ Ready first (now line) (now reg) (now overrides) (now led) (now out) ⌝ }
+    ensures { λ r. ⌜ (r .more ≡ true → sessionIn (r .state) (now (line .exit)) (now (reg .exit)) (now (overrides .exit)) (now (led .exit))
         ≡ fedAll (length (now (piece .entry)))
-        (sessionIn first (now (line .entry)) (now (reg .entry)) (now (led .entry))) (now (piece .entry)))
-        × (Ready (r .state) (now (line .exit)) (now (reg .exit)) (now (led .exit)) (now (out .exit))) ⌝ }
+        (sessionIn first (now (line .entry)) (now (reg .entry)) (now (overrides .entry)) (now (led .entry))) (now (piece .entry)))
+        × (Ready (r .state) (now (line .exit)) (now (reg .exit)) (now (overrides .exit)) (now (led .exit)) (now (out .exit))) ⌝ }
 {
     let mut s = first;
     let mut from = 0;
     while from < piece.len() {
-        let used = serve_line(piece, from, s, line, reg, led, out);
+        let used = serve_line(piece, from, s, line, reg, overrides, led, out);
         s = used.state;
         if !used.more {
             return Served {
@@ -127,11 +129,12 @@ fn serve_some(
     input: &mut [u8],
     line: &mut [u8],
     reg: &mut [u32],
+    overrides: &mut [u32],
     led: &mut [u32],
     out: &mut [u8],
 ) -> Served
-    requires { ⌜ Ready s (now line) (now reg) (now led) (now out) ⌝ }
-    ensures { λ r. ⌜ Ready (r .state) (now (line .exit)) (now (reg .exit)) (now (led .exit)) (now (out .exit)) ⌝ }
+    requires { ⌜ Ready s (now line) (now reg) (now overrides) (now led) (now out) ⌝ }
+    ensures { λ r. ⌜ Ready (r .state) (now (line .exit)) (now (reg .exit)) (now (overrides .exit)) (now (led .exit)) (now (out .exit)) ⌝ }
 {
     let got = libc::read(STDIN_FILENO, input);
     let n = io::count(got, input);
@@ -141,7 +144,7 @@ fn serve_some(
             more: false,
         };
     }
-    serve_piece(&input[..n], s, line, reg, led, out)
+    serve_piece(&input[..n], s, line, reg, overrides, led, out)
 }
 
 // A proved loop has to end, and nothing says that the input does: so its turns are counted down from a number that no run uses up.
@@ -150,16 +153,17 @@ fn serve(
     input: &mut [u8],
     line: &mut [u8],
     reg: &mut [u32],
+    overrides: &mut [u32],
     led: &mut [u32],
     out: &mut [u8],
 ) -> State
-    requires { ⌜ Ready first (now line) (now reg) (now led) (now out) ⌝ }
-    ensures { λ r. ⌜ Ready r (now (line .exit)) (now (reg .exit)) (now (led .exit)) (now (out .exit)) ⌝ }
+    requires { ⌜ Ready first (now line) (now reg) (now overrides) (now led) (now out) ⌝ }
+    ensures { λ r. ⌜ Ready r (now (line .exit)) (now (reg .exit)) (now (overrides .exit)) (now (led .exit)) (now (out .exit)) ⌝ }
 {
     let mut s = first;
     let mut turns = u64::MAX;
     while 0 < turns {
-        let served = serve_some(s, input, line, reg, led, out);
+        let served = serve_some(s, input, line, reg, overrides, led, out);
         s = served.state;
         if !served.more {
             return s;
@@ -195,18 +199,28 @@ fn main() {
     let mut input = io::large_buffer();
     let mut line = no_line();
     let mut reg = empty_table();
+    let mut overrides = empty_table();
     let mut led = empty_table();
     let mut out = no_output();
     let first = State {
         lent: Lent {
             register: register::WORDS,
+            overrides: register::WORDS,
             ledger: ledger::WORDS,
         },
         line: 0,
         out: 0,
     };
-    let s = serve(first, &mut input, &mut line, &mut reg, &mut led, &mut out);
-    let last = protocol::finish(s, &line, &mut reg, &mut led, &mut out);
+    let s = serve(
+        first,
+        &mut input,
+        &mut line,
+        &mut reg,
+        &mut overrides,
+        &mut led,
+        &mut out,
+    );
+    let last = protocol::finish(s, &line, &mut reg, &mut overrides, &mut led, &mut out);
     let at = last.out;
     flush(&out, at);
 }

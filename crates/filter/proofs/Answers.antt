@@ -13,18 +13,18 @@ use Rattle.types.specs.declared.Judged.the-variants.{Answered}
 use Rattle.types.specs.declared.Rejudged.{Rejudged}
 use Rattle.types.specs.declared.Rejudged.the-variants as rejudged
 use Rattle.types.specs.Rows.{firstGiven, Effect, unlessRefused}
+use Rattle.registers.specs.Registers.{Registers, hopIn, BothFormed}
 use Rattle.ledger.specs.Routes.{Route, routesOf, ledgerOf, routeAt, routeOk, routesOk}
 use Rattle.ledger.specs.Calls.{findRoute, putRoute, differs, countDiffering}
 use Rattle.ledger.proofs.Entries.{routes-of-words}
 use Rattle.ledger.proofs.Holding.{has-room, room-routes, room-paths, routes-ok}
 use Rattle.ledger.proofs.Changes.{stored-finds}
 use Rattle.ledger.proofs.Refusals.{Ledger}
-use Rattle.register.proofs.Refusals.{Register}
 use Rattle.rejudge.specs.Rejudging.{rejudgedRoute, countBelow}
 use Rattle.rejudge.proofs.Rejudgements.{rejudged-ok, ground-stays, all-once}
 use Rattle.rejudge.proofs.Differences.{changed-is, second-none}
 use Rattle.rules.specs.Judging.{refusalIn}
-use Rattle.filter.specs.Calls.{Keeping, hopIn, judgeAnswer, keptAnswer, keptRoute, keepRows, keepEffect, rejudgeRows, rejudgeEffect}
+use Rattle.filter.specs.Calls.{Keeping, judgeAnswer, keptAnswer, keptRoute, keepRows, keepEffect, rejudgeRows, rejudgeEffect}
 use Rattle.filter.specs.Laws.{KeptWith}
 use Rattle.filter.proofs.Judgings.{judge-answers}
 use Rattle.filter.proofs.Refusals.{keep-reads}
@@ -37,7 +37,7 @@ read-back rs e = let room = has-room rs e in routes-of-words rs (room-routes rs 
 
 -- ---- Keep
 
-module _ (reg led : List ℕ) (k : Keeping) {answer : Answer} (h : keepEffect reg led k .answer ≡ Answered answer) where
+module _ (reg : Registers) (led : List ℕ) (k : Keeping) {answer : Answer} (h : keepEffect reg led k .answer ≡ Answered answer) where
   -- An accepted Keep is given no row.
   pub keep-given : firstGiven (keepRows reg led k) ≡ none
   keep-given = sym (keep-reads reg led k) ∙ ap refusalIn h
@@ -90,7 +90,7 @@ module _ (reg led : List ℕ) (k : Keeping) {answer : Answer} (h : keepEffect re
 
 -- ---- Re-judge
 
-module _ (reg led : List ℕ) (w : Register reg) (l : Ledger led) where
+module _ (reg : Registers) (led : List ℕ) (w : BothFormed reg) (l : Ledger led) where
   abbrev before : List Route
   before = routesOf led
 
@@ -121,7 +121,7 @@ module _ (reg led : List ℕ) (w : Register reg) (l : Ledger led) where
       words = ap ledgerOf (all-once (hopIn reg) before) ∙ sym (ap (λ s. s .words) (rejudge-accepts reg led w l))
 
 -- A Re-judge that is accepted had well-formed tables.
-pub rejudge-accepted : (reg led : List ℕ) {n : ℕ} → rejudgeEffect reg led .answer ≡ rejudged.Changed n → Register reg × Ledger led
+pub rejudge-accepted : (reg : Registers) (led : List ℕ) {n : ℕ} → rejudgeEffect reg led .answer ≡ rejudged.Changed n → BothFormed reg × Ledger led
 unfolding rejudgeEffect
 rejudge-accepted reg led {n} = go (firstGiven (rejudgeRows reg led)) refl
   where
@@ -130,7 +130,7 @@ rejudge-accepted reg led {n} = go (firstGiven (rejudgeRows reg led)) refl
         (record {
           answer = rejudged.Changed (countDiffering (routesOf led) (map (rejudgedRoute (hopIn reg)) (routesOf led)));
           words = ledgerOf (map (rejudgedRoute (hopIn reg)) (routesOf led));
-        }) .answer ≡ rejudged.Changed n → Register reg × Ledger led
+        }) .answer ≡ rejudged.Changed n → BothFormed reg × Ledger led
     go (some r) e h = let z : _≡_ {A = ℕ} 0 1 = cc in absurd (omega arith)
     go none e h = passed-tables reg led e
 
@@ -140,7 +140,7 @@ at-map f [] i d h = absurd (omega arith)
 at-map f (x ∷ xs) zero d h = refl
 at-map f (x ∷ xs) (suc i) d h = at-map f xs i d (omega arith)
 
-module _ (reg led : List ℕ) {n : ℕ} (h : rejudgeEffect reg led .answer ≡ rejudged.Changed n) where
+module _ (reg : Registers) (led : List ℕ) {n : ℕ} (h : rejudgeEffect reg led .answer ≡ rejudged.Changed n) where
   abbrev left : List Route
   left = routesOf (rejudgeEffect reg led .words)
 

@@ -33,11 +33,11 @@ use Rattle.rules.specs.Hops.{HopFunction}
 use Rattle.rules.specs.Verdicts.{judged}
 use Rattle.rules.specs.Judging.{mostBytes, argumentRows, judgeRows, answerTo, judgedRoute, refusalIn}
 use Rattle.rules.proofs.Judges.{judged-reads}
-use Rattle.register.specs.Register.{registerWords, registerOk}
+use Rattle.registers.specs.Registers.{Registers, hopIn, bothLong, bothOk}
 use Rattle.filter.specs.declared.Known.{Known}
 use Rattle.filter.specs.declared.Known.the-variants as known
 use Rattle.filter.specs.Helpers.{afterRole, knownFrom}
-use Rattle.filter.specs.Calls.{hopIn, judgeAnswer}
+use Rattle.filter.specs.Calls.{judgeAnswer}
 
 -- ---- what was read
 
@@ -176,16 +176,16 @@ module _ (hop : HopFunction) (role neighbour : ℕ) (xs : List ℕ) where
 
 -- ---- Judge
 
-module _ (reg : List ℕ) (role neighbour : ℕ) (xs : List ℕ) where
-  pub judge-length : (length reg ≡ registerWords → ⊥) → Refused TableLength ≡ judgeAnswer reg role neighbour xs
+module _ (reg : Registers) (role neighbour : ℕ) (xs : List ℕ) where
+  pub judge-length : bothLong reg ≡ false → Refused TableLength ≡ judgeAnswer reg role neighbour xs
   unfolding judgeAnswer firstGiven
-  judge-length a = rw (ne-eqb (length reg) registerWords a)
+  judge-length a = rw a
 
-  module _ (a : length reg ≡ registerWords) where
-    pub judge-malformed : registerOk reg ≡ false → Refused RegisterMalformed ≡ judgeAnswer reg role neighbour xs
+  module _ (a : bothLong reg ≡ true) where
+    pub judge-malformed : bothOk reg ≡ false → Refused RegisterMalformed ≡ judgeAnswer reg role neighbour xs
     unfolding judgeAnswer firstGiven
-    judge-malformed b = rw (eq-eqb (length reg) registerWords a, b)
+    judge-malformed b = rw (a, b)
 
-    pub judge-answers : registerOk reg ≡ true → judgeAnswer reg role neighbour xs ≡ judgedRoute (hopIn reg) role neighbour xs
+    pub judge-answers : bothOk reg ≡ true → judgeAnswer reg role neighbour xs ≡ judgedRoute (hopIn reg) role neighbour xs
     unfolding judgeAnswer firstGiven
-    judge-answers b = rw (eq-eqb (length reg) registerWords a, b)
+    judge-answers b = rw (a, b)

@@ -23,43 +23,43 @@ use Rattle.as_path.specs.Reading.{contentOf, readingOf}
 use Rattle.rules.specs.Verdicts.{judged}
 use Rattle.rules.specs.Judging.{judgeRows, answerTo, judgedRoute, refusalIn}
 use Rattle.rules.proofs.Judges.{first-append}
-use Rattle.register.specs.Register.{registerWords, registerOk}
+use Rattle.registers.specs.Registers.{Registers, hopIn, bothLong, bothOk}
 use Rattle.ledger.specs.Routes.{ledgerWords, Route, routesOf, ledgerOf, ledgerOk}
 use Rattle.ledger.specs.declared.Kept.{Kept}
 use Rattle.ledger.specs.declared.Kept.the-variants as kept
 use Rattle.ledger.specs.Calls.{routeFor, putRoute, storeRows, storeEffect}
-use Rattle.filter.specs.Calls.{Keeping, keeping, hopIn, tableRows, pathIn, keptAnswer, keptRoute, keepRows, keepEffect}
+use Rattle.filter.specs.Calls.{Keeping, keeping, tableRows, pathIn, keptAnswer, keptRoute, keepRows, keepEffect}
 use Rattle.filter.specs.Helpers.{storedEffect, Ready}
 use Rattle.filter.proofs.Judgings.{read-refused, read-ground, read-grounded, PathRead, path-judged, judged-row, judged-ready}
 
--- ---- rows 1, 2 and 3 of both tables
+-- ---- rows 1, 2 and 3 of the tables
 
-module _ (reg led : List ℕ) where
-  pub register-length : (length reg ≡ registerWords → ⊥) → firstGiven (tableRows reg led) ≡ some TableLength
+module _ (reg : Registers) (led : List ℕ) where
+  pub register-length : bothLong reg ≡ false → firstGiven (tableRows reg led) ≡ some TableLength
   unfolding firstGiven
-  register-length a = rw (ne-eqb (length reg) registerWords a)
+  register-length a = rw a
 
-  module _ (a : length reg ≡ registerWords) where
+  module _ (a : bothLong reg ≡ true) where
     pub ledger-length : (length led ≡ ledgerWords → ⊥) → firstGiven (tableRows reg led) ≡ some TableLength
     unfolding firstGiven
-    ledger-length b = rw (eq-eqb (length reg) registerWords a, ne-eqb (length led) ledgerWords b)
+    ledger-length b = rw (a, ne-eqb (length led) ledgerWords b)
 
     module _ (b : length led ≡ ledgerWords) where
-      pub register-malformed : registerOk reg ≡ false → firstGiven (tableRows reg led) ≡ some RegisterMalformed
+      pub register-malformed : bothOk reg ≡ false → firstGiven (tableRows reg led) ≡ some RegisterMalformed
       unfolding firstGiven
-      register-malformed c = rw (eq-eqb (length reg) registerWords a, eq-eqb (length led) ledgerWords b, c)
+      register-malformed c = rw (a, eq-eqb (length led) ledgerWords b, c)
 
-      pub ledger-malformed : registerOk reg ≡ true → ledgerOk led ≡ false → firstGiven (tableRows reg led) ≡ some RoutesMalformed
+      pub ledger-malformed : bothOk reg ≡ true → ledgerOk led ≡ false → firstGiven (tableRows reg led) ≡ some RoutesMalformed
       unfolding firstGiven
-      ledger-malformed c d = rw (eq-eqb (length reg) registerWords a, eq-eqb (length led) ledgerWords b, c, d)
+      ledger-malformed c d = rw (a, eq-eqb (length led) ledgerWords b, c, d)
 
-      pub tables-none : registerOk reg ≡ true → ledgerOk led ≡ true → firstGiven (tableRows reg led) ≡ none
+      pub tables-none : bothOk reg ≡ true → ledgerOk led ≡ true → firstGiven (tableRows reg led) ≡ none
       unfolding firstGiven
-      tables-none c d = rw (eq-eqb (length reg) registerWords a, eq-eqb (length led) ledgerWords b, c, d)
+      tables-none c d = rw (a, eq-eqb (length led) ledgerWords b, c, d)
 
 -- ---- Keep
 
-module _ (reg led : List ℕ) (k : Keeping) where
+module _ (reg : Registers) (led : List ℕ) (k : Keeping) where
   -- The first given of Keep's rows: of the tables, of the judging, of the store.
   pub keep-first :
       firstGiven (keepRows reg led k)
@@ -75,18 +75,18 @@ module _ (reg led : List ℕ) (k : Keeping) where
   unfolding keepEffect
   keep-table e = rw (keep-first, e)
 
-  pub keep-register-length : (length reg ≡ registerWords → ⊥) → effect (Refused TableLength) led ≡ keepEffect reg led k
+  pub keep-register-length : bothLong reg ≡ false → effect (Refused TableLength) led ≡ keepEffect reg led k
   keep-register-length a = keep-table (register-length reg led a)
 
-  module _ (a : length reg ≡ registerWords) where
+  module _ (a : bothLong reg ≡ true) where
     pub keep-ledger-length : (length led ≡ ledgerWords → ⊥) → effect (Refused TableLength) led ≡ keepEffect reg led k
     keep-ledger-length b = keep-table (ledger-length reg led a b)
 
     module _ (b : length led ≡ ledgerWords) where
-      pub keep-register-malformed : registerOk reg ≡ false → effect (Refused RegisterMalformed) led ≡ keepEffect reg led k
+      pub keep-register-malformed : bothOk reg ≡ false → effect (Refused RegisterMalformed) led ≡ keepEffect reg led k
       keep-register-malformed c = keep-table (register-malformed reg led a b c)
 
-      module _ (c : registerOk reg ≡ true) where
+      module _ (c : bothOk reg ≡ true) where
         pub keep-ledger-malformed : ledgerOk led ≡ false → effect (Refused RoutesMalformed) led ≡ keepEffect reg led k
         keep-ledger-malformed d = keep-table (ledger-malformed reg led a b c d)
 
@@ -139,7 +139,7 @@ module _ (led : List ℕ) (r : Route) (answer : Answer) where
 
 -- ---- a role that is known
 
-module _ {reg led : List ℕ} {role neighbour : ℕ} {xs : List ℕ} (number : ℕ) (p : Ready reg led role neighbour xs) where
+module _ {reg : Registers} {led : List ℕ} {role neighbour : ℕ} {xs : List ℕ} (number : ℕ) (p : Ready reg led role neighbour xs) where
   abbrev step : Effect Judged
   step = keepEffect reg led (keeping number role neighbour xs)
 

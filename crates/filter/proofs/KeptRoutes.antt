@@ -13,7 +13,7 @@ use lib.Signed.{leZ}
 use lib.ListN.{length, getD}
 use Rattle.types.specs.declared.Ground.{Ground}
 use Rattle.types.specs.declared.Ground.the-variants.{Empty, NotNeighbour, AsSet}
-use Rattle.types.specs.declared.Cause.the-variants.{ByGround, ByHops}
+use Rattle.types.specs.declared.Cause.the-variants.{ByGround}
 use Rattle.types.specs.declared.Verdict.{Verdict}
 use Rattle.types.specs.declared.Verdict.the-variants.{Valid, Invalid, Unknown}
 use Rattle.types.specs.declared.Answer.the-variants.{Plain, WithGap}
@@ -39,11 +39,12 @@ use Rattle.rules.specs.Hops.{HopFunction}
 use Rattle.rules.specs.Verdicts.{lowestNotPlus, lowestUnattested, highestNotPlus, rampUp, rampDown, gapOf, upstream, downstream, judged}
 use Rattle.rules.specs.Judging.{judgeRows}
 use Rattle.rules.proofs.Judges.{Judgement, on-ground, on-path, judgement, judged-arguments}
+use Rattle.registers.specs.Registers.{Registers, hopIn}
 use Rattle.ledger.specs.Routes.{pathOk, groundOk, routeOk}
 use Rattle.ledger.specs.Calls.{routeFor, stamped}
 use Rattle.ledger.proofs.Laws.{route-laws}
 use Rattle.rejudge.proofs.Rejudgements.{still-ok}
-use Rattle.filter.specs.Calls.{Keeping, hopIn, keptRoute}
+use Rattle.filter.specs.Calls.{Keeping, keptRoute}
 
 -- ---- what an attribute is read as
 
@@ -176,14 +177,14 @@ module _ (hop : HopFunction) (path : List ℕ) (role : ℕ) where
   up-ground : verdictGround (upstream hop path) ≡ 0
   unfolding upstream
   up-ground =
-      no-ground (leb (lowestNotPlus hop path) (length path)) (Invalid (ByHops (lowestNotPlus hop path) 0)) _ refl
+      no-ground (leb (lowestNotPlus hop path) (length path)) _ _ refl
       (no-ground (leb (lowestUnattested hop path) (length path)) (Unknown (lowestUnattested hop path) 0) Valid refl refl)
 
   -- Nor has a downstream one.
   down-ground : verdictGround (downstream hop path) ≡ 0
   unfolding downstream
   down-ground =
-      no-ground (leb (lowestNotPlus hop path) (highestNotPlus hop path)) (Invalid (ByHops (lowestNotPlus hop path) (highestNotPlus hop path))) _ refl
+      no-ground (leb (lowestNotPlus hop path) (highestNotPlus hop path)) _ _ refl
       (no-ground (leZ (gapOf hop path) (pos 1)) Valid (Unknown (rampUp hop path) (rampDown hop path)) refl refl)
 
   -- It has no ground.
@@ -232,7 +233,7 @@ module _ (number role neighbour : ℕ) (path : List ℕ) where
         path = path;
       }
 
-module _ (reg : List ℕ) (k : Keeping) (e : firstGiven (judgeRows (k .role) (k .neighbour) (k .attribute)) ≡ none) where
+module _ (reg : Registers) (k : Keeping) (e : firstGiven (judgeRows (k .role) (k .neighbour) (k .attribute)) ≡ none) where
   positive : leb 1 (k .neighbour) ≡ true
   positive = above-zero (k .neighbour) (judged-arguments (hopIn reg) (k .role) (k .neighbour) (k .attribute) e .1)
 

@@ -20,5 +20,5 @@ call-laws =
       rejudge-count = λ reg led n h. rejudge-count reg led h;
       rejudge-twice =
           λ reg led w.
-          rejudge-twice reg led (record { long = w .register-long; ok = w .register-ok }) (record { long = w .ledger-long; ok = w .ledger-ok });
+          rejudge-twice reg led (record { long = w .registers-long; ok = w .registers-ok }) (record { long = w .ledger-long; ok = w .ledger-ok });
     }

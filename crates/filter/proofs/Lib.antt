@@ -7,4 +7,7 @@ pub mod Tables
 pub mod Answers
 pub mod Places
 pub mod Laws
+pub mod Looking
+pub mod Lookups
 pub mod Gaps
+pub mod Overridden

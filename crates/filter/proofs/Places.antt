@@ -28,6 +28,7 @@ use Rattle.as_path.proofs.Laws.{fault-laws}
 use Rattle.keyed.proofs.Orders.{both-left, both-right}
 use Rattle.rules.specs.Judging.{mostBytes, argumentRows, contentRow, judgeRows, refusalIn}
 use Rattle.rules.proofs.Judges.{first-append}
+use Rattle.registers.specs.Registers.{Registers}
 use Rattle.ledger.specs.Calls.{storeRows}
 use Rattle.filter.specs.Calls.{Keeping, registerRows, tableRows, judgeRowsOver, judgeAnswer, keptRoute, keepEffect}
 use Rattle.filter.proofs.Keepings.{keep-first}
@@ -146,7 +147,7 @@ module _ (role neighbour : ℕ) (attribute : List ℕ) where
       r (sym (first-append (argumentRows role neighbour attribute) (contentRow (contentOf role neighbour attribute) ∷ [])) ∙ e)
 
   -- Judge.
-  pub judge-placed : (reg : List ℕ) (r : Refusal) → refusalIn (judgeAnswer reg role neighbour attribute) ≡ some r → Told r
+  pub judge-placed : (reg : Registers) (r : Refusal) → refusalIn (judgeAnswer reg role neighbour attribute) ≡ some r → Told r
   judge-placed reg r e =
       either Told (firstGiven (registerRows reg)) (firstGiven (judgeRows role neighbour attribute))
       (λ s f p g. absurd (no-place (registerRows reg) ((1, 1) ∷ (2, 2) ∷ []) refl
@@ -155,7 +156,7 @@ module _ (role neighbour : ℕ) (attribute : List ℕ) where
       r (sym (first-append (registerRows reg) (judgeRows role neighbour attribute)) ∙ sym (judge-reads reg role neighbour attribute) ∙ e)
 
 -- Keep.
-pub keep-placed : (reg led : List ℕ) (k : Keeping) (r : Refusal) → refusalIn (keepEffect reg led k .answer) ≡ some r
+pub keep-placed : (reg : Registers) (led : List ℕ) (k : Keeping) (r : Refusal) → refusalIn (keepEffect reg led k .answer) ≡ some r
     → (p : ℕ) → refusalPlace r ≡ Byte p → Placed (k .attribute) r p
 keep-placed reg led k r e =
     either Told′ (firstGiven (tableRows reg led))

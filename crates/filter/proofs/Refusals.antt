@@ -23,10 +23,10 @@ use Rattle.types.proofs.Refusing.{refused-first, first-refuses, answers-first, 
 use Rattle.as_path.specs.Reading.{mostNumbers, Content, faulty, grounded, merged, contentOf}
 use Rattle.rules.specs.Judging.{mostBytes, contentRow, judgeRows, unlessGiven, judgedRoute, refusalIn}
 use Rattle.rules.proofs.Judges.{first-append}
-use Rattle.register.specs.Register.{registerWords, registerOk}
+use Rattle.registers.specs.Registers.{Registers, hopIn, bothLong, bothOk}
 use Rattle.ledger.specs.Routes.{ledgerWords, routesOf, ledgerOf, roomFor, ledgerOk}
 use Rattle.ledger.specs.Calls.{holdsRoute, putRoute, storeRows}
-use Rattle.filter.specs.Calls.{Keeping, hopIn, registerRows, tableRows, judgeRowsOver, rejudgeRows, judgeAnswer, keptAnswer, keptRoute, keepRows, keepEffect, rejudgeEffect}
+use Rattle.filter.specs.Calls.{Keeping, registerRows, tableRows, judgeRowsOver, rejudgeRows, judgeAnswer, keptAnswer, keptRoute, keepRows, keepEffect, rejudgeEffect}
 use Rattle.filter.proofs.Judgings.{judged-row}
 use Rattle.filter.proofs.Keepings.{keep-first}
 
@@ -54,7 +54,7 @@ pub neither : (o p : Option Refusal) → orElse o p ≡ none → (o ≡ none) ×
 neither (some r) p e = some-not-none e
 neither none p e = (refl, e)
 
-module _ (reg : List ℕ) (role neighbour : ℕ) (attribute : List ℕ) where
+module _ (reg : Registers) (role neighbour : ℕ) (attribute : List ℕ) where
   -- Judge is refused as its rows refuse it.
   pub judge-reads : refusalIn (judgeAnswer reg role neighbour attribute) ≡ firstGiven (judgeRowsOver reg role neighbour attribute)
   unfolding judgeAnswer
@@ -70,7 +70,7 @@ module _ (reg : List ℕ) (role neighbour : ℕ) (attribute : List ℕ) where
       → (judgeAnswer reg role neighbour attribute ≡ Refused r) ↔ ((i : ℕ) × FirstAt (judgeRowsOver reg role neighbour attribute) i r)
   judge-refuses = refuses-first (judgeAnswer reg role neighbour attribute) (judgeRowsOver reg role neighbour attribute) judge-reads
 
-module _ (reg led : List ℕ) (k : Keeping) where
+module _ (reg : Registers) (led : List ℕ) (k : Keeping) where
   -- What no row of is given: the tables, the judging, the store.
   pub keep-none : firstGiven (keepRows reg led k) ≡ none
       → (firstGiven (tableRows reg led) ≡ none) × (firstGiven (judgeRows (k .role) (k .neighbour) (k .attribute)) ≡ none)
@@ -107,7 +107,7 @@ rejudged-apart n r e = let z : _≡_ {A = ℕ} 0 1 = cc in omega arith
 rejudged-same : (r s : Refusal) → rejudged.Refused r ≡ rejudged.Refused s → r ≡ s
 rejudged-same r s e = cc
 
-module _ (reg led : List ℕ) (r : Refusal) where
+module _ (reg : Registers) (led : List ℕ) (r : Refusal) where
   -- Re-judge answers a refusal exactly when that is the first of its rows that is given.
   pub rejudge-refuses : (rejudgeEffect reg led .answer ≡ rejudged.Refused r) ↔ ((i : ℕ) × FirstAt (rejudgeRows reg led) i r)
   unfolding rejudgeEffect
@@ -176,24 +176,24 @@ route-numbers role neighbour attribute = (
 )
 
 -- Judge: rows 1, 2, 9, 10, 11, and one of 12 to 17.
-pub judge-numbers : (reg : List ℕ) (role neighbour : ℕ) (attribute : List ℕ)
+pub judge-numbers : (reg : Registers) (role neighbour : ℕ) (attribute : List ℕ)
     → Ranged (judgeRowsOver reg role neighbour attribute) ((1, 1) ∷ (2, 2) ∷ routeRanges)
 judge-numbers reg role neighbour attribute = (
-  ranged (not (eqb (length reg) registerWords)) TableLength,
-  (ranged (not (registerOk reg)) RegisterMalformed, route-numbers role neighbour attribute),
+  ranged (not (bothLong reg)) TableLength,
+  (ranged (not (bothOk reg)) RegisterMalformed, route-numbers role neighbour attribute),
 )
 
 -- Re-judge: rows 1, 1, 2, 3.
-pub rejudge-numbers : (reg led : List ℕ) → Ranged (rejudgeRows reg led) ((1, 1) ∷ (1, 1) ∷ (2, 2) ∷ (3, 3) ∷ [])
+pub rejudge-numbers : (reg : Registers) (led : List ℕ) → Ranged (rejudgeRows reg led) ((1, 1) ∷ (1, 1) ∷ (2, 2) ∷ (3, 3) ∷ [])
 rejudge-numbers reg led = (
-  ranged (not (eqb (length reg) registerWords)) TableLength,
+  ranged (not (bothLong reg)) TableLength,
   (
     ranged (not (eqb (length led) ledgerWords)) TableLength,
-    (ranged (not (registerOk reg)) RegisterMalformed, (ranged (not (ledgerOk led)) RoutesMalformed, tt)),
+    (ranged (not (bothOk reg)) RegisterMalformed, (ranged (not (ledgerOk led)) RoutesMalformed, tt)),
   ),
 )
 
-module _ (reg led : List ℕ) (k : Keeping) where
+module _ (reg : Registers) (led : List ℕ) (k : Keeping) where
   -- The rows of the store: 18, 20.
   pub store-ranges : Ranged (storeRows led (keptRoute reg k)) ((18, 18) ∷ (20, 20) ∷ [])
   store-ranges = (

@@ -10,12 +10,12 @@ use Rattle.types.specs.declared.Refusal.{Refusal}
 use Rattle.types.specs.declared.Refusal.the-variants.{TableLength, RegisterMalformed, RoutesMalformed}
 use Rattle.types.specs.declared.Rejudged.the-variants.{Changed, Refused}
 use Rattle.types.specs.Rows.{firstGiven, effect}
-use Rattle.register.specs.Register.{registerWords, registerOk}
+use Rattle.registers.specs.Registers.{Registers, hopIn, bothLong, bothOk}
 use Rattle.ledger.specs.Routes.{ledgerWords, mostRoutes, Route, routesOf, ledgerOk}
 use Rattle.ledger.specs.Calls.{differs, countDiffering}
 use Rattle.ledger.proofs.Holding.{routes-ok, has-room, room-routes}
 use Rattle.rejudge.specs.Rejudging.{rejudgedRoute, rejudgedEffect}
-use Rattle.filter.specs.Calls.{hopIn, tableRows, rejudgeEffect}
+use Rattle.filter.specs.Calls.{tableRows, rejudgeEffect}
 use Rattle.filter.proofs.Keepings.{register-length, ledger-length, register-malformed, ledger-malformed, tables-none}
 
 -- No more routes differ than there are.
@@ -30,7 +30,7 @@ count-within (r ∷ rs) (s ∷ ss) = go (differs r s) (count-within rs ss)
     go true h = omega arith
     go false h = omega arith
 
-module _ (reg led : List ℕ) where
+module _ (reg : Registers) (led : List ℕ) where
   abbrev anew : List Route
   anew = map (rejudgedRoute (hopIn reg)) (routesOf led)
 
@@ -39,18 +39,18 @@ module _ (reg led : List ℕ) where
   unfolding rejudgeEffect
   rejudge-table e = rw e
 
-  pub rejudge-register-length : (length reg ≡ registerWords → ⊥) → effect (Refused TableLength) led ≡ rejudgeEffect reg led
+  pub rejudge-register-length : bothLong reg ≡ false → effect (Refused TableLength) led ≡ rejudgeEffect reg led
   rejudge-register-length a = rejudge-table (register-length reg led a)
 
-  module _ (a : length reg ≡ registerWords) where
+  module _ (a : bothLong reg ≡ true) where
     pub rejudge-ledger-length : (length led ≡ ledgerWords → ⊥) → effect (Refused TableLength) led ≡ rejudgeEffect reg led
     rejudge-ledger-length b = rejudge-table (ledger-length reg led a b)
 
     module _ (b : length led ≡ ledgerWords) where
-      pub rejudge-register-malformed : registerOk reg ≡ false → effect (Refused RegisterMalformed) led ≡ rejudgeEffect reg led
+      pub rejudge-register-malformed : bothOk reg ≡ false → effect (Refused RegisterMalformed) led ≡ rejudgeEffect reg led
       rejudge-register-malformed c = rejudge-table (register-malformed reg led a b c)
 
-      module _ (c : registerOk reg ≡ true) where
+      module _ (c : bothOk reg ≡ true) where
         pub rejudge-ledger-malformed : ledgerOk led ≡ false → effect (Refused RoutesMalformed) led ≡ rejudgeEffect reg led
         rejudge-ledger-malformed d = rejudge-table (ledger-malformed reg led a b c d)
 

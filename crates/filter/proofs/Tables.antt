@@ -5,8 +5,7 @@ use mathlib.Core.Bool.{true, false}
 use mathlib.Core.List.{List, [], _∷_, _++_, map}
 use mathlib.Core.Option.{Option, none, some}
 use native.Mathlib.Omega.{arith}
-use borrow.Author.Tests.{eq-eqb, eqb-true, not-false}
-use lib.ListN.{length}
+use borrow.Author.Tests.{eqb-true, not-false}
 use Rattle.types.specs.declared.Refusal.{Refusal}
 use Rattle.types.specs.declared.Judged.the-variants.{Refused}
 use Rattle.types.specs.declared.Rejudged.the-variants as rejudged
@@ -15,8 +14,7 @@ use Rattle.types.specs.Rows.{orElse, firstGiven, effect, unlessRefused}
 use Rattle.types.proofs.Refusing.{accepted-none, row-passed}
 use Rattle.rules.specs.Judging.{judgeRows, refusalIn}
 use Rattle.rules.proofs.Judges.{first-append}
-use Rattle.register.specs.Register.{registerWords}
-use Rattle.register.proofs.Refusals.{Register}
+use Rattle.registers.specs.Registers.{Registers, hopIn, BothFormed}
 use Rattle.ledger.specs.Routes.{routesOf, ledgerOf, roomFor, routesOk}
 use Rattle.ledger.specs.Calls.{holdsRoute, putRoute, storeRows, countDiffering}
 use Rattle.ledger.proofs.Holding.{routes-ok}
@@ -24,7 +22,7 @@ use Rattle.ledger.proofs.Changes.{put-ok}
 use Rattle.ledger.proofs.Refusals.{Ledger, routes-ledger}
 use Rattle.rejudge.specs.Rejudging.{rejudgedRoute}
 use Rattle.rejudge.proofs.Rejudgements.{rejudged-ok}
-use Rattle.filter.specs.Calls.{Keeping, hopIn, registerRows, tableRows, judgeAnswer, keptAnswer, keptRoute, keepRows, keepEffect, rejudgeRows, rejudgeEffect}
+use Rattle.filter.specs.Calls.{Keeping, registerRows, tableRows, judgeAnswer, keptAnswer, keptRoute, keepRows, keepEffect, rejudgeRows, rejudgeEffect}
 use Rattle.filter.proofs.Judgings.{judge-answers, judged-row}
 use Rattle.filter.proofs.Keepings.{tables-none}
 use Rattle.filter.proofs.KeptRoutes.{kept-ok}
@@ -32,8 +30,8 @@ use Rattle.filter.proofs.Refusals.{keep-none, keep-reads, refused-from,
 
 -- ---- rows 1, 2 and 3
 
-module _ (reg led : List ℕ) (w : Register reg) (l : Ledger led) where
-  -- A well-formed register and ledger are given none of rows 1, 2 and 3.
+module _ (reg : Registers) (led : List ℕ) (w : BothFormed reg) (l : Ledger led) where
+  -- Well-formed registers and a well-formed ledger are given none of rows 1, 2 and 3.
   pub tables-pass : firstGiven (tableRows reg led) ≡ none
   tables-pass = tables-none reg led (w .long) (l .long) (w .ok) (l .ok)
 
@@ -55,8 +53,8 @@ module _ (reg led : List ℕ) (w : Register reg) (l : Ledger led) where
       (omega arith, (omega arith, (omega arith, (omega arith, (omega arith, (omega arith, tt)))))) r
       (ap (λ o. orElse o (firstGiven later)) (sym tables-pass) ∙ sym (first-append (tableRows reg led) later) ∙ sym (keep-reads reg led k) ∙ ap refusalIn e)
 
--- Judge refuses a well-formed register by no row before 9.
-pub judge-passes : (reg : List ℕ) → Register reg → (role neighbour : ℕ) (attribute : List ℕ) (r : Refusal)
+-- Judge refuses well-formed registers by no row before 9.
+pub judge-passes : (reg : Registers) → BothFormed reg → (role neighbour : ℕ) (attribute : List ℕ) (r : Refusal)
     → judgeAnswer reg role neighbour attribute ≡ Refused r → 9 ≤ refusalNumber r
 judge-passes reg w role neighbour attribute r e =
     refused-from 9 (judgeRows role neighbour attribute) routeRanges (route-numbers role neighbour attribute)
@@ -66,22 +64,22 @@ judge-passes reg w role neighbour attribute r e =
 -- ---- what an accepted call has passed
 
 -- Tables that are given none of rows 1, 2 and 3 are well formed.
-pub passed-tables : (reg led : List ℕ) → firstGiven (tableRows reg led) ≡ none → Register reg × Ledger led
+pub passed-tables : (reg : Registers) (led : List ℕ) → firstGiven (tableRows reg led) ≡ none → BothFormed reg × Ledger led
 passed-tables reg led e =
     let given = accepted-none (tableRows reg led) e in (
-      record { long = eqb-true _ _ (not-false _ (row-passed _ _ (given 0))); ok = not-false _ (row-passed _ _ (given 2)) },
+      record { long = not-false _ (row-passed _ _ (given 0)); ok = not-false _ (row-passed _ _ (given 2)) },
       record { long = eqb-true _ _ (not-false _ (row-passed _ _ (given 1))); ok = not-false _ (row-passed _ _ (given 3)) },
     )
 
 -- An accepted Keep had well-formed tables, a judging that rows 9 to 17 did not refuse, a free number and room.
-pub record Accepted (reg led : List ℕ) (k : Keeping) : Type 0 where
-  pub register : Register reg
+pub record Accepted (reg : Registers) (led : List ℕ) (k : Keeping) : Type 0 where
+  pub register : BothFormed reg
   pub ledger : Ledger led
   pub argued : firstGiven (judgeRows (k .role) (k .neighbour) (k .attribute)) ≡ none
   pub free : holdsRoute (k .number) (routesOf led) ≡ false
   pub room : roomFor (putRoute (keptRoute reg k) (routesOf led)) ≡ true
 
-module _ (reg led : List ℕ) (k : Keeping) where
+module _ (reg : Registers) (led : List ℕ) (k : Keeping) where
   -- With no row given, a Keep is accepted.
   pub accepted : firstGiven (keepRows reg led k) ≡ none → Accepted reg led k
   accepted e =
@@ -111,7 +109,7 @@ module _ (reg led : List ℕ) (k : Keeping) where
       go none e = routes-ledger (putRoute (keptRoute reg k) (routesOf led)) (kept-routes-ok (accepted e))
 
 -- Re-judge leaves a well-formed ledger well formed.
-pub rejudge-preserves : (reg led : List ℕ) → Ledger led → Ledger (rejudgeEffect reg led .words)
+pub rejudge-preserves : (reg : Registers) (led : List ℕ) → Ledger led → Ledger (rejudgeEffect reg led .words)
 unfolding rejudgeEffect
 rejudge-preserves reg led l = go (firstGiven (rejudgeRows reg led))
   where

@@ -1,23 +1,29 @@
 -- The test vectors A to L and O of the rules again, now of Judge over the words that the six filings of register D leave. By computation.
--- The widest gaps.
+-- The widest gaps. Vectors of two registers.
 use Prim.Native.Nat.{ℕ, _-_}
 use mathlib.Core.Path.{_≡_, refl, _∙_, ap}
 use mathlib.Core.List.{List, [], _∷_, _++_, map}
 use mathlib.Core.Option.{none}
 use lib.IntN.{pos, negsuc}
 use lib.ListN.{length, replicate}
-use Rattle.types.specs.declared.Verdict.the-variants.{Valid, Unknown}
+use Rattle.types.specs.declared.Origin.the-variants.{Public, Overrides}
+use Rattle.types.specs.declared.Origins.the-variants.{One, Two}
+use Rattle.types.specs.declared.Cause.the-variants.{ByHops}
+use Rattle.types.specs.declared.Hop.the-variants.{NoAttestation, ProviderPlus, NotProviderPlus}
+use Rattle.types.specs.declared.Hopped.the-variants as hopped
+use Rattle.types.specs.declared.Verdict.the-variants.{Valid, Invalid, Unknown}
 use Rattle.types.specs.declared.Judged.{Judged}
 use Rattle.types.specs.Rows.{firstGiven}
-use Rattle.rules.specs.Records.{Record, isIn, hopOf}
+use Rattle.rules.specs.Records.{Record, isIn, hopOver}
 use Rattle.rules.specs.Judging.{unlessGiven, judgedRoute}
 use Rattle.rules.specs.Vectors as rules
-use Rattle.rules.specs.Vectors.{registerD, sequence, Vector, gapped, vectors, wanted, sequences, CutVector, cutVectors, wantedCut, pairsThen}
+use Rattle.rules.specs.Vectors.{registerD, sequence, Vector, plain, gapped, vectors, wanted, sequences, CutVector, cutVectors, wantedCut, pairsThen}
 use Rattle.table.specs.Table.{slots, bodies, pad, encode, decodeSlots, decode, slotsOk, allZero, wellFormed}
 use Rattle.keyed.specs.Keyed.{ascendsFrom, ascends, holds, put, every}
 use Rattle.register.specs.Register.{registerWords, recordsOf, registerOf, listed, risesFrom, rises, listOk, recordOk, roomFor, recordsOk, registerOk}
 use Rattle.register.specs.Calls.{fileEffect}
-use Rattle.filter.specs.Calls.{registerRows, judgeAnswer}
+use Rattle.registers.specs.Registers.{Registers, lent, bothLong, bothOk}
+use Rattle.filter.specs.Calls.{registerRows, judgeAnswer, hopAnswer, lookupList}
 
 -- The words that a filing of source 0 leaves.
 abbrev pub filed : ℕ → List ℕ → List ℕ → List ℕ
@@ -36,6 +42,10 @@ wordsD =
 -- Words, and zeros to the register's end.
 abbrev pub filled : List ℕ → List ℕ
 filled ws = ws ++ replicate (registerWords - length ws) 0
+
+-- A public register, and overrides that hold nothing.
+abbrev pub alone : List ℕ → Registers
+alone ws = lent ws (replicate registerWords 0)
 
 -- The words after each: the two counts, a row for each customer, the lists, and zeros.
 abbrev after₁ : List ℕ
@@ -99,8 +109,8 @@ whole-register =
     ∙ step₆
 
 -- Neither row 1 nor row 2 is given to them.
-passed : firstGiven (registerRows packedD) ≡ none
-unfolding firstGiven decodeSlots decode slotsOk allZero wellFormed ascendsFrom ascends every recordsOf listed risesFrom rises isIn listOk recordOk roomFor recordsOk registerOk
+passed : firstGiven (registerRows (alone packedD)) ≡ none
+unfolding firstGiven bothLong bothOk decodeSlots decode slotsOk allZero wellFormed ascendsFrom ascends every recordsOf listed risesFrom rises isIn listOk recordOk roomFor recordsOk registerOk
 passed = refl
 
 -- They hold register D's records.
@@ -108,20 +118,28 @@ records-d : recordsOf packedD ≡ registerD
 unfolding recordsOf decodeSlots decode
 records-d = refl
 
+-- Zeros hold none.
+pub records-none : recordsOf (replicate registerWords 0) ≡ []
+unfolding recordsOf decodeSlots decode
+records-none = refl
+
 -- Over words that pass both rows Judge answers as the definitions do over their records,
-pub over : (ws : List ℕ) (rs : List Record) → firstGiven (registerRows ws) ≡ none → recordsOf ws ≡ rs
-    → (role neighbour : ℕ) (attribute : List ℕ) → judgeAnswer ws role neighbour attribute ≡ judgedRoute (hopOf rs) role neighbour attribute
+pub over : (reg : Registers) (public overrides : List Record) → firstGiven (registerRows reg) ≡ none → recordsOf (reg .public) ≡ public
+    → recordsOf (reg .overrides) ≡ overrides → (role neighbour : ℕ) (attribute : List ℕ)
+    → judgeAnswer reg role neighbour attribute ≡ judgedRoute (hopOver public overrides) role neighbour attribute
 unfolding judgeAnswer
-over ws rs p e role neighbour attribute = λ i. unlessGiven (p i) (judgedRoute (hopOf (e i)) role neighbour attribute)
+over reg public overrides p e f role neighbour attribute = λ i. unlessGiven (p i) (judgedRoute (hopOver (e i) (f i)) role neighbour attribute)
 
 -- and so over these.
-over-d : (role neighbour : ℕ) (attribute : List ℕ) → judgeAnswer wordsD role neighbour attribute ≡ judgedRoute (hopOf registerD) role neighbour attribute
+over-d : (role neighbour : ℕ) (attribute : List ℕ)
+    → judgeAnswer (alone wordsD) role neighbour attribute ≡ judgedRoute (hopOver registerD []) role neighbour attribute
 over-d role neighbour attribute =
-    ap (λ ws. judgeAnswer ws role neighbour attribute) whole-register ∙ over packedD registerD passed records-d role neighbour attribute
+    ap (λ ws. judgeAnswer (alone ws) role neighbour attribute) whole-register
+    ∙ over (alone packedD) registerD [] passed records-d records-none role neighbour attribute
 
 -- What Judge answers to a vector.
 abbrev pub given : Vector → Judged
-given v = judgeAnswer wordsD (v .role) (v .neighbour) (sequence (v .path))
+given v = judgeAnswer (alone wordsD) (v .role) (v .neighbour) (sequence (v .path))
 
 all-over-d : (vs : List Vector) → map given vs ≡ map rules.given vs
 all-over-d [] = refl
@@ -133,7 +151,7 @@ starred = all-over-d vectors ∙ rules.starred
 
 -- And those with runs over a segment's end, vector O among them.
 abbrev pub givenCut : CutVector → Judged
-givenCut v = judgeAnswer wordsD (v .role) (v .neighbour) (sequences (v .paths))
+givenCut v = judgeAnswer (alone wordsD) (v .role) (v .neighbour) (sequences (v .paths))
 
 all-cut-over-d : (vs : List CutVector) → map givenCut vs ≡ map rules.givenCut vs
 all-cut-over-d [] = refl
@@ -150,5 +168,39 @@ each-other = filed 30 (20 ∷ []) (filed 20 (30 ∷ []) (replicate registerWords
 
 -- Of a path of 512 numbers, 20 and 30 in turn: over an empty register, and over those two records. proofs/Gaps.antt has the proof.
 pub record WidestGaps : Type 0 where
-  pub widest : judgeAnswer (replicate registerWords 0) 3 20 (pairsThen []) ≡ gapped (Unknown 1 512) (pos 511)
-  pub narrowest : judgeAnswer each-other 3 20 (pairsThen []) ≡ gapped Valid (negsuc 510)
+  pub widest : judgeAnswer (alone (replicate registerWords 0)) 3 20 (pairsThen []) ≡ gapped (Unknown 1 512) (pos 511)
+  pub narrowest : judgeAnswer (alone each-other) 3 20 (pairsThen []) ≡ gapped Valid (negsuc 510)
+
+-- ---- two registers (P6). proofs/Overridden.antt has the proof.
+
+-- Register D beside overrides that list 30 for 10, and 50 for 20.
+abbrev pub corrected : Registers
+corrected = lent packedD (filled (2 ∷ 2 ∷ 10 ∷ 0 ∷ 0 ∷ 1 ∷ 20 ∷ 0 ∷ 1 ∷ 1 ∷ 30 ∷ 50 ∷ []))
+
+-- For 10 source 0 lists 20, and source 2 lists 20 and 30.
+abbrev pub twoSources : List ℕ
+twoSources = filled (2 ∷ 3 ∷ 10 ∷ 0 ∷ 0 ∷ 1 ∷ 10 ∷ 2 ∷ 1 ∷ 2 ∷ 20 ∷ 20 ∷ 30 ∷ [])
+
+-- That beside overrides in which source 1 lists 40 for 10.
+abbrev pub hidden : Registers
+hidden = lent twoSources (filled (1 ∷ 1 ∷ 10 ∷ 1 ∷ 0 ∷ 1 ∷ 40 ∷ []))
+
+pub record OverrideVectors : Type 0 where
+  -- An override decides: a Valid turns Invalid, and an Invalid turns Valid.
+  pub was-valid : judgeAnswer (alone packedD) 1 20 (sequence (20 ∷ 10 ∷ [])) ≡ plain Valid
+  pub turns-invalid : judgeAnswer corrected 1 20 (sequence (20 ∷ 10 ∷ [])) ≡ plain (Invalid (ByHops 2 0 (One Overrides)))
+  pub was-invalid : judgeAnswer (alone packedD) 1 50 (sequence (50 ∷ 20 ∷ [])) ≡ plain (Invalid (ByHops 2 0 (One Public)))
+  pub turns-valid : judgeAnswer corrected 1 50 (sequence (50 ∷ 20 ∷ [])) ≡ plain Valid
+  -- Each hop that an Invalid names has the register of its own customer: of 40, then 20; of 10, then 40.
+  pub public-then-overrides : judgeAnswer corrected 3 20 (sequence (20 ∷ 10 ∷ 40 ∷ [])) ≡ gapped (Invalid (ByHops 2 2 (Two Public Overrides))) (pos 2)
+  pub overrides-then-public : judgeAnswer corrected 3 40 (sequence (40 ∷ 80 ∷ 10 ∷ [])) ≡ gapped (Invalid (ByHops 2 2 (Two Overrides Public))) (pos 2)
+  -- Provider+ names the lowest source that lists the provider, not the lowest that has a list.
+  pub by-source-0 : hopAnswer (alone twoSources) 10 20 ≡ hopped.Answered (ProviderPlus Public 0)
+  pub by-source-2 : hopAnswer (alone twoSources) 10 30 ≡ hopped.Answered (ProviderPlus Public 2)
+  pub by-none : hopAnswer (alone twoSources) 10 40 ≡ hopped.Answered (NotProviderPlus Public)
+  pub no-record : hopAnswer hidden 20 30 ≡ hopped.Answered NoAttestation
+  -- One override of a customer hides the lists of every source for it.
+  pub override-lists : hopAnswer hidden 10 40 ≡ hopped.Answered (ProviderPlus Overrides 1)
+  pub public-hidden : hopAnswer hidden 10 30 ≡ hopped.Answered (NotProviderPlus Overrides)
+  pub looked-up : (lookupList (alone twoSources) 2 10 ≡ 20 ∷ 30 ∷ []) × (lookupList hidden 1 10 ≡ 40 ∷ [])
+  pub looked-up-hidden : (lookupList hidden 2 10 ≡ []) × (lookupList hidden 0 10 ≡ [])

@@ -1,12 +1,15 @@
 // The calls of the filter. Each takes any tables and any arguments, and tests its rows in their order.
 use as_path::Reading;
 use ledger::Kept;
+use registers::Part;
 use types::Answer;
 use types::AsNumber;
 use types::Cause;
 use types::Cleared;
 use types::Filed;
+use types::Hopped;
 use types::Judged;
+use types::Origin;
 use types::Refusal;
 use types::Rejudged;
 use types::Removal;
@@ -21,12 +24,12 @@ ghost use Rattle.types.specs.Numbers.{roleNumber, verdictOf};
 ghost use Rattle.types.specs.Rows.{effect};
 ghost use Rattle.as_path.specs.Reading.{contentOf};
 ghost use Rattle.rules.specs.Judging.{answerTo};
-ghost use Rattle.register.specs.Register.{registerOk};
 ghost use Rattle.register.specs.Calls.{fileEffect, withdrawEffect, clearEffect};
 ghost use Rattle.ledger.specs.Routes.{ledgerWords, ledgerOk};
 ghost use Rattle.ledger.specs.Calls.{routeFor, dropEffect};
-ghost use Rattle.filter.specs.Calls.{hopIn, judgeAnswer, keeping, keepEffect, rejudgeEffect};
-ghost use Rattle.filter.specs.Helpers.{knownFrom, storedEffect, Ready};
+ghost use Rattle.registers.specs.Registers.{lent, hopIn, bothOk};
+ghost use Rattle.filter.specs.Calls.{judgeAnswer, keeping, keepEffect, rejudgeEffect, hopAnswer, lookRows, lookupPart, lookupList};
+ghost use Rattle.filter.specs.Helpers.{knownFrom, storedEffect, Ready, passes};
 
 // The most bytes of an attribute.
 pub const MOST_BYTES: usize = 4096;
@@ -54,9 +57,15 @@ fn know(role: u32, neighbour: AsNumber, attribute: &[u8]) -> Known
 }
 
 // The attribute read, and its ground or its path judged: rows 12 to 17.
-fn judge_known(reg: &[u32], role: Role, neighbour: AsNumber, attribute: &[u8]) -> Judged
-    requires { ⌜ registerOk (now reg) ≡ true ⌝ }
-    ensures { λ r. ⌜ r ≡ answerTo (hopIn (now (reg .entry))) (roleNumber role)
+fn judge_known<'a>(
+    public: &'a [u32],
+    overrides: &'a [u32],
+    role: Role,
+    neighbour: AsNumber,
+    attribute: &[u8],
+) -> Judged
+    requires { ⌜ bothOk (lent (now public) (now overrides)) ≡ true ⌝ }
+    ensures { λ r. ⌜ r ≡ answerTo (hopIn (lent (now (public .entry)) (now (overrides .entry)))) (roleNumber role)
         (contentOf (roleNumber role) (neighbour .0) (now (attribute .entry))) ⌝ }
 {
     let mut path = [0u32; as_path::MOST_NUMBERS];
@@ -65,24 +74,30 @@ fn judge_known(reg: &[u32], role: Role, neighbour: AsNumber, attribute: &[u8]) -
         Reading::OnGround(g) => Judged::Answered(Answer::Plain(Verdict::Invalid(Cause::ByGround(
             g,
         )))),
-        Reading::Path(n) => Judged::Answered(verdict::judge(reg, role, &path[..n])),
+        Reading::Path(n) => Judged::Answered(verdict::judge(public, overrides, role, &path[..n])),
     }
 }
 
-// The verdict of a route over the register, which is only read.
-// Rows 1, 2, 9, 10, 11, 12 to 16, 17.
-pub fn judge(reg: &[u32], role: u32, neighbour: AsNumber, attribute: &[u8]) -> Judged
-    ensures { λ r. ⌜ r ≡ judgeAnswer (now (reg .entry)) role (neighbour .0) (now (attribute .entry)) ⌝ }
+// The verdict of a route over both registers, which are only read.
+// Rows 1, 2, 9, 10, 11, 12 to 16, 17; row 1 is tested for both registers before row 2.
+pub fn judge<'a>(
+    public: &'a [u32],
+    overrides: &'a [u32],
+    role: u32,
+    neighbour: AsNumber,
+    attribute: &[u8],
+) -> Judged
+    ensures { λ r. ⌜ r ≡ judgeAnswer (lent (now (public .entry)) (now (overrides .entry))) role (neighbour .0) (now (attribute .entry)) ⌝ }
 {
-    if reg.len() != register::WORDS {
+    if !registers::are_long(public, overrides) {
         return Judged::Refused(Refusal::TableLength);
     }
-    if !register::is_register(reg) {
+    if !registers::are_registers(public, overrides) {
         return Judged::Refused(Refusal::RegisterMalformed);
     }
     match know(role, neighbour, attribute) {
         Known::Refused(r) => Judged::Refused(r),
-        Known::Role(role) => judge_known(reg, role, neighbour, attribute),
+        Known::Role(role) => judge_known(public, overrides, role, neighbour, attribute),
     }
 }
 
@@ -106,16 +121,17 @@ fn keep_answer(
 }
 
 // The attribute read, judged, and its route stored: rows 12 to 17, 18 and 20.
-fn keep_known(
-    reg: &[u32],
+fn keep_known<'a>(
+    public: &'a [u32],
+    overrides: &'a [u32],
     led: &mut [u32],
     number: RouteNumber,
     role: Role,
     neighbour: AsNumber,
     attribute: &[u8],
 ) -> Judged
-    requires { ⌜ Ready (now reg) (now led) (roleNumber role) (neighbour .0) (now attribute) ⌝ }
-    ensures { λ r. ⌜ effect r (now (led .exit)) ≡ keepEffect (now (reg .entry)) (now (led .entry))
+    requires { ⌜ Ready (lent (now public) (now overrides)) (now led) (roleNumber role) (neighbour .0) (now attribute) ⌝ }
+    ensures { λ r. ⌜ effect r (now (led .exit)) ≡ keepEffect (lent (now (public .entry)) (now (overrides .entry))) (now (led .entry))
         (keeping (number .0) (roleNumber role) (neighbour .0) (now (attribute .entry))) ⌝ }
 {
     let mut path = [0u32; as_path::MOST_NUMBERS];
@@ -126,32 +142,33 @@ fn keep_known(
             keep_answer(led, number, role, neighbour, answer, &path[..0])
         }
         Reading::Path(n) => {
-            let answer = verdict::judge(reg, role, &path[..n]);
+            let answer = verdict::judge(public, overrides, role, &path[..n]);
             keep_answer(led, number, role, neighbour, answer, &path[..n])
         }
     }
 }
 
 // Answers what `judge` answers, and stores the route with that answer's ground, verdict and places.
-// Rows 1, 2, 3, 9, 10, 11, 12 to 16, 17, 18, 20; row 1 is tested for both tables before row 2.
-pub fn keep(
-    reg: &[u32],
+// Rows 1, 2, 3, 9, 10, 11, 12 to 16, 17, 18, 20; row 1 is tested for all three tables before row 2.
+pub fn keep<'a>(
+    public: &'a [u32],
+    overrides: &'a [u32],
     led: &mut [u32],
     number: RouteNumber,
     role: u32,
     neighbour: AsNumber,
     attribute: &[u8],
 ) -> Judged
-    ensures { λ r. ⌜ effect r (now (led .exit)) ≡ keepEffect (now (reg .entry)) (now (led .entry))
+    ensures { λ r. ⌜ effect r (now (led .exit)) ≡ keepEffect (lent (now (public .entry)) (now (overrides .entry))) (now (led .entry))
         (keeping (number .0) role (neighbour .0) (now (attribute .entry))) ⌝ }
 {
-    if reg.len() != register::WORDS {
+    if !registers::are_long(public, overrides) {
         return Judged::Refused(Refusal::TableLength);
     }
     if led.len() != ledger::WORDS {
         return Judged::Refused(Refusal::TableLength);
     }
-    if !register::is_register(reg) {
+    if !registers::are_registers(public, overrides) {
         return Judged::Refused(Refusal::RegisterMalformed);
     }
     if !ledger::is_ledger(led) {
@@ -159,7 +176,7 @@ pub fn keep(
     }
     match know(role, neighbour, attribute) {
         Known::Refused(r) => Judged::Refused(r),
-        Known::Role(role) => keep_known(reg, led, number, role, neighbour, attribute),
+        Known::Role(role) => keep_known(public, overrides, led, number, role, neighbour, attribute),
     }
 }
 
@@ -172,24 +189,91 @@ pub fn drop(led: &mut [u32], number: RouteNumber) -> Removal
 }
 
 // Writes the verdict and places of every route without a ground anew, and answers how many routes changed.
-// Rows 1, 2, 3; row 1 is tested for both tables before row 2.
-pub fn rejudge(reg: &[u32], led: &mut [u32]) -> Rejudged
-    ensures { λ r. ⌜ effect r (now (led .exit)) ≡ rejudgeEffect (now (reg .entry)) (now (led .entry)) ⌝ }
+// Rows 1, 2, 3; row 1 is tested for all three tables before row 2.
+pub fn rejudge<'a>(public: &'a [u32], overrides: &'a [u32], led: &mut [u32]) -> Rejudged
+    ensures { λ r. ⌜ effect r (now (led .exit)) ≡ rejudgeEffect (lent (now (public .entry)) (now (overrides .entry))) (now (led .entry)) ⌝ }
 {
-    if reg.len() != register::WORDS {
+    if !registers::are_long(public, overrides) {
         return Rejudged::Refused(Refusal::TableLength);
     }
     if led.len() != ledger::WORDS {
         return Rejudged::Refused(Refusal::TableLength);
     }
-    if !register::is_register(reg) {
+    if !registers::are_registers(public, overrides) {
         return Rejudged::Refused(Refusal::RegisterMalformed);
     }
     if !ledger::is_ledger(led) {
         return Rejudged::Refused(Refusal::RoutesMalformed);
     }
-    let changed = rejudge::rejudge_all(reg, led);
+    let changed = rejudge::rejudge_all(public, overrides, led);
     Rejudged::Changed(changed as u32)
+}
+
+// What the register that counts for x says of y.
+// Rows 1, 2; row 1 is tested for both registers before row 2.
+pub fn hop<'a>(public: &'a [u32], overrides: &'a [u32], x: AsNumber, y: AsNumber) -> Hopped
+    ensures { λ r. ⌜ r ≡ hopAnswer (lent (now (public .entry)) (now (overrides .entry))) (x .0) (y .0) ⌝ }
+{
+    if !registers::are_long(public, overrides) {
+        return Hopped::Refused(Refusal::TableLength);
+    }
+    if !registers::are_registers(public, overrides) {
+        return Hopped::Refused(Refusal::RegisterMalformed);
+    }
+    Hopped::Answered(registers::hop_between(public, overrides, &registers::NO_HINTS, x, y))
+}
+
+// Rows 1, 2, 4, 5 of a look-up are passed.
+fn may_look(public: &[u32], overrides: &[u32], source: u32, customer: AsNumber) -> bool
+    ensures { λ r. ⌜ r ≡ passes (lookRows (lent (now (public .entry)) (now (overrides .entry))) source (customer .0)) ⌝ }
+{
+    if !registers::are_long(public, overrides) {
+        return false;
+    }
+    if !registers::are_registers(public, overrides) {
+        return false;
+    }
+    if register::LAST_SOURCE < source {
+        return false;
+    }
+    customer.0 != 0
+}
+
+// Where the list of a source for a customer stands, in the register that counts for the customer. The part is empty where there is no such list, or
+// where row 1, 2, 4 or 5 is given.
+pub fn find_list<'a>(
+    public: &'a [u32],
+    overrides: &'a [u32],
+    source: u32,
+    customer: AsNumber,
+) -> Part
+    ensures { λ r. ⌜ r ≡ lookupPart (lent (now (public .entry)) (now (overrides .entry))) source (customer .0) ⌝ }
+{
+    if !may_look(public, overrides, source, customer) {
+        return Part {
+            origin: Origin::Public,
+            from: 0,
+            to: 0,
+        };
+    }
+    registers::find_list(public, overrides, source, customer)
+}
+
+// The list of a source for a customer itself: a part of the register that counts for the customer, and empty as above.
+pub fn lookup<'a>(
+    public: &'a [u32],
+    overrides: &'a [u32],
+    source: u32,
+    customer: AsNumber,
+) -> &'a [u32]
+    ensures { λ r. ⌜ now r ≡ lookupList (lent (now (public .entry)) (now (overrides .entry))) source (customer .0) ⌝ }
+{
+    let part = find_list(public, overrides, source, customer);
+    let origin = part.origin;
+    let from = part.from;
+    let to = part.to;
+    let reg = registers::choose(public, overrides, origin);
+    &reg[from..to]
 }
 
 // Makes the list that of its pair of source and customer, in place of the pair's list if it has one.

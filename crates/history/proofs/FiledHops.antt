@@ -1,4 +1,4 @@
--- The hops over the register's records are those over the union of the filed lists. Assumes nothing.
+-- The hops over the registers' records are those over the union of the filed lists. Assumes nothing.
 use Prim.Native.Nat.{ℕ, zero, suc, _+_, _≤_, _<_}
 use mathlib.Core.Path.{_≡_, refl, sym, ap, _∙_}
 use mathlib.Core.Bool.{Bool, true, false, cond, _&&_, _||_, and-true}
@@ -7,18 +7,22 @@ use mathlib.Core.Option.{Option, none, some}
 use native.Mathlib.Omega.{arith}
 use borrow.Author.Tests.{leb-true, eqb-true, eqb-false, ne-eqb}
 use lib.Dec.{eqb, ltb, leb}
+use Rattle.types.specs.declared.Origin.{Origin}
+use Rattle.types.specs.declared.Origin.the-variants.{Public, Overrides}
 use Rattle.types.specs.declared.Hop.the-variants.{NoAttestation, ProviderPlus, NotProviderPlus}
 use Rattle.keyed.specs.Keyed.{samePair, beforePair, every, ascendsFrom, ascends, find}
 use Rattle.keyed.proofs.Orders.{ordered-pairs, ordered-ℕ, same-flip, both-left, both-right}
 use Rattle.keyed.proofs.Ranks.{from-ascends}
 use Rattle.keyed.proofs.Finds.{none-from}
 use Rattle.rules.specs.Draft as draft
-use Rattle.rules.specs.Records.{Record, isIn, attested, united, hopOf}
+use Rattle.rules.specs.Hops.{lowest}
+use Rattle.rules.specs.Records.{Record, isIn, attested, united, listOf, lowestSource, counting, hopOf, hopOver}
+use Rattle.rules.proofs.Searching.{lowest-same}
 use Rattle.register.specs.Register.{lastSource, keyOf, recordOk, recordsOk}
 use Rattle.register.proofs.Holding.{each-ok, in-order}
 use Rattle.providers.proofs.Seeking.{in-append}
 use Rattle.history.specs.Calls.{findRecord, providersOf}
-use Rattle.history.specs.Filings.{isFiled, isListed, hopFiled}
+use Rattle.history.specs.Filings.{FiledLists, isFiled, isListed, hopFiled, hopFiledOver, listIfAny, listFiledOver}
 
 -- ---- tests over a range
 
@@ -112,9 +116,62 @@ module _ (x : ℕ) where
       go true ih = in-append y (r .providers) (united rs x) ∙ ap (λ b. isIn y (r .providers) || b) ih
       go false ih = ih
 
--- The hops over records are those over the lists that they hold.
-pub filed-hops : (rs : List Record) → recordsOk rs ≡ true → hopOf rs ≡ hopFiled (λ source customer. providersOf (findRecord (customer, source) rs))
+  -- The list of a source.
+  list-filed : (s : ℕ) (rs : List Record) → listOf rs s x ≡ listIfAny (providersOf (findRecord (x, s) rs))
+  unfolding listOf find
+  list-filed s [] = refl
+  list-filed s (r ∷ rs) = rw (same-flip samePair beforePair ordered-pairs (x, s) (keyOf r)) (go (samePair (keyOf r) (x, s)) (list-filed s rs))
+    where
+      go : (b : Bool) → listOf rs s x ≡ listIfAny (providersOf (findRecord (x, s) rs))
+          → cond b (r .providers) (listOf rs s x) ≡ listIfAny (providersOf (cond b (some r) (findRecord (x, s) rs)))
+      go true ih = refl
+      go false ih = ih
+
+  -- The lowest source whose list holds y.
+  source-filed : (y : ℕ) (rs : List Record) → lowestSource rs x y ≡ lowest (λ s. isListed y (providersOf (findRecord (x, s) rs))) 0 8
+  unfolding isIn
+  source-filed y rs = lowest-same _ _ 0 8 (λ s a b. ap (isIn y) (list-filed s rs) ∙ listed (providersOf (findRecord (x, s) rs)))
+    where
+      listed : (o : Option (List ℕ)) → isIn y (listIfAny o) ≡ isListed y o
+      listed none = refl
+      listed (some list) = refl
+
+-- The lists that records hold.
+abbrev pub listsHeld : List Record → FiledLists
+listsHeld rs source customer = providersOf (findRecord (customer, source) rs)
+
+-- The hops over the records of one register are those over the lists that they hold.
+filed-hops : (o : Origin) (rs : List Record) → recordsOk rs ≡ true → hopOf o rs ≡ hopFiled o (listsHeld rs)
 unfolding hopOf hopFiled some-list
-filed-hops rs ok =
+filed-hops o rs ok =
     λ i x y. cond (attested-filed x rs (each-ok rs ok) (in-order rs ok) i)
-    (cond (united-filed x y rs (each-ok rs ok) (in-order rs ok) i) ProviderPlus NotProviderPlus) NoAttestation
+    (cond (united-filed x y rs (each-ok rs ok) (in-order rs ok) i) (ProviderPlus o (source-filed x y rs i)) (NotProviderPlus o)) NoAttestation
+
+module _ (public overrides : List Record) (f : recordsOk public ≡ true) (g : recordsOk overrides ≡ true) where
+  -- So over both,
+  pub filed-over : hopOver public overrides ≡ hopFiledOver (listsHeld public) (listsHeld overrides)
+  unfolding hopOver hopFiledOver some-list
+  filed-over = λ i x. by-customer x i
+    where
+      by-test : (x : ℕ) (b : Bool) → hopOf (cond b Overrides Public) (cond b overrides public) x
+          ≡ cond b (hopFiled Overrides (listsHeld overrides) x) (hopFiled Public (listsHeld public) x)
+      by-test x true = λ i. filed-hops Overrides overrides g i x
+      by-test x false = λ i. filed-hops Public public f i x
+
+      by-customer : (x : ℕ) → hopOver public overrides x ≡ hopFiledOver (listsHeld public) (listsHeld overrides) x
+      by-customer x =
+          by-test x (attested overrides x)
+          ∙ (λ i. cond (attested-filed x overrides (each-ok overrides g) (in-order overrides g) i)
+          (hopFiled Overrides (listsHeld overrides) x) (hopFiled Public (listsHeld public) x))
+
+  -- and the list that counts.
+  pub list-over : (source x : ℕ) → listOf (counting public overrides x) source x ≡ listFiledOver (listsHeld public) (listsHeld overrides) source x
+  unfolding listFiledOver some-list
+  list-over source x =
+      by-test (attested overrides x)
+      ∙ (λ i. listIfAny (cond (attested-filed x overrides (each-ok overrides g) (in-order overrides g) i)
+      (listsHeld overrides source x) (listsHeld public source x)))
+    where
+      by-test : (b : Bool) → listOf (cond b overrides public) source x ≡ listIfAny (cond b (listsHeld overrides source x) (listsHeld public source x))
+      by-test true = list-filed x source overrides
+      by-test false = list-filed x source public

@@ -6,6 +6,7 @@ use mathlib.Core.List.{List, [], _∷_, _++_, map}
 use native.Mathlib.Omega.{arith}
 use lib.Dec.{ltb}
 use lib.ListN.{length, take}
+use Rattle.types.specs.declared.Origin.the-variants.{Public, Overrides}
 use Rattle.types.specs.declared.Refusal.the-variants.{RoutesFull}
 use Rattle.types.specs.Rows.{firstGiven}
 use Rattle.as_path.specs.Segments.{segments, starts, startsFrom, numbersAt, numberAt}
@@ -27,7 +28,7 @@ use Rattle.history.specs.Calls.{Call, keep, blank, callAt, KeptRoute, kn
 use Rattle.history.specs.Replies.{ModelReply, done, refused, shown}
 use Rattle.history.specs.Model.{Model, holdsKept, putKept, pathNumbers, roomForRoutes, refusal, next, after, replyTo, written}
 use Rattle.history.specs.Sanity.{longest, longests, sixteen-and}
-use Rattle.history.proofs.Simulating.{blank-formed, blank-empty, history-replies, history-written}
+use Rattle.history.proofs.Simulating.{no-lists, blank-formed, blank-empty, history-replies, history-written}
 
 -- What each of them is read as.
 abbrev path : List ℕ
@@ -51,7 +52,7 @@ routes zero = []
 routes (suc n) = putKept (record { number = n; role = 3; neighbour = 20; ground = 0; path = path }) (routes n)
 
 abbrev held : ℕ → Model
-held n = record { lists = []; routes = routes n }
+held n = record { lists = no-lists; routes = routes n }
 
 -- Route i is not taken, and there is room for it; so for all sixteen.
 abbrev fits : ℕ → Bool
@@ -85,7 +86,10 @@ call-at x (suc n) (suc i) k l h e = call-at (suc x) n i k l (omega arith) (omega
 
 all-in : (l : List Call) (i : ℕ) → i ≤ 16 → after blank (longests 0 16 ++ l) i ≡ held i
 unfolding after routes
-all-in l zero h = λ t. record { lists = blank-empty .0 t; routes = map known (blank-empty .1 t) }
+all-in l zero h = λ t. record {
+  lists = record { public = blank-empty .0 Public t; overrides = blank-empty .0 Overrides t };
+  routes = map known (blank-empty .1 t);
+}
 all-in l (suc i) h = (λ t. next (all-in l i (omega arith) t) (call-at 0 16 i i l (omega arith) (omega arith) t)) ∙ one-more i (omega arith)
 
 -- So the ledger's two counters are these,

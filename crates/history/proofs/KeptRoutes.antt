@@ -1,8 +1,6 @@
 -- The route that a keeping stores, and one that is judged anew, as the model has them. Assumes nothing.
-use Prim.Native.Nat.{ℕ}
 use mathlib.Core.Path.{_≡_, refl}
 use mathlib.Core.Bool.{Bool, true, false, cond}
-use mathlib.Core.List.{List}
 use mathlib.Core.Option.{none}
 use borrow.Author.Tests.{eqb-true}
 use lib.Dec.{eqb}
@@ -19,7 +17,8 @@ use Rattle.ledger.specs.Routes.{Route, groundOk, routeOk}
 use Rattle.ledger.specs.Calls.{stamped}
 use Rattle.ledger.proofs.Holding.{rules-by-ground}
 use Rattle.rejudge.specs.Rejudging.{rejudgedRoute}
-use Rattle.filter.specs.Calls.{Keeping, keptRoute, hopIn}
+use Rattle.registers.specs.Registers.{Registers, hopIn}
+use Rattle.filter.specs.Calls.{Keeping, keptRoute}
 use Rattle.filter.proofs.KeptRoutes.{judged-ground}
 use Rattle.history.specs.Calls.{routeRead, known}
 use Rattle.history.specs.Model.{withVerdict, withWords, judgedKept}
@@ -69,7 +68,7 @@ module _ (hop : HopFunction) where
 
 -- ---- the route that a keeping stores
 
-module _ (reg : List ℕ) (k : Keeping) (e : firstGiven (judgeRows (k .role) (k .neighbour) (k .attribute)) ≡ none) where
+module _ (reg : Registers) (k : Keeping) (e : firstGiven (judgeRows (k .role) (k .neighbour) (k .attribute)) ≡ none) where
   -- But for the verdict it is the route that the arguments are read as.
   pub kept-known : known (keptRoute reg k) ≡ routeRead k
   kept-known = go (judgement (hopIn reg) (k .role) (k .neighbour) (k .attribute) e)

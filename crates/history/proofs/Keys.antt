@@ -1,17 +1,19 @@
 -- What the model holds under one key, and what a call makes of it: where room is not asked for, it depends on nothing else in the model. Assumes nothing.
 use Prim.Native.Nat.{ℕ, zero, suc}
 use mathlib.Core.Path.{_≡_, refl, sym, ap, _∙_}
-use mathlib.Core.Bool.{Bool, true, false, not, cond}
+use mathlib.Core.Bool.{Bool, true, false, not, cond, _&&_}
 use mathlib.Core.List.{List, [], _∷_}
 use mathlib.Core.Option.{Option, none, some}
 use native.Mathlib.Omega.{arith}
 use lib.Dec.{eqb, ltb}
 use lib.ListN.{length}
+use Rattle.types.specs.declared.Origin.{Origin}
+use Rattle.types.specs.declared.Origin.the-variants.{Public, Overrides}
 use Rattle.types.specs.declared.Refusal.{Refusal}
 use Rattle.types.specs.declared.Refusal.the-variants.{NoRecord, RouteTaken, NoRoute}
 use Rattle.types.specs.Rows.{rowIf, orElse, firstGiven}
 use Rattle.keyed.specs.Keyed.{Ordered, samePair, beforePair, ascends, without, countOf}
-use Rattle.keyed.proofs.Orders.{ordered-pairs, ordered-ℕ, same-flip}
+use Rattle.keyed.proofs.Orders.{ordered-pairs, ordered-ℕ, same-flip, both-intro}
 use Rattle.keyed.proofs.Puts.{ascends-put, ascends-without}
 use Rattle.keyed.proofs.Mapping.{ascends-map}
 use Rattle.keyed.proofs.Finds.{isSome, find-holds, find-none, find-put, find-without, same-finds}
@@ -24,31 +26,33 @@ use Rattle.ledger.specs.Routes as routes
 use Rattle.ledger.proofs.Holding as ledger-holding
 use Rattle.history.specs.Calls.{Call, file, withdraw, clear, keep, drop, rejudge, Scope, of-pair, of-source, of-route, idle, scope, Tables, Formed, callAt, KeptRoute, routeRead, findRecord, known}
 use Rattle.history.specs.Replies.{ModelReply, new, replaced, gone}
-use Rattle.history.specs.Model.{Model, heldBy, numberOf, findKept, holdsKept, argumentRows, heldRows, answer, change, replyUnless, changeUnless}
+use Rattle.history.specs.Model.{Model, listsIn, refiled, heldBy, numberOf, findKept, holdsKept, argumentRows, heldRows, answer, change, replyUnless, changeUnless}
+use Rattle.history.specs.Filings.{sameOrigin}
+use Rattle.history.proofs.Origins.{origin-self, of-each, same-lists, seen-with, seen-left}
 
--- A key of the lists (customer and source) or of the routes.
+-- A key of the lists of one register (customer and source) or of the routes.
 pub data Key : Type 0 where
-  pair : ℕ × ℕ → Key
+  pair : Origin → ℕ × ℕ → Key
   route : ℕ → Key
 
 -- What can be found under a key.
 abbrev pub Found : Key → Type 0
-Found (pair k) = Option Record
+Found (pair o k) = Option Record
 Found (route n) = Option KeptRoute
 
 -- What a model holds under a key.
 abbrev pub look : (k : Key) → Model → Found k
-look (pair k) m = findRecord k (m .lists)
+look (pair o k) m = findRecord k (listsIn o m)
 look (route n) m = findKept n (m .routes)
 
 -- Whether a call can change what is found under the key.
 abbrev pub hits : Key → Scope → Bool
-hits (pair k) (of-pair s c) = samePair k (c, s)
-hits (pair k) (of-source s) = eqb (k .1) s
-hits (pair k) (of-route n) = false
-hits (pair k) idle = false
-hits (route k) (of-pair s c) = false
-hits (route k) (of-source s) = false
+hits (pair o k) (of-pair p s c) = sameOrigin p o && samePair k (c, s)
+hits (pair o k) (of-source p s) = sameOrigin p o && eqb (k .1) s
+hits (pair o k) (of-route n) = false
+hits (pair o k) idle = false
+hits (route k) (of-pair p s c) = false
+hits (route k) (of-source p s) = false
 hits (route k) (of-route n) = eqb k n
 hits (route k) idle = false
 
@@ -92,15 +96,15 @@ unlessThere none other = other
 
 -- What a call that hits the key, and that its arguments do not bar, makes of what is found there.
 abbrev value : (k : Key) → Call → Found k → Found k
-value (pair k) (file s c list) v = some (recordFor s c list)
-value (pair k) (withdraw s c) v = none
-value (pair k) (clear s) v = none
-value (pair k) (keep j) v = v
-value (pair k) (drop n) v = v
-value (pair k) rejudge v = v
-value (route k) (file s c list) v = v
-value (route k) (withdraw s c) v = v
-value (route k) (clear s) v = v
+value (pair o k) (file p s c list) v = some (recordFor s c list)
+value (pair o k) (withdraw p s c) v = none
+value (pair o k) (clear p s) v = none
+value (pair o k) (keep j) v = v
+value (pair o k) (drop n) v = v
+value (pair o k) rejudge v = v
+value (route k) (file p s c list) v = v
+value (route k) (withdraw p s c) v = v
+value (route k) (clear p s) v = v
 value (route k) (keep j) v = unlessThere v (some (routeRead j))
 value (route k) (drop n) v = none
 value (route k) rejudge v = v
@@ -128,25 +132,29 @@ there none h n = let z : _≡_ {A = ℕ} 0 1 = cc in absurd (omega arith)
 found-own : (k : Key) (m : Model) (c : Call)
     → look k (changeUnless (firstGiven (heldRows m c)) m (change m c)) ≡ cond (hits k (scope c)) (value k c (look k m)) (look k m)
 unfolding firstGiven
-found-own (pair k) m (file s c list) = find-put keyOf samePair beforePair ordered-pairs k (recordFor s c list) (m .lists)
-found-own (pair k) m (withdraw s c) = go (holdsRecord c s (m .lists)) refl
+found-own (pair o k) m (file p s c list) =
+    seen-with (findRecord k) o p (m .lists) (samePair k (c, s)) _ _ (find-put keyOf samePair beforePair ordered-pairs k (recordFor s c list) (listsIn p m))
+found-own (pair o k) m (withdraw p s c) = go (holdsRecord c s (listsIn p m)) refl
   where
-    go : (b : Bool) → holdsRecord c s (m .lists) ≡ b
-        → look (pair k) (changeUnless (orElse (rowIf (not b) NoRecord) none) m (change m (withdraw s c)))
-        ≡ cond (samePair k (c, s)) none (findRecord k (m .lists))
+    go : (b : Bool) → holdsRecord c s (listsIn p m) ≡ b
+        → look (pair o k) (changeUnless (orElse (rowIf (not b) NoRecord) none) m (change m (withdraw p s c)))
+        ≡ cond (sameOrigin p o && samePair k (c, s)) none (findRecord k (listsIn o m))
     go true e =
-        find-without keyOf samePair beforePair ordered-pairs k (samePair (c, s)) (m .lists)
-        ∙ ap (λ b. cond b none (findRecord k (m .lists))) (same-flip samePair beforePair ordered-pairs (c, s) k)
+        seen-with (findRecord k) o p (m .lists) (samePair k (c, s)) none _
+        (find-without keyOf samePair beforePair ordered-pairs k (samePair (c, s)) (listsIn p m)
+        ∙ ap (λ b. cond b none (findRecord k (listsIn p m))) (same-flip samePair beforePair ordered-pairs (c, s) k))
     go false e =
-        sym (either-way (samePair k (c, s)) _)
-        ∙ at-key samePair beforePair ordered-pairs k (c, s) _ _ _ (λ q. rw q (find-none keyOf samePair beforePair (c, s) (m .lists) e))
-found-own (pair k) m (clear s) = find-without keyOf samePair beforePair ordered-pairs k (ofSource s) (m .lists)
-found-own (pair k) m (keep j) = left-alone (pair k) (firstGiven (heldRows m (keep j))) m _ refl
-found-own (pair k) m (drop n) = left-alone (pair k) (firstGiven (heldRows m (drop n))) m _ refl
-found-own (pair k) m rejudge = refl
-found-own (route k) m (file s c list) = refl
-found-own (route k) m (withdraw s c) = left-alone (route k) (firstGiven (heldRows m (withdraw s c))) m _ refl
-found-own (route k) m (clear s) = refl
+        seen-left (findRecord k) o p (m .lists) (samePair k (c, s)) none
+        (sym (either-way (samePair k (c, s)) _)
+        ∙ at-key samePair beforePair ordered-pairs k (c, s) _ _ _ (λ q. rw q (find-none keyOf samePair beforePair (c, s) (listsIn p m) e)))
+found-own (pair o k) m (clear p s) =
+    seen-with (findRecord k) o p (m .lists) (eqb (k .1) s) none _ (find-without keyOf samePair beforePair ordered-pairs k (ofSource s) (listsIn p m))
+found-own (pair o k) m (keep j) = left-alone (pair o k) (firstGiven (heldRows m (keep j))) m _ refl
+found-own (pair o k) m (drop n) = left-alone (pair o k) (firstGiven (heldRows m (drop n))) m _ refl
+found-own (pair o k) m rejudge = refl
+found-own (route k) m (file p s c list) = refl
+found-own (route k) m (withdraw p s c) = left-alone (route k) (firstGiven (heldRows m (withdraw p s c))) m _ refl
+found-own (route k) m (clear p s) = refl
 found-own (route k) m (keep j) = go (holdsKept (j .number) (m .routes)) refl
   where
     r : KeptRoute
@@ -197,14 +205,19 @@ alike k m n c h = found-next k m c ∙ ap (becomes k c) h ∙ sym (found-next k 
 
 -- Lists and routes ascend by their keys.
 pub record InOrder (m : Model) : Type 0 where
-  pub lists : ascends keyOf samePair beforePair (m .lists) ≡ true
+  pub lists : (o : Origin) → ascends keyOf samePair beforePair (listsIn o m) ≡ true
   pub routes : ascends numberOf eqb ltb (m .routes) ≡ true
+
+-- Other lists in one register, in order.
+refiled-in-order : (m : Model) (p : Origin) (others : List Record) → InOrder m → ascends keyOf samePair beforePair others ≡ true → InOrder (refiled m p others)
+refiled-in-order m p others h a =
+    record { lists = of-each (λ rs. ascends keyOf samePair beforePair rs ≡ true) (m .lists) p others (h .lists) a; routes = h .routes }
 
 -- Every change keeps the order.
 pub change-in-order : (m : Model) (c : Call) → InOrder m → InOrder (change m c)
-change-in-order m (file s c list) h = record { lists = ascends-put keyOf samePair beforePair ordered-pairs _ (m .lists) (h .lists); routes = h .routes }
-change-in-order m (withdraw s c) h = record { lists = ascends-without keyOf samePair beforePair ordered-pairs _ (m .lists) (h .lists); routes = h .routes }
-change-in-order m (clear s) h = record { lists = ascends-without keyOf samePair beforePair ordered-pairs _ (m .lists) (h .lists); routes = h .routes }
+change-in-order m (file p s c list) h = refiled-in-order m p _ h (ascends-put keyOf samePair beforePair ordered-pairs _ (listsIn p m) (h .lists p))
+change-in-order m (withdraw p s c) h = refiled-in-order m p _ h (ascends-without keyOf samePair beforePair ordered-pairs _ (listsIn p m) (h .lists p))
+change-in-order m (clear p s) h = refiled-in-order m p _ h (ascends-without keyOf samePair beforePair ordered-pairs _ (listsIn p m) (h .lists p))
 change-in-order m (keep j) h =
     record { lists = h .lists; routes = ascends-put numberOf eqb ltb ordered-ℕ _ (m .routes) (h .routes) }
 change-in-order m (drop n) h = record { lists = h .lists; routes = ascends-without numberOf eqb ltb ordered-ℕ _ (m .routes) (h .routes) }
@@ -218,7 +231,10 @@ next-in-order none m c h = change-in-order m c h
 -- What well-formed tables hold is in order.
 pub held-in-order : (t : Tables) → Formed t → InOrder (heldBy t)
 held-in-order t f = record {
-  lists = register-holding.ordered (t .register) (f .register-ok);
+  lists = λ o. elim o [
+    | Public ↦ register-holding.ordered (t .registers .public) (f .register-ok Public)
+    | Overrides ↦ register-holding.ordered (t .registers .overrides) (f .register-ok Overrides)
+  ];
   routes = ascends-map routes.keyOf numberOf eqb ltb known (λ r. refl) (routesOf (t .ledger)) ∙ ledger-holding.ordered (t .ledger) (f .ledger-ok);
 }
 
@@ -232,7 +248,8 @@ free-in-order start h l (suc i) =
 -- Models in order that agree under every key are equal.
 pub same-model : (m n : Model) → InOrder m → InOrder n → ((k : Key) → look k m ≡ look k n) → m ≡ n
 same-model m n h g e =
-    let p : m .lists ≡ n .lists = same-finds keyOf samePair beforePair ordered-pairs (m .lists) (n .lists) (h .lists) (g .lists) (λ k. e (pair k)) in
+    let p : m .lists ≡ n .lists = same-lists (m .lists) (n .lists) (λ o. same-finds keyOf samePair beforePair ordered-pairs (listsIn o m) (listsIn o n)
+    (h .lists o) (g .lists o) (λ k. e (pair o k))) in
     let q : m .routes ≡ n .routes = same-finds numberOf eqb ltb ordered-ℕ (m .routes) (n .routes) (h .routes) (g .routes) (λ k. e (route k)) in
     λ i. record { lists = p i; routes = q i }
 
@@ -252,16 +269,17 @@ count-left key same before test (e ∷ es) = go (test (key e)) (count-left key s
     go false ih = ih
 
 -- A source's lists are counted alike where the same is found under its keys.
-count-alike : (m n : Model) (s : ℕ) → InOrder m → InOrder n → ((k : ℕ × ℕ) → eqb (k .1) s ≡ true → findRecord k (m .lists) ≡ findRecord k (n .lists))
-    → countRecords s (m .lists) ≡ countRecords s (n .lists)
-count-alike m n s h g e =
-    count-left keyOf samePair beforePair (ofSource s) (m .lists)
-    ∙ ap length (same-finds keyOf samePair beforePair ordered-pairs (others (m .lists)) (others (n .lists))
-    (ascends-without keyOf samePair beforePair ordered-pairs rest (m .lists) (h .lists))
-    (ascends-without keyOf samePair beforePair ordered-pairs rest (n .lists) (g .lists))
-    (λ k. find-without keyOf samePair beforePair ordered-pairs k rest (m .lists) ∙ go k (eqb (k .1) s) refl
-    ∙ sym (find-without keyOf samePair beforePair ordered-pairs k rest (n .lists))))
-    ∙ sym (count-left keyOf samePair beforePair (ofSource s) (n .lists))
+count-alike : (m n : Model) (o : Origin) (s : ℕ) → InOrder m → InOrder n
+    → ((k : ℕ × ℕ) → eqb (k .1) s ≡ true → findRecord k (listsIn o m) ≡ findRecord k (listsIn o n))
+    → countRecords s (listsIn o m) ≡ countRecords s (listsIn o n)
+count-alike m n o s h g e =
+    count-left keyOf samePair beforePair (ofSource s) (listsIn o m)
+    ∙ ap length (same-finds keyOf samePair beforePair ordered-pairs (others (listsIn o m)) (others (listsIn o n))
+    (ascends-without keyOf samePair beforePair ordered-pairs rest (listsIn o m) (h .lists o))
+    (ascends-without keyOf samePair beforePair ordered-pairs rest (listsIn o n) (g .lists o))
+    (λ k. find-without keyOf samePair beforePair ordered-pairs k rest (listsIn o m) ∙ go k (eqb (k .1) s) refl
+    ∙ sym (find-without keyOf samePair beforePair ordered-pairs k rest (listsIn o n))))
+    ∙ sym (count-left keyOf samePair beforePair (ofSource s) (listsIn o n))
   where
     rest : ℕ × ℕ → Bool
     rest k = not (ofSource s k)
@@ -269,7 +287,7 @@ count-alike m n s h g e =
     others : List Record → List Record
     others rs = without keyOf samePair beforePair rest rs
 
-    go : (k : ℕ × ℕ) (t : Bool) → eqb (k .1) s ≡ t → cond (not t) none (findRecord k (m .lists)) ≡ cond (not t) none (findRecord k (n .lists))
+    go : (k : ℕ × ℕ) (t : Bool) → eqb (k .1) s ≡ t → cond (not t) none (findRecord k (listsIn o m)) ≡ cond (not t) none (findRecord k (listsIn o n))
     go k true q = e k q
     go k false q = refl
 
@@ -279,10 +297,12 @@ pub record SameReply (m n : Model) (c : Call) : Type 0 where
   pub reply : answer m c ≡ answer n c
 
 -- Whether a list is held.
-held-alike : (m n : Model) (s c : ℕ) → ((k : Key) → hits k (of-pair s c) ≡ true → look k m ≡ look k n) → holdsRecord c s (m .lists) ≡ holdsRecord c s (n .lists)
-held-alike m n s c e =
-    find-holds keyOf samePair beforePair (c, s) (m .lists) ∙ ap isSome (e (pair (c, s)) (ordered-pairs .same-self (c, s)))
-    ∙ sym (find-holds keyOf samePair beforePair (c, s) (n .lists))
+held-alike : (m n : Model) (o : Origin) (s c : ℕ) → ((k : Key) → hits k (of-pair o s c) ≡ true → look k m ≡ look k n)
+    → holdsRecord c s (listsIn o m) ≡ holdsRecord c s (listsIn o n)
+held-alike m n o s c e =
+    find-holds keyOf samePair beforePair (c, s) (listsIn o m)
+    ∙ ap isSome (e (pair o (c, s)) (both-intro _ _ (origin-self o) (ordered-pairs .same-self (c, s))))
+    ∙ sym (find-holds keyOf samePair beforePair (c, s) (listsIn o n))
 
 -- Whether a route is held.
 kept-alike : (m n : Model) (k : ℕ) → ((j : Key) → hits j (of-route k) ≡ true → look j m ≡ look j n) → holdsKept k (m .routes) ≡ holdsKept k (n .routes)
@@ -291,9 +311,10 @@ kept-alike m n k e =
 
 -- What a call is asked for beside its arguments.
 own-alike : (m n : Model) (c : Call) → InOrder m → InOrder n → ((k : Key) → hits k (scope c) ≡ true → look k m ≡ look k n) → SameReply m n c
-own-alike m n (file s c list) h g e = record { rows = refl; reply = ap (λ b. cond b replaced new) (held-alike m n s c e) }
-own-alike m n (withdraw s c) h g e = record { rows = ap (λ b. rowIf (not b) NoRecord ∷ []) (held-alike m n s c e); reply = refl }
-own-alike m n (clear s) h g e = record { rows = refl; reply = ap gone (count-alike m n s h g (λ k. e (pair k))) }
+own-alike m n (file o s c list) h g e = record { rows = refl; reply = ap (λ b. cond b replaced new) (held-alike m n o s c e) }
+own-alike m n (withdraw o s c) h g e = record { rows = ap (λ b. rowIf (not b) NoRecord ∷ []) (held-alike m n o s c e); reply = refl }
+own-alike m n (clear o s) h g e =
+    record { rows = refl; reply = ap gone (count-alike m n o s h g (λ k q. e (pair o k) (both-intro _ _ (origin-self o) q))) }
 own-alike m n (keep k) h g e = record { rows = ap (λ b. rowIf b RouteTaken ∷ []) (kept-alike m n (k .number) e); reply = refl }
 own-alike m n (drop k) h g e = record { rows = ap (λ b. rowIf (not b) NoRoute ∷ []) (kept-alike m n k e); reply = refl }
 own-alike m n rejudge h g e = record { rows = refl; reply = refl }

@@ -1,3 +1,4 @@
+pub mod Origins
 pub mod Keys
 pub mod Matching
 pub mod Ledgers

@@ -8,18 +8,21 @@ use mathlib.Core.Option.{Option, none, some}
 use native.Mathlib.Omega.{arith}
 use native.Mathlib.Decide.{decLt, decLe}
 use lib.ListN.{length, List·getD-eq-default}
+use Rattle.types.specs.declared.Origin.{Origin}
 use Rattle.types.specs.declared.Refusal.{Refusal}
 use Rattle.types.specs.declared.Refusal.the-variants.{RegisterFull, RoutesFull}
 use Rattle.types.specs.Rows.{rowIf, orElse, firstGiven}
 use Rattle.types.proofs.Clashes.{not-both, some-not-none}
-use Rattle.keyed.proofs.Orders.{ordered-pairs, ordered-ℕ}
+use Rattle.keyed.proofs.Orders.{ordered-pairs, ordered-ℕ, both-left, both-right}
 use Rattle.rules.proofs.Judges.{first-append}
 use Rattle.register.specs.Register.{roomFor}
 use Rattle.register.specs.Calls.{recordFor, putRecord}
 use Rattle.history.specs.Calls.{Call, file, withdraw, clear, keep, drop, rejudge, Scope, of-pair, of-source, of-route, idle, Tables, Formed, callAt, scopeAt, routeRead}
 use Rattle.history.specs.Replies.{refused, forRoom}
-use Rattle.history.specs.Model.{Model, heldBy, putKept, argumentRows, heldRows, roomRows, roomForRoutes, refusal, answer, change, replyUnless, changeUnless, replyTo, after, replyAt, final}
+use Rattle.history.specs.Model.{Model, listsIn, heldBy, putKept, argumentRows, heldRows, roomRows, roomForRoutes, refusal, answer, change, replyUnless, changeUnless, replyTo, after, replyAt, final}
 use Rattle.history.specs.Reorderings.{OnPair, Clears, OfSource, OnRoute, Tied, same-pair, clear-first, clear-second, same-route, IsStep, StepAt, Reordering}
+use Rattle.history.specs.Filings.{sameOrigin}
+use Rattle.history.proofs.Origins.{origin-is}
 use Rattle.history.proofs.Keys.{Key, pair, route, look, hits, freeRefusal, freeReply, freeNext, freeAfter, miss, alike, InOrder, held-in-order, free-in-order, same-model, reply-alike}
 
 -- A test that cannot pass fails.
@@ -30,43 +33,47 @@ not-true false h = refl
 -- ---- calls on one key are tied
 
 -- How a call can hit a key of the lists.
-data HitsPair (k : ℕ × ℕ) (c : Scope) : Type 0 where
-  on-pair : OnPair (k .1) (k .0) c → OfSource (k .1) c → HitsPair k c
-  on-source : Clears (k .1) c → OfSource (k .1) c → HitsPair k c
+data HitsPair (o : Origin) (k : ℕ × ℕ) (c : Scope) : Type 0 where
+  on-pair : OnPair o (k .1) (k .0) c → OfSource o (k .1) c → HitsPair o k c
+  on-source : Clears o (k .1) c → OfSource o (k .1) c → HitsPair o k c
 
--- A call that hits a pair of customer and source is a step on it, or clears the source.
-hits-pair : (k : ℕ × ℕ) (c : Scope) → hits (pair k) c ≡ true → HitsPair k c
-hits-pair k (of-pair s c) h =
-    let e : (c, s) ≡ k = sym (ordered-pairs .same-is k (c, s) h) in
-    on-pair (ap (λ x. x .1) e, ap (λ x. x .0) e) (ap (λ x. x .1) e)
-hits-pair k (of-source s) h = let e : s ≡ k .1 = sym (ordered-ℕ .same-is (k .1) s h) in on-source e e
-hits-pair k (of-route n) h = not-both refl h
-hits-pair k idle h = not-both refl h
+-- A call that hits a pair of customer and source in a register is a step on it, or clears the source there.
+hits-pair : (o : Origin) (k : ℕ × ℕ) (c : Scope) → hits (pair o k) c ≡ true → HitsPair o k c
+hits-pair o k (of-pair p s c) h =
+    let q : p ≡ o = origin-is p o (both-left _ _ h) in
+    let e : (c, s) ≡ k = sym (ordered-pairs .same-is k (c, s) (both-right (sameOrigin p o) _ h)) in
+    on-pair (q, ap (λ x. x .1) e, ap (λ x. x .0) e) (q, ap (λ x. x .1) e)
+hits-pair o k (of-source p s) h =
+    let q : p ≡ o = origin-is p o (both-left _ _ h) in
+    let e : s ≡ k .1 = sym (ordered-ℕ .same-is (k .1) s (both-right (sameOrigin p o) _ h)) in
+    on-source (q, e) (q, e)
+hits-pair o k (of-route n) h = not-both refl h
+hits-pair o k idle h = not-both refl h
 
 -- A call that hits a route number is a step on it.
 hits-route : (k : ℕ) (c : Scope) → hits (route k) c ≡ true → OnRoute k c
-hits-route k (of-pair s c) h = not-both refl h
-hits-route k (of-source s) h = not-both refl h
+hits-route k (of-pair p s c) h = not-both refl h
+hits-route k (of-source p s) h = not-both refl h
 hits-route k (of-route n) h = sym (ordered-ℕ .same-is k n h)
 hits-route k idle h = not-both refl h
 
 -- Two calls that hit one key are tied.
 hit-tied : (k : Key) (a b : Scope) → hits k a ≡ true → hits k b ≡ true → Tied a b
-hit-tied (pair k) a b p q = go (hits-pair k a p) (hits-pair k b q)
+hit-tied (pair o k) a b p q = go (hits-pair o k a p) (hits-pair o k b q)
   where
-    go : HitsPair k a → HitsPair k b → Tied a b
-    go (on-pair x y) (on-pair z w) = same-pair (k .1) (k .0) x z
-    go (on-pair x y) (on-source z w) = clear-second (k .1) y z
-    go (on-source x y) (on-pair z w) = clear-first (k .1) x w
-    go (on-source x y) (on-source z w) = clear-first (k .1) x w
+    go : HitsPair o k a → HitsPair o k b → Tied a b
+    go (on-pair x y) (on-pair z w) = same-pair o (k .1) (k .0) x z
+    go (on-pair x y) (on-source z w) = clear-second o (k .1) y z
+    go (on-source x y) (on-pair z w) = clear-first o (k .1) x w
+    go (on-source x y) (on-source z w) = clear-first o (k .1) x w
 hit-tied (route k) a b p q = same-route k (hits-route k a p) (hits-route k b q)
 
 -- A call that hits a key is a step.
 hit-step : (k : Key) (c : Scope) → hits k c ≡ true → IsStep c
-hit-step k (of-pair s c) h = tt
-hit-step k (of-source s) h = tt
+hit-step k (of-pair p s c) h = tt
+hit-step k (of-source p s) h = tt
 hit-step k (of-route n) h = tt
-hit-step (pair k) idle h = not-both refl h
+hit-step (pair o k) idle h = not-both refl h
 hit-step (route k) idle h = not-both refl h
 
 -- ---- the same is found under each key
@@ -180,13 +187,13 @@ module _ (start : Model) (ordered : InOrder start) (l m : List Call) (r : Reorde
 -- What a row for room gives is a refusal for room.
 room-row : (m : Model) (c : Call) (r : Refusal) → firstGiven (roomRows m c) ≡ some r → forRoom (refused r) ≡ true
 unfolding firstGiven
-room-row m (file s c list) r = go (roomFor (putRecord (recordFor s c list) (m .lists)))
+room-row m (file o s c list) r = go (roomFor (putRecord (recordFor s c list) (listsIn o m)))
   where
     go : (b : Bool) → orElse (rowIf (not b) RegisterFull) none ≡ some r → forRoom (refused r) ≡ true
     go true h = some-not-none (sym h)
     go false h = let e : RegisterFull ≡ r = cc in rw (← e)
-room-row m (withdraw s c) r = λ h. some-not-none (sym h)
-room-row m (clear s) r = λ h. some-not-none (sym h)
+room-row m (withdraw o s c) r = λ h. some-not-none (sym h)
+room-row m (clear o s) r = λ h. some-not-none (sym h)
 room-row m (keep k) r = go (roomForRoutes (putKept (routeRead k) (m .routes)))
   where
     go : (b : Bool) → orElse (rowIf (not b) RoutesFull) none ≡ some r → forRoom (refused r) ≡ true

@@ -5,6 +5,7 @@ use mathlib.Core.List.{List, [], _∷_, _++_}
 use native.Mathlib.Omega.{arith}
 use native.Mathlib.Decide.{decLt}
 use lib.Dec.{lit<}
+use Rattle.types.specs.declared.Origin.{Origin}
 use Rattle.filter.specs.Calls.{Keeping}
 use Rattle.history.specs.Calls.{Call, file, clear, keep, drop, rejudge, Scope, scope, callAt, scopeAt}
 use Rattle.history.specs.Reorderings.{Tied, same-pair, clear-first, clear-second, same-route, StepAt, Reordering}
@@ -42,9 +43,9 @@ chain l m n p q = record {
 
 -- To be tied goes both ways.
 tied-back : (a b : Scope) → Tied a b → Tied b a
-tied-back a b (same-pair s c p q) = same-pair s c q p
-tied-back a b (clear-first s p q) = clear-second s q p
-tied-back a b (clear-second s p q) = clear-first s q p
+tied-back a b (same-pair o s c p q) = same-pair o s c q p
+tied-back a b (clear-first o s p q) = clear-second o s q p
+tied-back a b (clear-second o s p q) = clear-first o s q p
 tied-back a b (same-route n p q) = same-route n q p
 
 -- The order of tied calls is the same in both lists, from whichever it is read.
@@ -190,12 +191,12 @@ stays a b s t n x y d r = go (r .to 0) (r .to 1) (r .to-same 0 s) (r .to-same 1 
     go (suc zero) (suc (suc j)) e f h = y f
     go (suc (suc i)) j e f h = x e
 
--- A filing does not pass a clearing of its source.
-pub clearing-stays : (source customer : ℕ) (list : List ℕ)
-    → Reordering (file source customer list ∷ clear source ∷ []) (clear source ∷ file source customer list ∷ []) → ⊥
-clearing-stays source customer list =
-    stays (file source customer list) (clear source) tt tt (λ e. let z : _≡_ {A = ℕ} 0 1 = cc in omega arith)
-    (λ e. let z : _≡_ {A = ℕ} 0 1 = cc in omega arith) (λ e. let z : _≡_ {A = ℕ} 0 1 = cc in omega arith) (clear-second source refl refl)
+-- A filing does not pass a clearing of its source in its register.
+pub clearing-stays : (o : Origin) (source customer : ℕ) (list : List ℕ)
+    → Reordering (file o source customer list ∷ clear o source ∷ []) (clear o source ∷ file o source customer list ∷ []) → ⊥
+clearing-stays o source customer list =
+    stays (file o source customer list) (clear o source) tt tt (λ e. let z : _≡_ {A = ℕ} 0 1 = cc in omega arith)
+    (λ e. let z : _≡_ {A = ℕ} 0 1 = cc in omega arith) (λ e. let z : _≡_ {A = ℕ} 0 1 = cc in omega arith) (clear-second o source (refl, refl) (refl, refl))
 
 -- A keeping does not pass a dropping of its number.
 pub dropping-stays : (k : Keeping) → Reordering (keep k ∷ drop (k .number) ∷ []) (drop (k .number) ∷ keep k ∷ []) → ⊥

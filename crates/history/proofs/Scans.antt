@@ -9,14 +9,17 @@ use native.Mathlib.Omega.{arith}
 use native.Mathlib.Decide.{decLt}
 use borrow.Author.Tests.{eqb-true, eqb-false, eq-eqb}
 use lib.Dec.{eqb}
+use Rattle.types.specs.declared.Origin.{Origin}
 use Rattle.types.proofs.Clashes.{not-both}
 use Rattle.keyed.proofs.Orders.{both-left, both-right, both-intro}
 use Rattle.register.specs.Register.{recordsOf}
+use Rattle.registers.specs.Registers.{chosen}
 use Rattle.ledger.specs.Routes.{routesOf}
 use Rattle.history.specs.Calls.{Call, file, withdraw, clear, keep, drop, rejudge, Scope, scope, Tables, callAt, scopeAt, said, KeptRoute, routeRead, findRecord, findRoute, providersOf, known}
 use Rattle.history.specs.Replies.{shown, accepted}
-use Rattle.history.specs.Filings.{filedBy, filedList, keptBy, keptRouteAt}
+use Rattle.history.specs.Filings.{sameOrigin, filedBy, filedList, keptBy, keptRouteAt}
 use Rattle.history.specs.Reorderings.{OnPair, Clears, OnRoute}
+use Rattle.history.proofs.Origins.{origin-is, origin-self}
 use Rattle.history.specs.Sanity.{LastFiled, by-filing, list-held-first, KeepsAs, LastKept, by-keeping, route-held-first}
 
 -- ---- any scan
@@ -105,76 +108,84 @@ module _ {X : Type 0} (by : Call → Option X → Option X) (Gives : Call → X 
 
 -- ---- filings
 
-module _ (source customer : ℕ) where
-  -- A filing of this list for the pair.
+module _ (o : Origin) (source customer : ℕ) where
+  -- A filing of this list for the pair in this register.
   abbrev Files : Call → List ℕ → Type 0
-  Files c list = c ≡ file source customer list
+  Files c list = c ≡ file o source customer list
 
-  -- A step on the pair, or a clearing of the source.
+  -- A step on the pair there, or a clearing of the source.
   abbrev OnList : Scope → Type 0
-  OnList c = OnPair source customer c ⊎ Clears source c
+  OnList c = OnPair o source customer c ⊎ Clears o source c
 
   -- The test of a pair.
-  data Pair (s c : ℕ) : Type 0 where
-    same : s ≡ source → c ≡ customer → eqb c customer && eqb s source ≡ true → Pair s c
-    other : ((s ≡ source) × (c ≡ customer) → ⊥) → eqb c customer && eqb s source ≡ false → Pair s c
+  data Pair (p : Origin) (s c : ℕ) : Type 0 where
+    same : p ≡ o → s ≡ source → c ≡ customer → sameOrigin p o && (eqb c customer && eqb s source) ≡ true → Pair p s c
+    other : ((p ≡ o) × (s ≡ source) × (c ≡ customer) → ⊥) → sameOrigin p o && (eqb c customer && eqb s source) ≡ false → Pair p s c
+
+  -- The same register.
+  same-origin : (p : Origin) → p ≡ o → sameOrigin p o ≡ true
+  same-origin p e = rw e (origin-self o)
 
   -- The test tells whether it is the pair.
-  pair : (s c : ℕ) → Pair s c
-  pair s c = go (eqb c customer && eqb s source) refl
+  pair : (p : Origin) (s c : ℕ) → Pair p s c
+  pair p s c = go (sameOrigin p o && (eqb c customer && eqb s source)) refl
     where
-      go : (b : Bool) → (eqb c customer && eqb s source) ≡ b → Pair s c
-      go true e = same (eqb-true _ _ (both-right (eqb c customer) _ e)) (eqb-true _ _ (both-left _ _ e)) e
-      go false e = other (λ p. not-both e (both-intro _ _ (eq-eqb c customer (p .1)) (eq-eqb s source (p .0)))) e
+      go : (b : Bool) → (sameOrigin p o && (eqb c customer && eqb s source)) ≡ b → Pair p s c
+      go true e =
+          let f = both-right (sameOrigin p o) _ e in
+          same (origin-is p o (both-left _ _ e)) (eqb-true _ _ (both-right (eqb c customer) _ f)) (eqb-true _ _ (both-left _ _ f)) e
+      go false e =
+          other (λ q. not-both e (both-intro _ _ (same-origin p (q .0)) (both-intro _ _ (eq-eqb c customer (q .2)) (eq-eqb s source (q .1))))) e
 
   -- What each call does to the list of the pair.
-  file-effect : (c : Call) → Effect (filedBy source customer) Files OnList c
-  file-effect (file s c list) = go (pair s c)
+  file-effect : (c : Call) → Effect (filedBy o source customer) Files OnList c
+  file-effect (file p s c list) = go (pair p s c)
     where
-      go : Pair s c → Effect (filedBy source customer) Files OnList (file s c list)
-      go (same p q e) = gives list (λ i. file (p i) (q i) list) (inl (p, q)) (λ v. rw e)
+      go : Pair p s c → Effect (filedBy o source customer) Files OnList (file p s c list)
+      go (same u v w e) = gives list (λ i. file (u i) (v i) (w i) list) (inl (u, v, w)) (λ v. rw e)
       go (other n e) = misses (λ t. elim t [ inl p ↦ n p | inr f ↦ f ]) (λ v. rw e)
-  file-effect (withdraw s c) = go (pair s c)
+  file-effect (withdraw p s c) = go (pair p s c)
     where
-      go : Pair s c → Effect (filedBy source customer) Files OnList (withdraw s c)
-      go (same p q e) = ends (inl (p, q)) (λ v. rw e)
+      go : Pair p s c → Effect (filedBy o source customer) Files OnList (withdraw p s c)
+      go (same u v w e) = ends (inl (u, v, w)) (λ v. rw e)
       go (other n e) = misses (λ t. elim t [ inl p ↦ n p | inr f ↦ f ]) (λ v. rw e)
-  file-effect (clear s) = go (eqb s source) refl
+  file-effect (clear p s) = go (sameOrigin p o && eqb s source) refl
     where
-      go : (b : Bool) → eqb s source ≡ b → Effect (filedBy source customer) Files OnList (clear s)
-      go true e = ends (inr (eqb-true _ _ e)) (λ v. rw e)
-      go false e = misses (λ t. elim t [ inl f ↦ f | inr p ↦ eqb-false _ _ e p ]) (λ v. rw e)
+      go : (b : Bool) → (sameOrigin p o && eqb s source) ≡ b → Effect (filedBy o source customer) Files OnList (clear p s)
+      go true e = ends (inr (origin-is p o (both-left _ _ e), eqb-true _ _ (both-right (sameOrigin p o) _ e))) (λ v. rw e)
+      go false e =
+          misses (λ t. elim t [ inl f ↦ f | inr q ↦ not-both e (both-intro _ _ (same-origin p (q .0)) (eq-eqb s source (q .1))) ]) (λ v. rw e)
   file-effect (keep k) = misses (λ t. elim t [ inl f ↦ f | inr f ↦ f ]) (λ v. refl)
   file-effect (drop n) = misses (λ t. elim t [ inl f ↦ f | inr f ↦ f ]) (λ v. refl)
   file-effect rejudge = misses (λ t. elim t [ inl f ↦ f | inr f ↦ f ]) (λ v. refl)
 
   -- A filing of the pair gives its list.
-  file-given : (c : Call) (list : List ℕ) (v : Option (List ℕ)) → Files c list → filedBy source customer c v ≡ some list
-  file-given c list v e = rw (e, eq-eqb customer customer refl, eq-eqb source source refl)
+  file-given : (c : Call) (list : List ℕ) (v : Option (List ℕ)) → Files c list → filedBy o source customer c v ≡ some list
+  file-given c list v e = rw (e, origin-self o, eq-eqb customer customer refl, eq-eqb source source refl)
 
   module _ (t : Tables) (l : List Call) where
     -- The list that t holds.
     abbrev first-list : Option (List ℕ)
-    first-list = providersOf (findRecord (customer, source) (recordsOf (t .register)))
+    first-list = providersOf (findRecord (customer, source) (recordsOf (chosen o (t .registers))))
 
     -- The list that is filed is such a scan.
-    filed-scan : (i : ℕ) → filedList t l i source customer ≡ scan (filedBy source customer) Files OnList file-effect file-given first-list t l i
+    filed-scan : (i : ℕ) → filedList t l i o source customer ≡ scan (filedBy o source customer) Files OnList file-effect file-given first-list t l i
     unfolding filedList scan
     filed-scan zero = refl
     filed-scan (suc i) = rw (filed-scan i)
 
     -- What is filed is the last accepted list.
-    pub filed-is-last : (i : ℕ) (list : List ℕ) → (filedList t l i source customer ≡ some list) ↔ LastFiled t l i source customer list
+    pub filed-is-last : (i : ℕ) (list : List ℕ) → (filedList t l i o source customer ≡ some list) ↔ LastFiled t l i o source customer list
     filed-is-last i list = (
-      λ e. forth (scan-finds (filedBy source customer) Files OnList file-effect file-given first-list t l i list (sym (filed-scan i) ∙ e)),
-      λ p. filed-scan i ∙ found-scan (filedBy source customer) Files OnList file-effect file-given first-list t l i list (back p),
+      λ e. forth (scan-finds (filedBy o source customer) Files OnList file-effect file-given first-list t l i list (sym (filed-scan i) ∙ e)),
+      λ p. filed-scan i ∙ found-scan (filedBy o source customer) Files OnList file-effect file-given first-list t l i list (back p),
     )
       where
-        forth : Last (filedBy source customer) Files OnList file-effect file-given first-list t l i list → LastFiled t l i source customer list
+        forth : Last (filedBy o source customer) Files OnList file-effect file-given first-list t l i list → LastFiled t l i o source customer list
         forth (by-call index b g a s) = by-filing index b g a (λ j c d q. (λ x. s j c d q (inl x), λ x. s j c d q (inr x)))
         forth (held-first e s) = list-held-first e (λ j c d q. (λ x. s j c d q (inl x), λ x. s j c d q (inr x)))
 
-        back : LastFiled t l i source customer list → Last (filedBy source customer) Files OnList file-effect file-given first-list t l i list
+        back : LastFiled t l i o source customer list → Last (filedBy o source customer) Files OnList file-effect file-given first-list t l i list
         back (by-filing index b g a s) = by-call index b g a (λ j c d q x. elim x [ inl y ↦ s j c d q .0 y | inr y ↦ s j c d q .1 y ])
         back (list-held-first e s) = held-first e (λ j c d q x. elim x [ inl y ↦ s j c d q .0 y | inr y ↦ s j c d q .1 y ])
 
@@ -183,9 +194,9 @@ module _ (source customer : ℕ) where
 module _ (number : ℕ) where
   -- What each call does to the route under the number.
   keep-effect : (c : Call) → Effect (keptBy number) (KeepsAs number) (OnRoute number) c
-  keep-effect (file s c list) = misses (λ f. f) (λ v. refl)
-  keep-effect (withdraw s c) = misses (λ f. f) (λ v. refl)
-  keep-effect (clear s) = misses (λ f. f) (λ v. refl)
+  keep-effect (file o s c list) = misses (λ f. f) (λ v. refl)
+  keep-effect (withdraw o s c) = misses (λ f. f) (λ v. refl)
+  keep-effect (clear o s) = misses (λ f. f) (λ v. refl)
   keep-effect (keep k) = go (eqb (k .number) number) refl
     where
       go : (b : Bool) → eqb (k .number) number ≡ b → Effect (keptBy number) (KeepsAs number) (OnRoute number) (keep k)

@@ -1,5 +1,5 @@
 -- Demands 2 and 3 hold. Assumes nothing.
-use Prim.Native.Nat.{ℕ, zero, suc, _<_}
+use Prim.Native.Nat.{ℕ, zero, suc, _≤_, _<_}
 use mathlib.Core.Path.{_≡_, refl, sym, ap, _∙_}
 use mathlib.Core.Bool.{Bool, true, false, cond}
 use mathlib.Core.List.{List, [], map}
@@ -9,6 +9,8 @@ use borrow.Author.Tests.{eqb-true, eqb-false}
 use lib.Dec.{eqb, ltb}
 use native.Mathlib.Decide.{decLt}
 use lib.ListN.{length, List·getD-eq-default}
+use Rattle.types.specs.declared.Origin.{Origin}
+use Rattle.types.specs.declared.Origin.the-variants.{Public, Overrides}
 use Rattle.types.specs.declared.Verdict.{Verdict}
 use Rattle.types.specs.declared.Answer.{Answer}
 use Rattle.types.specs.declared.Filed.{Filed}
@@ -18,6 +20,7 @@ use Rattle.types.specs.declared.Removal.the-variants as removal
 use Rattle.types.specs.declared.Cleared.{Cleared}
 use Rattle.types.specs.declared.Cleared.the-variants as clearing
 use Rattle.types.specs.declared.Judged.the-variants.{Answered, Refused}
+use Rattle.types.specs.declared.Hopped.the-variants as hopped
 use Rattle.types.specs.declared.Rejudged.the-variants.{Changed}
 use Rattle.types.specs.declared.Refusal.{Refusal}
 use Rattle.types.specs.Numbers.{verdictNumber, placeA, placeB, verdictOf}
@@ -27,15 +30,16 @@ use Rattle.keyed.proofs.Orders.{ordered-pairs, ordered-ℕ}
 use Rattle.keyed.proofs.Finds.{find-key, every-found, same-finds}
 use Rattle.keyed.proofs.Mapping.{find-map}
 use Rattle.rules.specs.Hops.{HopFunction}
-use Rattle.rules.specs.Records.{Record, hopOf}
+use Rattle.rules.specs.Records.{Record, listOf, counting}
 use Rattle.rules.specs.Verdicts.{judged}
 use Rattle.rules.specs.Judging.{judgedRoute}
 use Rattle.rules.proofs.Drafting.{draft-judged, draft-route}
-use Rattle.register.specs.Register.{registerWords, recordsOf, registerOk}
+use Rattle.register.specs.Register.{registerWords, lastSource, recordsOf, registerOk}
 use Rattle.register.specs.Register as register
 use Rattle.register.specs.Calls.{recordFor}
 use Rattle.register.proofs.Holding as holding
 use Rattle.register.proofs.Refusals.{Register}
+use Rattle.registers.specs.Registers.{chosen, hopIn, BothFormed}
 use Rattle.ledger.specs.Routes.{ledgerWords, ledgerOk, Route, routesOf, routeOk, keyOf}
 use Rattle.ledger.specs.Routes as ledger
 use Rattle.ledger.specs.Calls.{stamped, countDiffering}
@@ -44,19 +48,22 @@ use Rattle.ledger.proofs.Holding as ledger-holding
 use Rattle.ledger.proofs.Refusals.{Ledger}
 use Rattle.rejudge.specs.Rejudging.{rejudgedRoute}
 use Rattle.rejudge.proofs.Rejudgements.{some-numbers, rejudged-ok}
-use Rattle.filter.specs.Calls.{Keeping, hopIn, judgeAnswer, keepEffect, rejudgeEffect}
+use Rattle.filter.specs.Calls.{Keeping, judgeAnswer, keepEffect, rejudgeEffect, hopAnswer, lookupList}
+use Rattle.filter.proofs.Judgings.{judge-answers}
+use Rattle.filter.proofs.Lookups.{hop-answers, lookup-answers}
 use Rattle.history.specs.Calls.{Call, file, withdraw, clear, keep, drop, rejudge, filed, removed, cleared, kept, rejudged, Scope, of-pair, of-source, of-route, idle, scope, Tables, Formed, tables, says, callAt, scopeAt, said, last, findRecord, findRoute, providersOf, known}
 use Rattle.history.specs.Replies.{ModelReply, new, replaced, done, gone, refused, shownFiled, shownRemoval, shownCleared, shown, forRoom, accepted}
-use Rattle.history.specs.Model.{numberOf, findKept, refusal, after, replyAt, written}
-use Rattle.history.specs.Filings.{filedList, keptRouteAt, hopFiled, hopsAt, storedBy, storedAt}
+use Rattle.history.specs.Model.{listsOf, listsIn, numberOf, findKept, refusal, after, replyAt, written}
+use Rattle.history.specs.Filings.{filedList, keptRouteAt, hopFiledOver, listFiledOver, hopsAt, listAt, storedBy, storedAt}
 use Rattle.history.specs.Reorderings.{IsRegisterStep, IsStep, Reordering}
 use Rattle.history.specs.Demands.{Roomy, Drafted, Demand2, Demand3, Demands}
+use Rattle.history.proofs.Origins.{both-formed}
 use Rattle.history.proofs.Entries.{once}
 use Rattle.history.proofs.Matching.{RoomyModel, same-replies, same-final}
 use Rattle.history.proofs.KeptRoutes.{on-a-ground, rejudged-known}
-use Rattle.history.proofs.Simulating.{modelOf, Holds, records-are, is-register, register-passes, routes-are, is-ledger, keep-step, rejudge-step, rejudge-counts, history-holds, history-stores, history-replies, history-written}
+use Rattle.history.proofs.Simulating.{wordsOf, hopsOf, modelOf, Holds, records-are, is-register, chosen-words, words-hops, routes-are, is-ledger, keep-step, rejudge-step, rejudge-counts, history-holds, history-stores, history-replies, history-written}
 use Rattle.history.proofs.FiledLists.{filed-list, kept-route}
-use Rattle.history.proofs.FiledHops.{filed-hops}
+use Rattle.history.proofs.FiledHops.{listsHeld, filed-over, list-over}
 
 -- A keeping that is answered answers what is judged.
 keep-answered : (o : Option Refusal) (hop : HopFunction) (role neighbour : ℕ) (attribute ws ws′ : List ℕ) (a : Answer)
@@ -72,29 +79,54 @@ module _ (t : Tables) (f : Formed t) (l : List Call) (i : ℕ) where
   holds-at : Holds (tables t l i) (after t l i)
   holds-at = history-holds t f l i
 
-  -- The register is the words of the model's lists, the ledger those of the stored routes.
-  register-is : tables t l i .register ≡ register.registerOf (holds-at .lists)
-  register-is = ap (λ t. t .register) (holds-at .tables-are)
+  -- The registers are the words of the model's lists, the ledger those of the stored routes.
+  registers-are : tables t l i .registers ≡ wordsOf (holds-at .lists)
+  registers-are = ap (λ t. t .registers) (holds-at .tables-are)
+
+  register-is : (o : Origin) → chosen o (tables t l i .registers) ≡ register.registerOf (listsOf o (holds-at .lists))
+  register-is o = ap (chosen o) registers-are ∙ chosen-words o (holds-at .lists)
 
   ledger-is : tables t l i .ledger ≡ ledger.ledgerOf (holds-at .stored)
   ledger-is = ap (λ t. t .ledger) (holds-at .tables-are)
 
   -- The records are the model's lists.
-  lists-are : recordsOf (tables t l i .register) ≡ after t l i .lists
-  lists-are = ap recordsOf register-is ∙ records-are (holds-at .lists) (holds-at .lists-ok) ∙ sym (ap (λ m. m .lists) (holds-at .model-is))
+  model-lists : holds-at .lists ≡ after t l i .lists
+  model-lists = sym (ap (λ m. m .lists) (holds-at .model-is))
 
-  -- The hops are those over the filed lists.
-  hops-are : hopOf (holds-at .lists) ≡ hopsAt t l i
+  lists-are : (o : Origin) → recordsOf (chosen o (tables t l i .registers)) ≡ listsIn o (after t l i)
+  lists-are o = ap recordsOf (register-is o) ∙ records-are (listsOf o (holds-at .lists)) (holds-at .lists-ok o) ∙ ap (listsOf o) model-lists
+
+  -- What they hold is what is filed.
+  held-filed : (o : Origin) → listsHeld (listsOf o (holds-at .lists)) ≡ filedList t l i o
+  held-filed o = ap (λ ls. listsHeld (listsOf o ls)) model-lists ∙ (λ j source customer. filed-list o source customer t f l i j)
+
+  -- The hops are those over the filed lists, and the list that counts is one of these.
+  hops-are : hopsOf (holds-at .lists) ≡ hopsAt t l i
   hops-are =
-      filed-hops (holds-at .lists) (holds-at .lists-ok)
-      ∙ ap (λ rs. hopFiled (λ source customer. providersOf (findRecord (customer, source) rs))) (sym (ap (λ m. m .lists) (holds-at .model-is)))
-      ∙ ap hopFiled (λ j source customer. filed-list source customer t f l i j)
+      filed-over (holds-at .lists .public) (holds-at .lists .overrides) (holds-at .lists-ok Public) (holds-at .lists-ok Overrides)
+      ∙ (λ j. hopFiledOver (held-filed Public j) (held-filed Overrides j))
 
-  -- Both tables keep the word rules.
-  formed-register : (length (tables t l i .register) ≡ registerWords) × (registerOk (tables t l i .register) ≡ true)
-  formed-register =
-      let r : Register (register.registerOf (holds-at .lists)) = is-register (holds-at .lists) (holds-at .lists-ok) in
-      rw register-is (r .long, r .ok)
+  list-is : (source x : ℕ) → listOf (counting (holds-at .lists .public) (holds-at .lists .overrides) x) source x ≡ listAt t l i source x
+  list-is source x =
+      list-over (holds-at .lists .public) (holds-at .lists .overrides) (holds-at .lists-ok Public) (holds-at .lists-ok Overrides) source x
+      ∙ (λ j. listFiledOver (held-filed Public j) (held-filed Overrides j) source x)
+
+  -- They are the model's.
+  pub hops-model : hopsAt t l i ≡ hopsOf (after t l i .lists)
+  hops-model = sym hops-are ∙ ap hopsOf model-lists
+
+  pub list-model : (source x : ℕ) → listAt t l i source x ≡ listOf (counting (after t l i .lists .public) (after t l i .lists .overrides) x) source x
+  list-model source x = sym (list-is source x) ∙ ap (λ ls. listOf (counting (ls .public) (ls .overrides) x) source x) model-lists
+
+  -- The tables keep the word rules.
+  formed-register : (o : Origin)
+      → (length (chosen o (tables t l i .registers)) ≡ registerWords) × (registerOk (chosen o (tables t l i .registers)) ≡ true)
+  formed-register o =
+      let r : Register (register.registerOf (listsOf o (holds-at .lists))) = is-register (listsOf o (holds-at .lists)) (holds-at .lists-ok o) in
+      rw (register-is o) (r .long, r .ok)
+
+  formed-both : BothFormed (tables t l i .registers)
+  formed-both = both-formed (tables t l i .registers) (λ o. formed-register o .0) (λ o. formed-register o .1)
 
   formed-ledger : (length (tables t l i .ledger) ≡ ledgerWords) × (ledgerOk (tables t l i .ledger) ≡ true)
   formed-ledger =
@@ -110,21 +142,39 @@ module _ (t : Tables) (f : Formed t) (l : List Call) (i : ℕ) where
       ∙ ap (λ m. findKept number (m .routes)) (sym (holds-at .model-is))
       ∙ kept-route number t f l i
 
+  -- The hops over the words of the registers are those over the filed lists.
+  pub hops-over : hopIn (tables t l i .registers) ≡ hopsAt t l i
+  hops-over = ap hopIn registers-are ∙ words-hops (holds-at .lists) (holds-at .lists-ok) ∙ hops-are
+
   -- Judge answers over the filed lists.
   judge-answer : (role neighbour : ℕ) (attribute : List ℕ)
-      → judgeAnswer (tables t l i .register) role neighbour attribute ≡ judgedRoute (hopsAt t l i) role neighbour attribute
-  unfolding judgeAnswer firstGiven
+      → judgeAnswer (tables t l i .registers) role neighbour attribute ≡ judgedRoute (hopsAt t l i) role neighbour attribute
   judge-answer role neighbour attribute =
-      rw (register-is, register-passes (holds-at .lists) (holds-at .lists-ok) [], records-are (holds-at .lists) (holds-at .lists-ok), hops-are)
+      judge-answers (tables t l i .registers) role neighbour attribute (formed-both .long) (formed-both .ok)
+      ∙ ap (λ hop. judgedRoute hop role neighbour attribute) hops-over
+
+  -- So do Hop and the look-up.
+  hop-answer : (x y : ℕ) → hopAnswer (tables t l i .registers) x y ≡ hopped.Answered (hopsAt t l i x y)
+  hop-answer x y = hop-answers (tables t l i .registers) x y formed-both ∙ ap (λ hop. hopped.Answered (hop x y)) hops-over
+
+  lookup-answer : (source customer : ℕ) → source ≤ lastSource → 1 ≤ customer
+      → lookupList (tables t l i .registers) source customer ≡ listAt t l i source customer
+  lookup-answer source customer a b =
+      lookup-answers (tables t l i .registers) source customer formed-both a b
+      ∙ (λ j. listOf (counting (records-in Public j) (records-in Overrides j) customer) source customer)
+      ∙ list-is source customer
+    where
+      records-in : (o : Origin) → recordsOf (chosen o (tables t l i .registers)) ≡ listsOf o (holds-at .lists)
+      records-in o = ap recordsOf (register-is o) ∙ records-are (listsOf o (holds-at .lists)) (holds-at .lists-ok o)
 
   -- So does a keeping that is answered.
-  keep-answer : (k : Keeping) (a : Answer) → kept (keepEffect (tables t l i .register) (tables t l i .ledger) k .answer) ≡ kept (Answered a)
+  keep-answer : (k : Keeping) (a : Answer) → kept (keepEffect (tables t l i .registers) (tables t l i .ledger) k .answer) ≡ kept (Answered a)
       → judgedRoute (hopsAt t l i) (k .role) (k .neighbour) (k .attribute) ≡ Answered a
   keep-answer k a e =
       let step = keep-step (holds-at .lists) (holds-at .stored) (holds-at .lists-ok) (holds-at .routes-ok) k in
-      let g : keepEffect (tables t l i .register) (tables t l i .ledger) k .answer ≡ Answered a = cc in
+      let g : keepEffect (tables t l i .registers) (tables t l i .ledger) k .answer ≡ Answered a = cc in
       let o : Option Refusal = refusal (modelOf (holds-at .lists) (holds-at .stored)) (keep k) in
-      rw (← hops-are) (keep-answered o _ (k .role) (k .neighbour) (k .attribute) _ _ a (rw (register-is, ledger-is, step) at g))
+      rw (← hops-are) (keep-answered o _ (k .role) (k .neighbour) (k .attribute) _ _ a (rw (registers-are, ledger-is, step) at g))
 
   -- A re-judging counts the routes that it changes.
   rejudge-count : callAt l i ≡ rejudge
@@ -138,14 +188,11 @@ unfolding storedAt tables after
 stored-at t f l number zero = refl
 stored-at t f l number (suc i) =
     history-stores t f l i number
-    ∙ ap (λ r. cond (accepted r) (storedBy (hopIn (tables t l i .register)) number (callAt l i) (before i)) (before i)) (sym (history-replies t f l i))
-    ∙ (λ j. cond (accepted (shown (said t l i))) (storedBy (hops j) number (callAt l i) (stored-at t f l number i j)) (stored-at t f l number i j))
+    ∙ ap (λ r. cond (accepted r) (storedBy (hopIn (tables t l i .registers)) number (callAt l i) (before i)) (before i)) (sym (history-replies t f l i))
+    ∙ (λ j. cond (accepted (shown (said t l i))) (storedBy (hops-over t f l i j) number (callAt l i) (stored-at t f l number i j)) (stored-at t f l number i j))
   where
     before : ℕ → Option Route
     before k = findRoute number (routesOf (tables t l k .ledger))
-
-    hops : hopIn (tables t l i .register) ≡ hopsAt t l i
-    hops = ap hopIn (register-is t f l i) ∙ ap hopOf (records-are (holds-at t f l i .lists) (holds-at t f l i .lists-ok)) ∙ hops-are t f l i
 
 -- A record is its key and its list.
 record-found : (k : ℕ × ℕ) (rs : List Record)
@@ -159,21 +206,24 @@ record-found k rs = go (findRecord k rs) refl
         λ i. some (record { customer = q i .0; source = q i .1; providers = r .providers })
 
 module _ (t : Tables) (f : Formed t) (l m : List Call) (i j : ℕ) where
-  -- The same lists filed: the same register.
-  registers-alike : ((source customer : ℕ) → filedList t l i source customer ≡ filedList t m j source customer) → tables t l i .register ≡ tables t m j .register
-  registers-alike e = register-is t f l i ∙ ap register.registerOf same ∙ sym (register-is t f m j)
+  -- The same lists filed in a register: the same words there.
+  registers-alike : (o : Origin) → ((source customer : ℕ) → filedList t l i o source customer ≡ filedList t m j o source customer)
+      → chosen o (tables t l i .registers) ≡ chosen o (tables t m j .registers)
+  registers-alike o e = register-is t f l i o ∙ ap register.registerOf same ∙ sym (register-is t f m j o)
     where
-      there : (n : List Call) (x : ℕ) (k : ℕ × ℕ)
-          → findRecord k (holds-at t f n x .lists) ≡ Option·map (λ list. recordFor (k .1) (k .0) list) (filedList t n x (k .1) (k .0))
-      there n x k =
-          record-found k (holds-at t f n x .lists)
-          ∙ ap (λ rs. Option·map (λ list. recordFor (k .1) (k .0) list) (providersOf (findRecord k rs))) (sym (ap (λ z. z .lists) (holds-at t f n x .model-is)))
-          ∙ ap (Option·map (λ list. recordFor (k .1) (k .0) list)) (filed-list (k .1) (k .0) t f n x)
+      held : (n : List Call) (x : ℕ) → List Record
+      held n x = listsOf o (holds-at t f n x .lists)
 
-      same : holds-at t f l i .lists ≡ holds-at t f m j .lists
+      there : (n : List Call) (x : ℕ) (k : ℕ × ℕ)
+          → findRecord k (held n x) ≡ Option·map (λ list. recordFor (k .1) (k .0) list) (filedList t n x o (k .1) (k .0))
+      there n x k =
+          record-found k (held n x)
+          ∙ ap (λ lists. Option·map (λ list. recordFor (k .1) (k .0) list) (lists (k .1) (k .0))) (held-filed t f n x o)
+
+      same : held l i ≡ held m j
       same =
-          same-finds register.keyOf samePair beforePair ordered-pairs (holds-at t f l i .lists) (holds-at t f m j .lists)
-          (holding.in-order (holds-at t f l i .lists) (holds-at t f l i .lists-ok)) (holding.in-order (holds-at t f m j .lists) (holds-at t f m j .lists-ok))
+          same-finds register.keyOf samePair beforePair ordered-pairs (held l i) (held m j)
+          (holding.in-order (held l i) (holds-at t f l i .lists-ok o)) (holding.in-order (held m j) (holds-at t f m j .lists-ok o))
           (λ k. there l i k ∙ ap (Option·map (λ list. recordFor (k .1) (k .0) list)) (e (k .1) (k .0)) ∙ sym (there m j k))
 
   -- The same routes stored: the same ledger.
@@ -193,18 +243,21 @@ module _ (t : Tables) (f : Formed t) (l m : List Call) (i j : ℕ) where
 -- Demand 2.
 pub demand2 : (t : Tables) → Formed t → Demand2 t
 demand2 t f = record {
-  lists-held = λ l i source customer. ap (λ rs. providersOf (findRecord (customer, source) rs)) (lists-are t f l i) ∙ filed-list source customer t f l i;
+  lists-held =
+      λ l i o source customer. ap (λ rs. providersOf (findRecord (customer, source) rs)) (lists-are t f l i o) ∙ filed-list o source customer t f l i;
   routes-held = kept-are t f;
   verdicts-held = λ l i number. stored-at t f l number i;
-  one-list = λ l i. once register.keyOf samePair beforePair ordered-pairs _ _ (holding.ordered _ (formed-register t f l i .1));
+  one-list = λ l i o. once register.keyOf samePair beforePair ordered-pairs _ _ (holding.ordered _ (formed-register t f l i o .1));
   one-route = λ l i. once keyOf eqb ltb ordered-ℕ _ _ (ledger-holding.ordered _ (formed-ledger t f l i .1));
-  register-formed = formed-register t f;
+  registers-formed = formed-register t f;
   ledger-formed = formed-ledger t f;
   register-exact = registers-alike t f;
   ledger-exact = ledgers-alike t f;
   judge-answers = judge-answer t f;
   keep-answers = λ l i k a c e. keep-answer t f l i k a (rw c at e);
   draft-answers = λ l i role neighbour attribute a e. draft-route (hopsAt t l i) role neighbour attribute a e;
+  hop-answers = hop-answer t f;
+  lookup-answers = lookup-answer t f;
   rejudge-counts = rejudge-count t f;
 }
 
@@ -250,17 +303,17 @@ cleared-back (clearing.Refused r) = refl
 
 -- Register steps that show the same answer the same.
 same-shown : (t u : Tables) (c : Call) → IsRegisterStep (scope c) → shown (says t c) ≡ shown (says u c) → says t c ≡ says u c
-same-shown t u (file s c list) g e = ap filed (sym (filed-back _) ∙ ap filedBack e ∙ filed-back _)
-same-shown t u (withdraw s c) g e = ap removed (sym (removal-back _) ∙ ap removalBack e ∙ removal-back _)
-same-shown t u (clear s) g e = ap cleared (sym (cleared-back _) ∙ ap clearedBack e ∙ cleared-back _)
+same-shown t u (file o s c list) g e = ap filed (sym (filed-back _) ∙ ap filedBack e ∙ filed-back _)
+same-shown t u (withdraw o s c) g e = ap removed (sym (removal-back _) ∙ ap removalBack e ∙ removal-back _)
+same-shown t u (clear o s) g e = ap cleared (sym (cleared-back _) ∙ ap clearedBack e ∙ cleared-back _)
 same-shown t u (keep k) g e = absurd g
 same-shown t u (drop n) g e = absurd g
 same-shown t u rejudge g e = absurd g
 
 -- A register step is a step.
 register-step : (c : Scope) → IsRegisterStep c → IsStep c
-register-step (of-pair s c) g = tt
-register-step (of-source s) g = tt
+register-step (of-pair o s c) g = tt
+register-step (of-source o s) g = tt
 register-step (of-route n) g = absurd g
 register-step idle g = absurd g
 
@@ -312,11 +365,11 @@ last-verdicts t f l number r e = rw (← hops-are t f l (length l)) (go (findRou
     stored = held .stored
 
     hop : HopFunction
-    hop = hopOf (held .lists)
+    hop = hopsOf (held .lists)
 
     routes-left : routesOf (last t l .ledger) ≡ map (rejudgedRoute hop) stored
     routes-left =
-        ap (λ u. routesOf (rejudgeEffect (u .register) (u .ledger) .words)) (held .tables-are)
+        ap (λ u. routesOf (rejudgeEffect (u .registers) (u .ledger) .words)) (held .tables-are)
         ∙ ap (λ s. routesOf (s .words)) (rejudge-step (held .lists) stored (held .lists-ok) (held .routes-ok))
         ∙ routes-are (map (rejudgedRoute hop) stored) (rejudged-ok hop stored (held .routes-ok))
 
@@ -353,9 +406,9 @@ module _ (t : Tables) (f : Formed t) (l m : List Call) (r : Reordering l m) (g :
 pub demand3 : (t : Tables) → Formed t → Demand3 t
 demand3 t f = record {
   as-model = history-replies t f;
-  lists-filed = λ l i source customer. filed-list source customer t f l i;
+  lists-filed = λ l i o source customer. filed-list o source customer t f l i;
   routes-kept = λ l i number. kept-route number t f l i;
-  register-written = λ l i. register-is t f l i ∙ ap register.registerOf (sym (ap (λ m. m .lists) (holds-at t f l i .model-is)));
+  register-written = λ l i o. register-is t f l i o ∙ ap (λ ls. register.registerOf (listsOf o ls)) (model-lists t f l i);
   written-out = history-written t f;
   verdicts = last-verdicts t f;
   same-answers = answers-alike t f;

@@ -5,6 +5,8 @@ use mathlib.Core.Bool.{true}
 use mathlib.Core.List.{List}
 use mathlib.Core.Option.{Option, Option·map}
 use lib.ListN.{length, getD, replicate}
+use Rattle.types.specs.declared.Origin.{Origin}
+use Rattle.types.specs.declared.Origin.the-variants.{Public, Overrides}
 use Rattle.types.specs.declared.Filed.{Filed}
 use Rattle.types.specs.declared.Removal.{Removal}
 use Rattle.types.specs.declared.Cleared.{Cleared}
@@ -18,16 +20,17 @@ use Rattle.register.specs.Register as register
 pub use Rattle.register.specs.Calls.{findRecord}
 pub use Rattle.ledger.specs.Calls.{findRoute}
 use Rattle.register.specs.Calls.{fileEffect, withdrawEffect, clearEffect}
+use Rattle.registers.specs.Registers.{Registers, lent, chosen}
 use Rattle.ledger.specs.Routes.{ledgerWords, Route, ledgerOk}
 use Rattle.ledger.specs.Routes as ledger
 use Rattle.ledger.specs.Calls.{dropEffect}
 use Rattle.filter.specs.Calls.{pathIn, Keeping, keepEffect, rejudgeEffect}
 
--- The calls that can change a table, with their arguments: any numbers and any bytes.
+-- The calls that can change a table, with their arguments: any numbers and any bytes. File, Withdraw and Clear work on the register that they name.
 pub data Call : Type 0 where
-  file : (source customer : ℕ) → (list : List ℕ) → Call
-  withdraw : (source customer : ℕ) → Call
-  clear : (source : ℕ) → Call
+  file : (o : Origin) (source customer : ℕ) → (list : List ℕ) → Call
+  withdraw : (o : Origin) (source customer : ℕ) → Call
+  clear : (o : Origin) (source : ℕ) → Call
   keep : Keeping → Call
   drop : (number : ℕ) → Call
   rejudge : Call
@@ -40,48 +43,53 @@ pub data Reply : Type 0 where
   kept : Judged → Reply
   rejudged : Rejudged → Reply
 
--- The two lent tables.
+-- The lent tables: two registers and the ledger.
 pub record Tables : Type 0 where
-  pub register : List ℕ
+  pub registers : Registers
   pub ledger : List ℕ
 
--- The answer to a call that is lent the tables.
+-- The answer to a call that is lent the tables. Keep and Re-judge are lent both registers, File, Withdraw and Clear their own only.
 abbrev pub says : Tables → Call → Reply
-says t (file source customer list) = filed (fileEffect (t .register) source customer list .answer)
-says t (withdraw source customer) = removed (withdrawEffect (t .register) source customer .answer)
-says t (clear source) = cleared (clearEffect (t .register) source .answer)
-says t (keep k) = kept (keepEffect (t .register) (t .ledger) k .answer)
+says t (file o source customer list) = filed (fileEffect (chosen o (t .registers)) source customer list .answer)
+says t (withdraw o source customer) = removed (withdrawEffect (chosen o (t .registers)) source customer .answer)
+says t (clear o source) = cleared (clearEffect (chosen o (t .registers)) source .answer)
+says t (keep k) = kept (keepEffect (t .registers) (t .ledger) k .answer)
 says t (drop number) = removed (dropEffect (t .ledger) number .answer)
-says t rejudge = rejudged (rejudgeEffect (t .register) (t .ledger) .answer)
+says t rejudge = rejudged (rejudgeEffect (t .registers) (t .ledger) .answer)
 
--- The tables with another register, or with another ledger.
-abbrev pub withRegister : Tables → List ℕ → Tables
-withRegister t words = record { register = words; ledger = t .ledger }
+-- The tables with other words in one register, or with another ledger.
+abbrev pub rewritten : Origin → Registers → List ℕ → Registers
+rewritten Public reg words = lent words (reg .overrides)
+rewritten Overrides reg words = lent (reg .public) words
+
+abbrev pub withRegister : Tables → Origin → List ℕ → Tables
+withRegister t o words = record { registers = rewritten o (t .registers) words; ledger = t .ledger }
 
 abbrev pub withLedger : Tables → List ℕ → Tables
-withLedger t words = record { register = t .register; ledger = words }
+withLedger t words = record { registers = t .registers; ledger = words }
 
 -- The tables as it leaves them. A table that it is not lent, or is lent only to be read, stays.
 abbrev pub leaves : Tables → Call → Tables
-leaves t (file source customer list) = withRegister t (fileEffect (t .register) source customer list .words)
-leaves t (withdraw source customer) = withRegister t (withdrawEffect (t .register) source customer .words)
-leaves t (clear source) = withRegister t (clearEffect (t .register) source .words)
-leaves t (keep k) = withLedger t (keepEffect (t .register) (t .ledger) k .words)
+leaves t (file o source customer list) = withRegister t o (fileEffect (chosen o (t .registers)) source customer list .words)
+leaves t (withdraw o source customer) = withRegister t o (withdrawEffect (chosen o (t .registers)) source customer .words)
+leaves t (clear o source) = withRegister t o (clearEffect (chosen o (t .registers)) source .words)
+leaves t (keep k) = withLedger t (keepEffect (t .registers) (t .ledger) k .words)
 leaves t (drop number) = withLedger t (dropEffect (t .ledger) number .words)
-leaves t rejudge = withLedger t (rejudgeEffect (t .register) (t .ledger) .words)
+leaves t rejudge = withLedger t (rejudgeEffect (t .registers) (t .ledger) .words)
 
--- What a call can change: a source's list for one customer, every list of a source, the route under a number, or nothing that other calls read.
+-- What a call can change: in one register a source's list for one customer, or every list of a source; the route under a number; or nothing that
+-- other calls read.
 pub data Scope : Type 0 where
-  of-pair : (source customer : ℕ) → Scope
-  of-source : (source : ℕ) → Scope
+  of-pair : (o : Origin) (source customer : ℕ) → Scope
+  of-source : (o : Origin) (source : ℕ) → Scope
   of-route : (number : ℕ) → Scope
   idle : Scope
 
 -- (A re-judging changes verdicts, and no call but another one reads these.)
 abbrev pub scope : Call → Scope
-scope (file source customer list) = of-pair source customer
-scope (withdraw source customer) = of-pair source customer
-scope (clear source) = of-source source
+scope (file o source customer list) = of-pair o source customer
+scope (withdraw o source customer) = of-pair o source customer
+scope (clear o source) = of-source o source
 scope (keep k) = of-route (k .number)
 scope (drop number) = of-route number
 scope rejudge = idle
@@ -90,14 +98,14 @@ scope rejudge = idle
 
 -- Tables of the right lengths that keep the word rules: rows 1 to 3 are not given.
 pub record Formed (t : Tables) : Type 0 where
-  pub register-long : length (t .register) ≡ registerWords
-  pub register-ok : registerOk (t .register) ≡ true
+  pub register-long : (o : Origin) → length (chosen o (t .registers)) ≡ registerWords
+  pub register-ok : (o : Origin) → registerOk (chosen o (t .registers)) ≡ true
   pub ledger-long : length (t .ledger) ≡ ledgerWords
   pub ledger-ok : ledgerOk (t .ledger) ≡ true
 
--- One such start, register and ledger empty: zeros, of the right lengths.
+-- One such start, both registers and the ledger empty: zeros, of the right lengths.
 unfoldable pub blank : Tables
-blank = record { register = replicate registerWords 0; ledger = replicate ledgerWords 0 }
+blank = record { registers = lent (replicate registerWords 0) (replicate registerWords 0); ledger = replicate ledgerWords 0 }
 
 -- ---- calls from the tables t on
 

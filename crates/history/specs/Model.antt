@@ -5,6 +5,8 @@ use mathlib.Core.List.{List, [], _∷_, _++_, map}
 use mathlib.Core.Option.{Option, none, some}
 use lib.Dec.{eqb, leb, ltb}
 use lib.ListN.{length}
+use Rattle.types.specs.declared.Origin.{Origin}
+use Rattle.types.specs.declared.Origin.the-variants.{Public, Overrides}
 use Rattle.types.specs.declared.Verdict.{Verdict}
 use Rattle.types.specs.declared.Refusal.{Refusal}
 use Rattle.types.specs.declared.Refusal.the-variants.{ProviderList, NoRecord, RegisterFull, RouteTaken, NoRoute, RoutesFull}
@@ -12,12 +14,13 @@ use Rattle.types.specs.Numbers.{verdictNumber, placeA, placeB, verdictOf}
 use Rattle.types.specs.Rows.{rowIf, firstGiven}
 use Rattle.keyed.specs.Keyed.{find, holds, put, without}
 use Rattle.rules.specs.Hops.{HopFunction}
-use Rattle.rules.specs.Records.{Record, hopOf}
+use Rattle.rules.specs.Records.{Record, hopOver}
 use Rattle.rules.specs.Verdicts.{judged}
 use Rattle.rules.specs.Judging.{judgeRows}
 use Rattle.register.specs.Register.{recordsOf}
 use Rattle.register.specs.Register as register
 use Rattle.register.specs.Calls.{sourceRow, customerRow, recordFor, holdsRecord, putRecord, eraseRecord, clearRecords, countRecords}
+use Rattle.registers.specs.Registers.{lent}
 use Rattle.ledger.specs.Routes.{Route, routesOf, mostRoutes, mostPathWords}
 use Rattle.ledger.specs.Routes as ledger
 use Rattle.history.specs.Calls.{Call, file, withdraw, clear, keep, drop, rejudge, Tables, callAt, KeptRoute, routeRead, known}
@@ -25,14 +28,42 @@ use Rattle.history.specs.Replies.{ModelReply, new, replaced, done, gone,
 
 -- ---- what the model holds
 
--- At most one list for each customer and source, by these; at most one route for each route number, by that.
+-- The lists of each register.
+pub record Lists : Type 0 where
+  pub public : List Record
+  pub overrides : List Record
+
+-- Those of one register, and all with others there.
+abbrev pub listsOf : Origin → Lists → List Record
+listsOf Public lists = lists .public
+listsOf Overrides lists = lists .overrides
+
+abbrev pub withLists : Lists → Origin → List Record → Lists
+withLists lists Public others = record { public = others; overrides = lists .overrides }
+withLists lists Overrides others = record { public = lists .public; overrides = others }
+
+-- In each register at most one list for each customer and source, by these; at most one route for each route number, by that.
 pub record Model : Type 0 where
-  pub lists : List Record
+  pub lists : Lists
   pub routes : List KeptRoute
+
+-- The lists of one register in a model, and the model with others there, or with other routes.
+abbrev pub listsIn : Origin → Model → List Record
+listsIn o m = listsOf o (m .lists)
+
+abbrev pub refiled : Model → Origin → List Record → Model
+refiled m o others = record { lists = withLists (m .lists) o others; routes = m .routes }
+
+abbrev pub rerouted : Model → List KeptRoute → Model
+rerouted m others = record { lists = m .lists; routes = others }
 
 -- It begins with the lists and routes that the tables hold.
 abbrev pub heldBy : Tables → Model
-heldBy t = record { lists = recordsOf (t .register); routes = map known (routesOf (t .ledger)) }
+heldBy t =
+    record {
+      lists = record { public = recordsOf (t .registers .public); overrides = recordsOf (t .registers .overrides) };
+      routes = map known (routesOf (t .ledger));
+    }
 
 -- Routes looked for, put in, taken out.
 abbrev pub numberOf : KeptRoute → ℕ
@@ -54,18 +85,18 @@ eraseKept number rs = without numberOf eqb ltb (eqb number) rs
 
 -- By the arguments alone: rows 4, 5, 6 and 9 to 17.
 abbrev pub argumentRows : Call → List (Option Refusal)
-argumentRows (file source customer list) = sourceRow source ∷ customerRow customer ∷ rowIf (not (register.listOk customer list)) ProviderList ∷ []
-argumentRows (withdraw source customer) = sourceRow source ∷ customerRow customer ∷ []
-argumentRows (clear source) = sourceRow source ∷ []
+argumentRows (file o source customer list) = sourceRow source ∷ customerRow customer ∷ rowIf (not (register.listOk customer list)) ProviderList ∷ []
+argumentRows (withdraw o source customer) = sourceRow source ∷ customerRow customer ∷ []
+argumentRows (clear o source) = sourceRow source ∷ []
 argumentRows (keep k) = judgeRows (k .role) (k .neighbour) (k .attribute)
 argumentRows (drop number) = []
 argumentRows rejudge = []
 
 -- By what is held: 7, no such list; 18, route number taken; 19, no such route.
 abbrev pub heldRows : Model → Call → List (Option Refusal)
-heldRows m (file source customer list) = []
-heldRows m (withdraw source customer) = rowIf (not (holdsRecord customer source (m .lists))) NoRecord ∷ []
-heldRows m (clear source) = []
+heldRows m (file o source customer list) = []
+heldRows m (withdraw o source customer) = rowIf (not (holdsRecord customer source (listsIn o m))) NoRecord ∷ []
+heldRows m (clear o source) = []
 heldRows m (keep k) = rowIf (holdsKept (k .number) (m .routes)) RouteTaken ∷ []
 heldRows m (drop number) = rowIf (not (holdsKept number (m .routes))) NoRoute ∷ []
 heldRows m rejudge = []
@@ -79,11 +110,11 @@ pathNumbers (r ∷ rs) = length (r .path) + pathNumbers rs
 unfoldable pub roomForRoutes : List KeptRoute → Bool
 roomForRoutes rs = leb (length rs) mostRoutes && leb (pathNumbers rs) mostPathWords
 
--- For room: 8, lists or numbers in them; 20, routes or numbers in their paths.
+-- For room: 8, lists of the register or numbers in them; 20, routes or numbers in their paths.
 abbrev pub roomRows : Model → Call → List (Option Refusal)
-roomRows m (file source customer list) = rowIf (not (register.roomFor (putRecord (recordFor source customer list) (m .lists)))) RegisterFull ∷ []
-roomRows m (withdraw source customer) = []
-roomRows m (clear source) = []
+roomRows m (file o source customer list) = rowIf (not (register.roomFor (putRecord (recordFor source customer list) (listsIn o m)))) RegisterFull ∷ []
+roomRows m (withdraw o source customer) = []
+roomRows m (clear o source) = []
 roomRows m (keep k) = rowIf (not (roomForRoutes (putKept (routeRead k) (m .routes)))) RoutesFull ∷ []
 roomRows m (drop number) = []
 roomRows m rejudge = []
@@ -96,19 +127,19 @@ refusal m c = firstGiven (argumentRows c ++ (heldRows m c ++ roomRows m c))
 
 -- The reply to a call that is not refused, and the model after it.
 abbrev pub answer : Model → Call → ModelReply
-answer m (file source customer list) = cond (holdsRecord customer source (m .lists)) replaced new
-answer m (withdraw source customer) = done
-answer m (clear source) = gone (countRecords source (m .lists))
+answer m (file o source customer list) = cond (holdsRecord customer source (listsIn o m)) replaced new
+answer m (withdraw o source customer) = done
+answer m (clear o source) = gone (countRecords source (listsIn o m))
 answer m (keep k) = done
 answer m (drop number) = done
 answer m rejudge = done
 
 abbrev pub change : Model → Call → Model
-change m (file source customer list) = record { lists = putRecord (recordFor source customer list) (m .lists); routes = m .routes }
-change m (withdraw source customer) = record { lists = eraseRecord customer source (m .lists); routes = m .routes }
-change m (clear source) = record { lists = clearRecords source (m .lists); routes = m .routes }
-change m (keep k) = record { lists = m .lists; routes = putKept (routeRead k) (m .routes) }
-change m (drop number) = record { lists = m .lists; routes = eraseKept number (m .routes) }
+change m (file o source customer list) = refiled m o (putRecord (recordFor source customer list) (listsIn o m))
+change m (withdraw o source customer) = refiled m o (eraseRecord customer source (listsIn o m))
+change m (clear o source) = refiled m o (clearRecords source (listsIn o m))
+change m (keep k) = rerouted m (putKept (routeRead k) (m .routes))
+change m (drop number) = rerouted m (eraseKept number (m .routes))
 change m rejudge = m
 
 -- A refused call is answered so, and leaves the model alone.
@@ -161,10 +192,10 @@ withWords r v = withVerdict r (verdictNumber v) (placeA v) (placeB v)
 abbrev pub judgedKept : HopFunction → KeptRoute → Route
 judgedKept hop r = cond (eqb (r .ground) 0) (withWords r (verdictOf (judged hop (r .path) (r .role)))) (withVerdict r 1 0 0)
 
--- The words of the lists, and of the routes as judged over the lists, united for each customer.
+-- The words of the lists of each register, and of the routes as judged over the lists that count for each customer, united.
 unfoldable pub written : Model → Tables
 written m =
     record {
-      register = register.registerOf (m .lists);
-      ledger = ledger.ledgerOf (map (judgedKept (hopOf (m .lists))) (m .routes));
+      registers = lent (register.registerOf (m .lists .public)) (register.registerOf (m .lists .overrides));
+      ledger = ledger.ledgerOf (map (judgedKept (hopOver (m .lists .public) (m .lists .overrides))) (m .routes));
     }

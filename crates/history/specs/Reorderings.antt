@@ -2,54 +2,56 @@
 use mathlib.Core.Path.{_≡_}
 use mathlib.Core.List.{List}
 use Prim.Native.Nat.{ℕ, _<_}
+use Rattle.types.specs.declared.Origin.{Origin}
 use Rattle.history.specs.Calls.{Call, Scope, of-pair, of-source, of-route, idle, callAt, scopeAt}
 
--- A step on this source and customer: a filing or a withdrawal.
-abbrev pub OnPair : ℕ → ℕ → Scope → Type 0
-OnPair source customer (of-pair s c) = (s ≡ source) × (c ≡ customer)
-OnPair source customer (of-source s) = ⊥
-OnPair source customer (of-route n) = ⊥
-OnPair source customer idle = ⊥
+-- A step on this register, source and customer: a filing or a withdrawal.
+abbrev pub OnPair : Origin → ℕ → ℕ → Scope → Type 0
+OnPair o source customer (of-pair p s c) = (p ≡ o) × (s ≡ source) × (c ≡ customer)
+OnPair o source customer (of-source p s) = ⊥
+OnPair o source customer (of-route n) = ⊥
+OnPair o source customer idle = ⊥
 
--- A clearing of this source.
-abbrev pub Clears : ℕ → Scope → Type 0
-Clears source (of-pair s c) = ⊥
-Clears source (of-source s) = s ≡ source
-Clears source (of-route n) = ⊥
-Clears source idle = ⊥
+-- A clearing of this source in this register.
+abbrev pub Clears : Origin → ℕ → Scope → Type 0
+Clears o source (of-pair p s c) = ⊥
+Clears o source (of-source p s) = (p ≡ o) × (s ≡ source)
+Clears o source (of-route n) = ⊥
+Clears o source idle = ⊥
 
--- A step of this source: a filing, a withdrawal or a clearing.
-abbrev pub OfSource : ℕ → Scope → Type 0
-OfSource source (of-pair s c) = s ≡ source
-OfSource source (of-source s) = s ≡ source
-OfSource source (of-route n) = ⊥
-OfSource source idle = ⊥
+-- A step of this register and source: a filing, a withdrawal or a clearing.
+abbrev pub OfSource : Origin → ℕ → Scope → Type 0
+OfSource o source (of-pair p s c) = (p ≡ o) × (s ≡ source)
+OfSource o source (of-source p s) = (p ≡ o) × (s ≡ source)
+OfSource o source (of-route n) = ⊥
+OfSource o source idle = ⊥
 
 -- A step on this route number: a keeping or a dropping.
 abbrev pub OnRoute : ℕ → Scope → Type 0
-OnRoute number (of-pair s c) = ⊥
-OnRoute number (of-source s) = ⊥
+OnRoute number (of-pair o s c) = ⊥
+OnRoute number (of-source o s) = ⊥
 OnRoute number (of-route n) = n ≡ number
 OnRoute number idle = ⊥
 
--- Two steps whose order a reordering keeps: on the same source and customer; a clearing and a step of its source; on the same route number.
+-- Two steps whose order a reordering keeps: on the same register, source and customer; a clearing and a step of its register and source; on the same
+-- route number.
 pub data Tied (a b : Scope) : Type 0 where
-  same-pair : (source customer : ℕ) → OnPair source customer a → OnPair source customer b → Tied a b
-  clear-first : (source : ℕ) → Clears source a → OfSource source b → Tied a b
-  clear-second : (source : ℕ) → OfSource source a → Clears source b → Tied a b
+  same-pair : (o : Origin) (source customer : ℕ) → OnPair o source customer a → OnPair o source customer b → Tied a b
+  clear-first : (o : Origin) (source : ℕ) → Clears o source a → OfSource o source b → Tied a b
+  clear-second : (o : Origin) (source : ℕ) → OfSource o source a → Clears o source b → Tied a b
   same-route : (number : ℕ) → OnRoute number a → OnRoute number b → Tied a b
 
 -- A step: any call but a re-judging.
 abbrev pub IsStep : Scope → Type 0
-IsStep (of-pair s c) = Unit {0}
-IsStep (of-source s) = Unit {0}
+IsStep (of-pair o s c) = Unit {0}
+IsStep (of-source o s) = Unit {0}
 IsStep (of-route n) = Unit {0}
 IsStep idle = ⊥
 
 -- A register step: a filing, a withdrawal or a clearing.
 abbrev pub IsRegisterStep : Scope → Type 0
-IsRegisterStep (of-pair s c) = Unit {0}
-IsRegisterStep (of-source s) = Unit {0}
+IsRegisterStep (of-pair o s c) = Unit {0}
+IsRegisterStep (of-source o s) = Unit {0}
 IsRegisterStep (of-route n) = ⊥
 IsRegisterStep idle = ⊥
 

@@ -1,1 +1,4 @@
+pub mod Sources
 pub mod Hopping
+pub mod Listing
+pub mod Laws

@@ -16,7 +16,7 @@ use Rattle.protocol.specs.declared.State.{State}
 use Rattle.protocol.specs.declared.Fed.{Fed}
 use Rattle.protocol.specs.declared.Performed.{Performed}
 use Rattle.commands.specs.Commands.{Command, bad, commandOf, mostLent, mostLine}
-use Rattle.commands.specs.Performing.{both, replyTo, after, result, performed}
+use Rattle.commands.specs.Performing.{tablesOf, replyTo, after, result, performed}
 use Rattle.replies.specs.Texts.{replyText, mostReply}
 
 -- ---- one line
@@ -80,19 +80,20 @@ pub record Held (n : ℕ) (table : List ℕ) : Type 0 where
   pub within : n ≤ mostLent
   pub rest : table ≡ pad mostLent (take n table)
 
-pub record HeldBoth (s : Lent) (reg led : List ℕ) : Type 0 where
+pub record HeldAll (s : Lent) (reg overrides led : List ℕ) : Type 0 where
   pub register-held : Held (s .register) reg
+  pub overrides-held : Held (s .overrides) overrides
   pub ledger-held : Held (s .ledger) led
 
-abbrev pub lentTables : Lent → List ℕ → List ℕ → Tables
-lentTables s reg led = both (take (s .register) reg) (take (s .ledger) led)
+abbrev pub lentTables : Lent → List ℕ → List ℕ → List ℕ → Tables
+lentTables s reg overrides led = tablesOf (take (s .register) reg) (take (s .overrides) overrides) (take (s .ledger) led)
 
 -- A line of n bytes, and of one more than the most where it is too long.
 unfoldable pub lineIn : ℕ → List ℕ → Option (List ℕ)
 lineIn n buffer = cond (ltb mostLine n) none (some (take n buffer))
 
-abbrev pub sessionIn : State → List ℕ → List ℕ → List ℕ → Session
-sessionIn s line reg led = record { tables = lentTables (s .lent) reg led; line = lineIn (s .line) line }
+abbrev pub sessionIn : State → List ℕ → List ℕ → List ℕ → List ℕ → Session
+sessionIn s line reg overrides led = record { tables = lentTables (s .lent) reg overrides led; line = lineIn (s .line) line }
 
 -- What adding bytes to a line of n leaves in its buffer.
 unfoldable pub lineStored : ℕ → List ℕ → List ℕ → List ℕ
@@ -102,9 +103,9 @@ lineStored n buffer part = cond (ltb mostLine (n + length part)) buffer (sets bu
 abbrev pub mostText : ℕ
 mostText = mostReply + 1
 
-pub record Ready (s : State) (buffer reg led output : List ℕ) : Type 0 where
+pub record Ready (s : State) (buffer reg overrides led output : List ℕ) : Type 0 where
   pub line-size : length buffer ≡ mostLine
-  pub held : HeldBoth (s .lent) reg led
+  pub held : HeldAll (s .lent) reg overrides led
   pub room : s .out + mostText ≤ length output
 
 -- ---- what the functions on these buffers promise
@@ -112,17 +113,19 @@ pub record Ready (s : State) (buffer reg led output : List ℕ) : Type 0 where
 pub record Buffers : Type 0 where
   pub line : List ℕ
   pub register : List ℕ
+  pub overrides : List ℕ
   pub ledger : List ℕ
   pub output : List ℕ
 
-abbrev pub buffers : List ℕ → List ℕ → List ℕ → List ℕ → Buffers
-buffers line reg led out = record { line = line; register = reg; ledger = led; output = out }
+abbrev pub buffers : List ℕ → List ℕ → List ℕ → List ℕ → List ℕ → Buffers
+buffers line reg overrides led out = record { line = line; register = reg; overrides = overrides; ledger = led; output = out }
 
 -- A command carried out: the reply, and the words that the tables are then lent with.
-abbrev pub Carried : Lent → List ℕ → List ℕ → Command → Performed → List ℕ → List ℕ → Type 0
-Carried s reg led c r reg' led' =
-    (result (r .reply) (take (r .lent .register) reg') (take (r .lent .ledger) led') ≡ performed (lentTables s reg led) c)
-    × HeldBoth (r .lent) reg' led'
+abbrev pub Carried : Lent → List ℕ → List ℕ → List ℕ → Command → Performed → List ℕ → List ℕ → List ℕ → Type 0
+Carried s reg overrides led c r reg' overrides' led' =
+    (result (r .reply) (take (r .lent .register) reg') (take (r .lent .overrides) overrides') (take (r .lent .ledger) led')
+    ≡ performed (lentTables s reg overrides led) c)
+    × HeldAll (r .lent) reg' overrides' led'
 
 -- The command that ends a line of n bytes.
 abbrev pub commandEnding : State → List ℕ → Command
@@ -131,15 +134,15 @@ commandEnding s line = commandIn (lineIn (s .line) line)
 -- The line is answered behind what the output holds, and the next begins.
 abbrev pub EndsLine : State → Buffers → State → Buffers → Type 0
 EndsLine s b r e =
-    (lentTables (r .lent) (e .register) (e .ledger) ≡ after (lentTables (s .lent) (b .register) (b .ledger)) (commandEnding s (b .line)))
+    (lentTables (r .lent) (e .register) (e .overrides) (e .ledger) ≡ after (lentTables (s .lent) (b .register) (b .overrides) (b .ledger)) (commandEnding s (b .line)))
     × (r .line ≡ 0)
-    × (r .out ≡ s .out + length (answerLine (lentTables (s .lent) (b .register) (b .ledger)) (commandEnding s (b .line))))
-    × (e .output ≡ sets (b .output) (s .out) (answerLine (lentTables (s .lent) (b .register) (b .ledger)) (commandEnding s (b .line))))
+    × (r .out ≡ s .out + length (answerLine (lentTables (s .lent) (b .register) (b .overrides) (b .ledger)) (commandEnding s (b .line))))
+    × (e .output ≡ sets (b .output) (s .out) (answerLine (lentTables (s .lent) (b .register) (b .overrides) (b .ledger)) (commandEnding s (b .line))))
     × (r .out ≤ s .out + mostText)
-    × HeldBoth (r .lent) (e .register) (e .ledger)
+    × HeldAll (r .lent) (e .register) (e .overrides) (e .ledger)
 
 abbrev pub sessionOf : State → Buffers → Session
-sessionOf s b = sessionIn s (b .line) (b .register) (b .ledger)
+sessionOf s b = sessionIn s (b .line) (b .register) (b .overrides) (b .ledger)
 
 -- A piece fed: the session after it, how many of its bytes are used, and the text behind what the output holds.
 abbrev pub Feeds : List ℕ → State → Buffers → Fed → Buffers → Type 0
@@ -150,7 +153,7 @@ Feeds piece s b r e =
     × (r .state .out ≡ s .out + length (fedText (sessionOf s b) piece))
     × (e .output ≡ sets (b .output) (s .out) (fedText (sessionOf s b) piece))
     × (r .state .out ≤ s .out + mostText)
-    × HeldBoth (r .state .lent) (e .register) (e .ledger)
+    × HeldAll (r .state .lent) (e .register) (e .overrides) (e .ledger)
 
 -- The input's end: the session after it, and the text behind what the output holds.
 abbrev pub Finishes : State → Buffers → State → Buffers → Type 0

@@ -26,7 +26,7 @@ answersTo s (line ∷ []) = lastText (grownBy s line)
 answersTo s (line ∷ (next ∷ lines)) =
     answerLine (s .tables) (commandIn (joined (s .line) line)) ++ answersTo (answered (grownBy s line)) (next ∷ lines)
 
--- Both tables empty, and no byte yet.
+-- All three tables empty, and no byte yet.
 abbrev pub start : Session
 start = record { tables = blank; line = some [] }
 

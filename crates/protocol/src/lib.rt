@@ -8,11 +8,12 @@ ghost use lib.ListN.{length, take};
 ghost use Rattle.table.specs.Table.{pad};
 ghost use Rattle.lines.specs.Words.{wordsOf};
 ghost use Rattle.commands.specs.Commands.{mostLine, mostLent, resize, resizeCommand, emptyCommand, commandOf};
-ghost use Rattle.protocol.specs.Feeding.{joined, commandIn, lineIn, lineStored, HeldBoth, Ready, buffers, Carried, EndsLine, Feeds, Finishes};
+ghost use Rattle.protocol.specs.Feeding.{joined, commandIn, lineIn, lineStored, HeldAll, Ready, buffers, Carried, EndsLine, Feeds, Finishes};
 
 // How many words each table is lent with.
 pub struct Lent {
     pub register: usize,
+    pub overrides: usize,
     pub ledger: usize,
 }
 
@@ -47,12 +48,20 @@ fn cut(table: &mut [u32], to: usize)
     runs::zero(table, to, end);
 }
 
-fn resize_named(named: Named, to: usize, s: Lent, reg: &mut [u32], led: &mut [u32]) -> Performed
-    requires { ⌜ (to ≤ mostLent) × (HeldBoth s (now reg) (now led)) ⌝ }
-    ensures { λ r. ⌜ Carried s (now (reg .entry)) (now (led .entry)) (resize named to)
-        r (now (reg .exit)) (now (led .exit)) ⌝ }
+fn resize_named(
+    named: Named,
+    to: usize,
+    s: Lent,
+    reg: &mut [u32],
+    overrides: &mut [u32],
+    led: &mut [u32],
+) -> Performed
+    requires { ⌜ (to ≤ mostLent) × (HeldAll s (now reg) (now overrides) (now led)) ⌝ }
+    ensures { λ r. ⌜ Carried s (now (reg .entry)) (now (overrides .entry)) (now (led .entry)) (resize named to)
+        r (now (reg .exit)) (now (overrides .exit)) (now (led .exit)) ⌝ }
 {
     let register = s.register;
+    let overriding = s.overrides;
     let ledger = s.ledger;
     match named {
         Named::Register => {
@@ -60,6 +69,18 @@ fn resize_named(named: Named, to: usize, s: Lent, reg: &mut [u32], led: &mut [u3
             Performed {
                 lent: Lent {
                     register: to,
+                    overrides: overriding,
+                    ledger,
+                },
+                reply: Reply::Done,
+            }
+        }
+        Named::Overrides => {
+            cut(overrides, to);
+            Performed {
+                lent: Lent {
+                    register,
+                    overrides: to,
                     ledger,
                 },
                 reply: Reply::Done,
@@ -70,6 +91,7 @@ fn resize_named(named: Named, to: usize, s: Lent, reg: &mut [u32], led: &mut [u3
             Performed {
                 lent: Lent {
                     register,
+                    overrides: overriding,
                     ledger: to,
                 },
                 reply: Reply::Done,
@@ -82,10 +104,17 @@ fn resize_named(named: Named, to: usize, s: Lent, reg: &mut [u32], led: &mut [u3
     }
 }
 
-fn resize(line: &[u8], n: usize, s: Lent, reg: &mut [u32], led: &mut [u32]) -> Performed
-    requires { ⌜ (n ≡ length (wordsOf (now line))) × (HeldBoth s (now reg) (now led)) ⌝ }
-    ensures { λ r. ⌜ Carried s (now (reg .entry)) (now (led .entry)) (resizeCommand (wordsOf (now (line .entry))))
-        r (now (reg .exit)) (now (led .exit)) ⌝ }
+fn resize(
+    line: &[u8],
+    n: usize,
+    s: Lent,
+    reg: &mut [u32],
+    overrides: &mut [u32],
+    led: &mut [u32],
+) -> Performed
+    requires { ⌜ (n ≡ length (wordsOf (now line))) × (HeldAll s (now reg) (now overrides) (now led)) ⌝ }
+    ensures { λ r. ⌜ Carried s (now (reg .entry)) (now (overrides .entry)) (now (led .entry)) (resizeCommand (wordsOf (now (line .entry))))
+        r (now (reg .exit)) (now (overrides .exit)) (now (led .exit)) ⌝ }
 {
     if n != 3 {
         return Performed {
@@ -106,13 +135,20 @@ fn resize(line: &[u8], n: usize, s: Lent, reg: &mut [u32], led: &mut [u32]) -> P
             reply: Reply::Error,
         };
     }
-    resize_named(commands::choice::named(line, 1), to, s, reg, led)
+    resize_named(commands::choice::named(line, 1), to, s, reg, overrides, led)
 }
 
-fn empty(line: &[u8], n: usize, s: Lent, reg: &mut [u32], led: &mut [u32]) -> Performed
-    requires { ⌜ (n ≡ length (wordsOf (now line))) × (HeldBoth s (now reg) (now led)) ⌝ }
-    ensures { λ r. ⌜ Carried s (now (reg .entry)) (now (led .entry)) (emptyCommand (wordsOf (now (line .entry))))
-        r (now (reg .exit)) (now (led .exit)) ⌝ }
+fn empty(
+    line: &[u8],
+    n: usize,
+    s: Lent,
+    reg: &mut [u32],
+    overrides: &mut [u32],
+    led: &mut [u32],
+) -> Performed
+    requires { ⌜ (n ≡ length (wordsOf (now line))) × (HeldAll s (now reg) (now overrides) (now led)) ⌝ }
+    ensures { λ r. ⌜ Carried s (now (reg .entry)) (now (overrides .entry)) (now (led .entry)) (emptyCommand (wordsOf (now (line .entry))))
+        r (now (reg .exit)) (now (overrides .exit)) (now (led .exit)) ⌝ }
 {
     if n != 1 {
         return Performed {
@@ -121,10 +157,12 @@ fn empty(line: &[u8], n: usize, s: Lent, reg: &mut [u32], led: &mut [u32]) -> Pe
         };
     }
     cut(reg, 0);
+    cut(overrides, 0);
     cut(led, 0);
     Performed {
         lent: Lent {
             register: register::WORDS,
+            overrides: register::WORDS,
             ledger: ledger::WORDS,
         },
         reply: Reply::Done,
@@ -132,29 +170,49 @@ fn empty(line: &[u8], n: usize, s: Lent, reg: &mut [u32], led: &mut [u32]) -> Pe
 }
 
 // The command of a line.
-fn perform(line: &[u8], s: Lent, reg: &mut [u32], led: &mut [u32]) -> Performed
-    requires { ⌜ (length (now line) ≤ mostLine) × (HeldBoth s (now reg) (now led)) ⌝ }
-    ensures { λ r. ⌜ Carried s (now (reg .entry)) (now (led .entry)) (commandOf (wordsOf (now (line .entry))))
-        r (now (reg .exit)) (now (led .exit)) ⌝ }
+fn perform(
+    line: &[u8],
+    s: Lent,
+    reg: &mut [u32],
+    overrides: &mut [u32],
+    led: &mut [u32],
+) -> Performed
+    requires { ⌜ (length (now line) ≤ mostLine) × (HeldAll s (now reg) (now overrides) (now led)) ⌝ }
+    ensures { λ r. ⌜ Carried s (now (reg .entry)) (now (overrides .entry)) (now (led .entry)) (commandOf (wordsOf (now (line .entry))))
+        r (now (reg .exit)) (now (overrides .exit)) (now (led .exit)) ⌝ }
 {
     let n = lines::count(line);
     if lines::is_word(line, 0, b"resize") {
-        return resize(line, n, s, reg, led);
+        return resize(line, n, s, reg, overrides, led);
     }
     if lines::is_word(line, 0, b"empty") {
-        return empty(line, n, s, reg, led);
+        return empty(line, n, s, reg, overrides, led);
     }
     let register = s.register;
+    let overriding = s.overrides;
     let ledger = s.ledger;
-    let reply = commands::choice::run(line, n, &mut reg[..register], &mut led[..ledger]);
+    let reply = commands::choice::run(
+        line,
+        n,
+        &mut reg[..register],
+        &mut overrides[..overriding],
+        &mut led[..ledger],
+    );
     Performed { lent: s, reply }
 }
 
 // The command of a line of n bytes of the buffer.
-fn perform_line(n: usize, line: &[u8], s: Lent, reg: &mut [u32], led: &mut [u32]) -> Performed
-    requires { ⌜ (length (now line) ≡ mostLine) × (HeldBoth s (now reg) (now led)) ⌝ }
-    ensures { λ r. ⌜ Carried s (now (reg .entry)) (now (led .entry)) (commandIn (lineIn n (now (line .entry))))
-        r (now (reg .exit)) (now (led .exit)) ⌝ }
+fn perform_line(
+    n: usize,
+    line: &[u8],
+    s: Lent,
+    reg: &mut [u32],
+    overrides: &mut [u32],
+    led: &mut [u32],
+) -> Performed
+    requires { ⌜ (length (now line) ≡ mostLine) × (HeldAll s (now reg) (now overrides) (now led)) ⌝ }
+    ensures { λ r. ⌜ Carried s (now (reg .entry)) (now (overrides .entry)) (now (led .entry)) (commandIn (lineIn n (now (line .entry))))
+        r (now (reg .exit)) (now (overrides .exit)) (now (led .exit)) ⌝ }
 {
     if line.len() < n {
         return Performed {
@@ -162,24 +220,39 @@ fn perform_line(n: usize, line: &[u8], s: Lent, reg: &mut [u32], led: &mut [u32]
             reply: Reply::Error,
         };
     }
-    perform(&line[..n], s, reg, led)
+    perform(&line[..n], s, reg, overrides, led)
 }
 
 // The line is answered, and the next begins.
-fn end_line(s: State, line: &[u8], reg: &mut [u32], led: &mut [u32], out: &mut [u8]) -> State
-    requires { ⌜ Ready s (now line) (now reg) (now led) (now out) ⌝ }
-    ensures { λ r. ⌜ EndsLine s (buffers (now (line .entry)) (now (reg .entry)) (now (led .entry)) (now (out .entry)))
-        r (buffers (now (line .entry)) (now (reg .exit)) (now (led .exit)) (now (out .exit))) ⌝ }
+fn end_line(
+    s: State,
+    line: &[u8],
+    reg: &mut [u32],
+    overrides: &mut [u32],
+    led: &mut [u32],
+    out: &mut [u8],
+) -> State
+    requires { ⌜ Ready s (now line) (now reg) (now overrides) (now led) (now out) ⌝ }
+    ensures { λ r. ⌜ EndsLine s (buffers (now (line .entry)) (now (reg .entry)) (now (overrides .entry)) (now (led .entry)) (now (out .entry)))
+        r (buffers (now (line .entry)) (now (reg .exit)) (now (overrides .exit)) (now (led .exit)) (now (out .exit))) ⌝ }
 {
     let n = s.line;
     let at = s.out;
     let before = s.lent;
-    let done = perform_line(n, line, before, reg, led);
+    let done = perform_line(n, line, before, reg, overrides, led);
     let lent = done.lent;
     let reply = done.reply;
     let register = lent.register;
+    let overriding = lent.overrides;
     let ledger = lent.ledger;
-    let next = replies::put(out, at, reply, &reg[..register], &led[..ledger]);
+    let next = replies::put(
+        out,
+        at,
+        reply,
+        &reg[..register],
+        &overrides[..overriding],
+        &led[..ledger],
+    );
     State {
         lent,
         line: 0,
@@ -208,12 +281,13 @@ pub fn feed(
     s: State,
     line: &mut [u8],
     reg: &mut [u32],
+    overrides: &mut [u32],
     led: &mut [u32],
     out: &mut [u8],
 ) -> Fed
-    requires { ⌜ Ready s (now line) (now reg) (now led) (now out) ⌝ }
-    ensures { λ r. ⌜ Feeds (now (piece .entry)) s (buffers (now (line .entry)) (now (reg .entry)) (now (led .entry)) (now (out .entry)))
-        r (buffers (now (line .exit)) (now (reg .exit)) (now (led .exit)) (now (out .exit))) ⌝ }
+    requires { ⌜ Ready s (now line) (now reg) (now overrides) (now led) (now out) ⌝ }
+    ensures { λ r. ⌜ Feeds (now (piece .entry)) s (buffers (now (line .entry)) (now (reg .entry)) (now (overrides .entry)) (now (led .entry)) (now (out .entry)))
+        r (buffers (now (line .exit)) (now (reg .exit)) (now (overrides .exit)) (now (led .exit)) (now (out .exit))) ⌝ }
 {
     let lent = s.lent;
     let n = s.line;
@@ -225,7 +299,7 @@ pub fn feed(
     };
     if to < piece.len() {
         return Fed {
-            state: end_line(grown, line, reg, led, out),
+            state: end_line(grown, line, reg, overrides, led, out),
             used: to + 1,
         };
     }
@@ -236,13 +310,20 @@ pub fn feed(
 }
 
 // The end of the input: what stands in the line is answered.
-pub fn finish(s: State, line: &[u8], reg: &mut [u32], led: &mut [u32], out: &mut [u8]) -> State
-    requires { ⌜ Ready s (now line) (now reg) (now led) (now out) ⌝ }
-    ensures { λ r. ⌜ Finishes s (buffers (now (line .entry)) (now (reg .entry)) (now (led .entry)) (now (out .entry)))
-        r (buffers (now (line .entry)) (now (reg .exit)) (now (led .exit)) (now (out .exit))) ⌝ }
+pub fn finish(
+    s: State,
+    line: &[u8],
+    reg: &mut [u32],
+    overrides: &mut [u32],
+    led: &mut [u32],
+    out: &mut [u8],
+) -> State
+    requires { ⌜ Ready s (now line) (now reg) (now overrides) (now led) (now out) ⌝ }
+    ensures { λ r. ⌜ Finishes s (buffers (now (line .entry)) (now (reg .entry)) (now (overrides .entry)) (now (led .entry)) (now (out .entry)))
+        r (buffers (now (line .entry)) (now (reg .exit)) (now (overrides .exit)) (now (led .exit)) (now (out .exit))) ⌝ }
 {
     if s.line == 0 {
         return s;
     }
-    end_line(s, line, reg, led, out)
+    end_line(s, line, reg, overrides, led, out)
 }

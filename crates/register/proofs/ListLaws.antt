@@ -10,6 +10,7 @@ use lib.Dec.{leb}
 use lib.ListN.{length}
 use Rattle.types.specs.declared.Refusal.the-variants.{ProviderList}
 use Rattle.types.specs.declared.Filed.the-variants.{Refused}
+use Rattle.types.specs.declared.Origin.{Origin}
 use Rattle.types.specs.declared.Hop.the-variants.{ProviderPlus}
 use Rattle.types.proofs.Clashes.{clash}
 use Rattle.keyed.specs.Keyed.{every}
@@ -141,8 +142,8 @@ each-list rs = (to, from)
 
 -- ---- hops
 
-no-self : (ws : List ℕ) → registerOk ws ≡ true → (x : ℕ) → hopOf (recordsOf ws) x x ≡ ProviderPlus → ⊥
-no-self ws e x h = go (isIn x (united (recordsOf ws) x)) refl
+no-self : (ws : List ℕ) → registerOk ws ≡ true → (o p : Origin) (s x : ℕ) → hopOf o (recordsOf ws) x x ≡ ProviderPlus p s → ⊥
+no-self ws e o p s x h = go (isIn x (united (recordsOf ws) x)) refl
   where
     go : (b : Bool) → isIn x (united (recordsOf ws) x) ≡ b → ⊥
     go true q =
@@ -152,8 +153,8 @@ no-self ws e x h = go (isIn x (united (recordsOf ws) x)) refl
     go false q = attests (attested (recordsOf ws) x) refl
       where
         attests : (a : Bool) → attested (recordsOf ws) x ≡ a → ⊥
-        attests true p = let z = hop-is x (recordsOf ws) x in clash (cc)
-        attests false p = let z = hop-is x (recordsOf ws) x in clash (cc)
+        attests true q' = let z = hop-is x o (recordsOf ws) x in clash (cc)
+        attests false q' = let z = hop-is x o (recordsOf ws) x in clash (cc)
 
 pub list-laws : ListLaws
 list-laws = record { row-six = row-six; each-list = each-list; no-self = no-self }

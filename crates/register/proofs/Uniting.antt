@@ -9,8 +9,9 @@ use borrow.Author.Tests.{eqb-true, eq-eqb, ne-eqb}
 use lib.Dec.{eqb}
 use lib.ListN.{length, getD, drop, drop-of-length-le}
 use lib.Seq.{drop-cons, drop-nil}
+use Rattle.types.specs.declared.Origin.{Origin}
 use Rattle.types.specs.declared.Hop.the-variants.{NoAttestation, ProviderPlus, NotProviderPlus}
-use Rattle.rules.specs.Records.{Record, isIn, attested, united, hopOf}
+use Rattle.rules.specs.Records.{Record, isIn, attested, united, lowestSource, hopOf}
 use Rattle.providers.proofs.Seeking.{in-append}
 use Rattle.register.specs.Register.{recordAt}
 use Rattle.register.specs.Laws.{Lists}
@@ -67,13 +68,14 @@ module _ (x : ℕ) where
       go false e ih = ih e
 
   -- The hop asks first whether the union holds y.
-  pub hop-is : (rs : List Record) (y : ℕ) → cond (isIn y (united rs x)) ProviderPlus (cond (attested rs x) NotProviderPlus NoAttestation) ≡ hopOf rs x y
+  pub hop-is : (o : Origin) (rs : List Record) (y : ℕ)
+      → cond (isIn y (united rs x)) (ProviderPlus o (lowestSource rs x y)) (cond (attested rs x) (NotProviderPlus o) NoAttestation) ≡ hopOf o rs x y
   unfolding hopOf isIn
-  hop-is rs y = go (attested rs x) refl
+  hop-is o rs y = go (attested rs x) refl
     where
       go : (b : Bool) → attested rs x ≡ b
-          → cond (isIn y (united rs x)) ProviderPlus (cond b NotProviderPlus NoAttestation)
-          ≡ cond b (cond (isIn y (united rs x)) ProviderPlus NotProviderPlus) NoAttestation
+          → cond (isIn y (united rs x)) (ProviderPlus o (lowestSource rs x y)) (cond b (NotProviderPlus o) NoAttestation)
+          ≡ cond b (cond (isIn y (united rs x)) (ProviderPlus o (lowestSource rs x y)) (NotProviderPlus o)) NoAttestation
       go true p = refl
       go false p = rw (none-united rs p)
 

@@ -11,6 +11,7 @@ use Rattle.types.specs.declared.Refusal.the-variants.{ProviderList}
 use Rattle.types.specs.declared.Filed.the-variants.{New, Refused}
 use Rattle.types.specs.declared.Cleared.the-variants.{Gone}
 use Rattle.types.specs.Rows.{firstGiven, effect}
+use Rattle.types.specs.declared.Origin.{Origin}
 use Rattle.types.specs.declared.Hop.the-variants.{ProviderPlus}
 use Rattle.keyed.specs.Keyed.{samePair, beforePair, ascends}
 use Rattle.halves.specs.declared.Range.{Range}
@@ -97,4 +98,4 @@ pub record ListLaws : Type 0 where
   -- The word rules say the same of each record's list.
   pub each-list : (rs : List Record) → (recordsOk rs ≡ true) ↔ RecordRules rs
   -- No well-formed register says Provider+ of a number and itself.
-  pub no-self : (ws : List ℕ) → registerOk ws ≡ true → (x : ℕ) → hopOf (recordsOf ws) x x ≡ ProviderPlus → ⊥
+  pub no-self : (ws : List ℕ) → registerOk ws ≡ true → (o p : Origin) (s x : ℕ) → hopOf o (recordsOf ws) x x ≡ ProviderPlus p s → ⊥

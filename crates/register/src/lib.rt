@@ -25,7 +25,7 @@ pub const MOST_RECORDS: usize = 1024;
 // The numbers in all lists together.
 const MOST_LISTED: usize = 8192;
 
-const LAST_SOURCE: u32 = 7;
+pub const LAST_SOURCE: u32 = 7;
 
 // ---- layout
 
@@ -36,7 +36,7 @@ const TAIL: usize = 0;
 
 pub const WIDTH: usize = HEAD + table::SPAN + TAIL;
 
-const SOURCE: usize = 1;
+pub const SOURCE: usize = 1;
 
 pub const START: usize = HEAD;
 
@@ -141,7 +141,7 @@ pub fn search(reg: &[u32], from: usize, customer: AsNumber, source: u32) -> Rang
 }
 
 // Where the record of a customer and a source stands, or would stand: how many records come before it.
-fn find(reg: &[u32], customer: AsNumber, source: u32) -> usize
+pub fn find(reg: &[u32], customer: AsNumber, source: u32) -> usize
     requires { ⌜ registerOk (now reg) ≡ true ⌝ }
     ensures { λ r. ⌜ (r ≡ positionOf (customer .0) source (recordsOf (now (reg .entry)))) × (r ≤ length (recordsOf (now (reg .entry)))) ⌝ }
 {
@@ -152,7 +152,7 @@ fn find(reg: &[u32], customer: AsNumber, source: u32) -> usize
 // ---- the record at a position
 
 // Whether the record at a position that `find` answered is the one looked for.
-fn is_at(reg: &[u32], position: usize, customer: AsNumber, source: u32) -> bool
+pub fn is_at(reg: &[u32], position: usize, customer: AsNumber, source: u32) -> bool
     requires { ⌜ (registerOk (now reg) ≡ true) × (position ≡ positionOf (customer .0) source (recordsOf (now reg))) ⌝ }
     ensures { λ r. ⌜ r ≡ holdsRecord (customer .0) source (recordsOf (now (reg .entry))) ⌝ }
 {

@@ -1,3 +1,4 @@
 pub mod Spacing
 pub mod Trimming
 pub mod Snapshots
+pub mod Lookups

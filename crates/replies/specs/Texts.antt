@@ -7,15 +7,17 @@ use Rattle.types.specs.declared.Written as written
 use Rattle.types.specs.Rows.{Effect}
 use Rattle.table.specs.Table.{allZero}
 use Rattle.text.specs.Ascii.{ascii}
-use Rattle.answers.specs.Texts.{judgedText, filedText, removalText, clearedText, rejudgedText, restoredText, writtenText, spacedText, answerRoom}
+use Rattle.answers.specs.Texts.{judgedText, hoppedText, filedText, removalText, clearedText, rejudgedText, restoredText, writtenText, listText, spacedText, answerRoom}
 use Rattle.register.specs.Register as register
 use Rattle.ledger.specs.Routes as ledger
 use Rattle.snapshot.specs.Calls.{writeEffect}
+use Rattle.registers.specs.Registers.{Registers}
+use Rattle.filter.specs.Calls.{lookupList}
 use Rattle.history.specs.Calls.{Tables}
 use Rattle.commands.specs.declared.Named.{Named}
-use Rattle.commands.specs.declared.Named.the-variants.{Register, Ledger, Neither}
+use Rattle.commands.specs.declared.Named.the-variants.{Register, Overrides, Ledger, Neither}
 use Rattle.commands.specs.declared.Reply.{Reply}
-use Rattle.commands.specs.declared.Reply.the-variants.{Done, Error, Filed, Removed, Cleared, Judged, Rejudged, Restored, Written, Shown, Sized}
+use Rattle.commands.specs.declared.Reply.the-variants.{Done, Error, Filed, Removed, Cleared, Judged, Hopped, Rejudged, Restored, Written, Listed, Shown, Sized}
 use Rattle.commands.specs.Commands.{mostOutput}
 
 -- The words up to the last body, of a table whose slots have so many words; all where the counts lead past the end.
@@ -31,12 +33,14 @@ abbrev pub sizedText : List ℕ → List ℕ
 sizedText table = spacedText (length table ∷ withoutZeros table)
 
 abbrev pub shownText : Tables → Named → List ℕ
-shownText t Register = spacedText (usedWords register.recordWidth (t .register))
+shownText t Register = spacedText (usedWords register.recordWidth (t .registers .public))
+shownText t Overrides = spacedText (usedWords register.recordWidth (t .registers .overrides))
 shownText t Ledger = spacedText (usedWords ledger.routeWidth (t .ledger))
 shownText t Neither = ascii "error"
 
 abbrev pub sizedIn : Tables → Named → List ℕ
-sizedIn t Register = sizedText (t .register)
+sizedIn t Register = sizedText (t .registers .public)
+sizedIn t Overrides = sizedText (t .registers .overrides)
 sizedIn t Ledger = sizedText (t .ledger)
 sizedIn t Neither = ascii "error"
 
@@ -45,8 +49,12 @@ abbrev pub effectText : Effect written.Written → List ℕ
 effectText e = writtenText (e .words) (e .answer)
 
 -- A snapshot written to an output of so many zero bytes. No command asks for more than the most.
-abbrev pub snapshotText : Tables → ℕ → List ℕ
-snapshotText t capacity = effectText (writeEffect (t .register) (t .ledger) (replicate (min capacity mostOutput) 0))
+abbrev pub snapshotText : List ℕ → List ℕ → ℕ → List ℕ
+snapshotText reg led capacity = effectText (writeEffect reg led (replicate (min capacity mostOutput) 0))
+
+-- The list of a source for a customer, in the register that counts.
+abbrev pub lookupText : Registers → ℕ → ℕ → List ℕ
+lookupText reg source customer = listText (lookupList reg source customer)
 
 abbrev pub replyText : Tables → Reply → List ℕ
 replyText t Done = ascii "done"
@@ -55,9 +63,11 @@ replyText t (Filed a) = filedText a
 replyText t (Removed a) = removalText a
 replyText t (Cleared a) = clearedText a
 replyText t (Judged a) = judgedText a
+replyText t (Hopped a) = hoppedText a
 replyText t (Rejudged a) = rejudgedText a
 replyText t (Restored a) = restoredText a
-replyText t (Written capacity) = snapshotText t capacity
+replyText t (Written capacity) = snapshotText (t .registers .public) (t .ledger) capacity
+replyText t (Listed source customer) = lookupText (t .registers) source customer
 replyText t (Shown n) = shownText t n
 replyText t (Sized n) = sizedIn t n
 

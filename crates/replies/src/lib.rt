@@ -1,14 +1,16 @@
 // A reply as text, from index at of a buffer on.
 use commands::Named;
 use commands::Reply;
+use types::AsNumber;
 ghost use mathlib.Core.Path.{_≡_};
 ghost use Prim.Native.Nat.{_+_, _*_, _≤_, _<_, _^_, min};
 ghost use lib.ListN.{length, take, getD, replicate};
 ghost use lib.Seq.{sets};
-ghost use Rattle.commands.specs.Performing.{both};
-ghost use Rattle.replies.specs.Texts.{usedWords, withoutZeros, sizedText, shownText, sizedIn, effectText, snapshotText, replyText, mostReply};
+ghost use Rattle.commands.specs.Performing.{tablesOf};
+ghost use Rattle.replies.specs.Texts.{usedWords, withoutZeros, sizedText, shownText, sizedIn, effectText, snapshotText, lookupText, replyText, mostReply};
 ghost use Rattle.commands.specs.Commands.{mostLent, mostOutput};
 ghost use Rattle.snapshot.specs.Calls.{writeEffect};
+ghost use Rattle.registers.specs.Registers.{lent};
 ghost use Rattle.answers.specs.Texts.{spacedText, answerRoom};
 
 // The room that a reply takes at most: a snapshot's length, and two digits for each of its bytes. The words of a table, of eleven bytes each at
@@ -93,16 +95,27 @@ fn put_sized(out: &mut [u8], at: usize, table: &[u32]) -> usize
     answers::put_each(out, next, &table[..n])
 }
 
-fn put_shown(out: &mut [u8], at: usize, named: Named, reg: &[u32], led: &[u32]) -> usize
-    requires { ⌜ (length (now reg) ≤ mostLent) × (length (now led) ≤ mostLent) × (at + mostReply ≤ length (now out)) ⌝ }
-    ensures { λ r. ⌜ (r ≡ at + length (shownText (both (now (reg .entry)) (now (led .entry))) named))
-        × (now (out .exit) ≡ sets (now (out .entry)) at (shownText (both (now (reg .entry)) (now (led .entry))) named))
+fn put_shown(
+    out: &mut [u8],
+    at: usize,
+    named: Named,
+    reg: &[u32],
+    overrides: &[u32],
+    led: &[u32],
+) -> usize
+    requires { ⌜ (length (now reg) ≤ mostLent) × (length (now overrides) ≤ mostLent) × (length (now led) ≤ mostLent) × (at + mostReply ≤ length (now out)) ⌝ }
+    ensures { λ r. ⌜ (r ≡ at + length (shownText (tablesOf (now (reg .entry)) (now (overrides .entry)) (now (led .entry))) named))
+        × (now (out .exit) ≡ sets (now (out .entry)) at (shownText (tablesOf (now (reg .entry)) (now (overrides .entry)) (now (led .entry))) named))
         × (r ≤ at + mostReply) ⌝ }
 {
     match named {
         Named::Register => {
             let n = used(reg, register::WIDTH);
             put_spaced(out, at, &reg[..n])
+        }
+        Named::Overrides => {
+            let n = used(overrides, register::WIDTH);
+            put_spaced(out, at, &overrides[..n])
         }
         Named::Ledger => {
             let n = used(led, ledger::WIDTH);
@@ -112,19 +125,27 @@ fn put_shown(out: &mut [u8], at: usize, named: Named, reg: &[u32], led: &[u32]) 
     }
 }
 
-fn put_all(out: &mut [u8], at: usize, named: Named, reg: &[u32], led: &[u32]) -> usize
-    requires { ⌜ (length (now reg) ≤ mostLent) × (length (now led) ≤ mostLent) × (at + mostReply ≤ length (now out)) ⌝ }
-    ensures { λ r. ⌜ (r ≡ at + length (sizedIn (both (now (reg .entry)) (now (led .entry))) named))
-        × (now (out .exit) ≡ sets (now (out .entry)) at (sizedIn (both (now (reg .entry)) (now (led .entry))) named)) × (r ≤ at + mostReply) ⌝ }
+fn put_all(
+    out: &mut [u8],
+    at: usize,
+    named: Named,
+    reg: &[u32],
+    overrides: &[u32],
+    led: &[u32],
+) -> usize
+    requires { ⌜ (length (now reg) ≤ mostLent) × (length (now overrides) ≤ mostLent) × (length (now led) ≤ mostLent) × (at + mostReply ≤ length (now out)) ⌝ }
+    ensures { λ r. ⌜ (r ≡ at + length (sizedIn (tablesOf (now (reg .entry)) (now (overrides .entry)) (now (led .entry))) named))
+        × (now (out .exit) ≡ sets (now (out .entry)) at (sizedIn (tablesOf (now (reg .entry)) (now (overrides .entry)) (now (led .entry))) named)) × (r ≤ at + mostReply) ⌝ }
 {
     match named {
         Named::Register => put_sized(out, at, reg),
+        Named::Overrides => put_sized(out, at, overrides),
         Named::Ledger => put_sized(out, at, led),
         Named::Neither => text::put(b"error", out, at),
     }
 }
 
-// A snapshot of both tables, written to an output and put as text.
+// A snapshot of the public register and the ledger, written to an output and put as text.
 fn put_effect(out: &mut [u8], at: usize, output: &mut [u8], reg: &[u32], led: &[u32]) -> usize
     requires { ⌜ at + (answerRoom + 2 * length (now output)) ≤ length (now out) ⌝ }
     ensures { λ r. ⌜ (r ≡ at + length (effectText (writeEffect (now (reg .entry)) (now (led .entry)) (now (output .entry)))))
@@ -144,8 +165,8 @@ fn no_output() -> [u8; commands::MOST_OUTPUT]
 
 fn put_snapshot(out: &mut [u8], at: usize, capacity: usize, reg: &[u32], led: &[u32]) -> usize
     requires { ⌜ at + mostReply ≤ length (now out) ⌝ }
-    ensures { λ r. ⌜ (r ≡ at + length (snapshotText (both (now (reg .entry)) (now (led .entry))) capacity))
-        × (now (out .exit) ≡ sets (now (out .entry)) at (snapshotText (both (now (reg .entry)) (now (led .entry))) capacity))
+    ensures { λ r. ⌜ (r ≡ at + length (snapshotText (now (reg .entry)) (now (led .entry)) capacity))
+        × (now (out .exit) ≡ sets (now (out .entry)) at (snapshotText (now (reg .entry)) (now (led .entry)) capacity))
         × (r ≤ at + mostReply) ⌝ }
 {
     let mut output = no_output();
@@ -153,10 +174,35 @@ fn put_snapshot(out: &mut [u8], at: usize, capacity: usize, reg: &[u32], led: &[
     put_effect(out, at, &mut output[..n], reg, led)
 }
 
-pub fn put(out: &mut [u8], at: usize, reply: Reply, reg: &[u32], led: &[u32]) -> usize
-    requires { ⌜ (length (now reg) ≤ mostLent) × (length (now led) ≤ mostLent) × (at + mostReply ≤ length (now out)) ⌝ }
-    ensures { λ r. ⌜ (r ≡ at + length (replyText (both (now (reg .entry)) (now (led .entry))) reply))
-        × (now (out .exit) ≡ sets (now (out .entry)) at (replyText (both (now (reg .entry)) (now (led .entry))) reply))
+// The part of a register that is looked up goes into the text as it stands there.
+fn put_lookup<'a>(
+    out: &mut [u8],
+    at: usize,
+    source: u32,
+    customer: u32,
+    reg: &'a [u32],
+    overrides: &'a [u32],
+) -> usize
+    requires { ⌜ at + mostReply ≤ length (now out) ⌝ }
+    ensures { λ r. ⌜ (r ≡ at + length (lookupText (lent (now (reg .entry)) (now (overrides .entry))) source customer))
+        × (now (out .exit) ≡ sets (now (out .entry)) at (lookupText (lent (now (reg .entry)) (now (overrides .entry))) source customer))
+        × (r ≤ at + mostReply) ⌝ }
+{
+    let providers = filter::lookup(reg, overrides, source, AsNumber(customer));
+    answers::put_list(out, at, providers)
+}
+
+pub fn put<'a>(
+    out: &mut [u8],
+    at: usize,
+    reply: Reply,
+    reg: &'a [u32],
+    overrides: &'a [u32],
+    led: &[u32],
+) -> usize
+    requires { ⌜ (length (now reg) ≤ mostLent) × (length (now overrides) ≤ mostLent) × (length (now led) ≤ mostLent) × (at + mostReply ≤ length (now out)) ⌝ }
+    ensures { λ r. ⌜ (r ≡ at + length (replyText (tablesOf (now (reg .entry)) (now (overrides .entry)) (now (led .entry))) reply))
+        × (now (out .exit) ≡ sets (now (out .entry)) at (replyText (tablesOf (now (reg .entry)) (now (overrides .entry)) (now (led .entry))) reply))
         × (r ≤ at + mostReply) ⌝ }
 {
     match reply {
@@ -166,10 +212,12 @@ pub fn put(out: &mut [u8], at: usize, reply: Reply, reg: &[u32], led: &[u32]) ->
         Reply::Removed(a) => answers::put_removal(out, at, a),
         Reply::Cleared(a) => answers::put_cleared(out, at, a),
         Reply::Judged(a) => answers::put_judged(out, at, a),
+        Reply::Hopped(a) => answers::put_hopped(out, at, a),
         Reply::Rejudged(a) => answers::put_rejudged(out, at, a),
         Reply::Restored(a) => answers::put_restored(out, at, a),
         Reply::Written(n) => put_snapshot(out, at, n, reg, led),
-        Reply::Shown(t) => put_shown(out, at, t, reg, led),
-        Reply::Sized(t) => put_all(out, at, t, reg, led),
+        Reply::Listed(source, customer) => put_lookup(out, at, source, customer, reg, overrides),
+        Reply::Shown(t) => put_shown(out, at, t, reg, overrides, led),
+        Reply::Sized(t) => put_all(out, at, t, reg, overrides, led),
     }
 }

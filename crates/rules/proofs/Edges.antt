@@ -18,7 +18,7 @@ use Rattle.as_path.specs.Reading.{mostNumbers, merged, contentOf}
 use Rattle.as_path.proofs.Contents.{content-merged}
 use Rattle.as_path.proofs.MergedPaths.{numbers-append}
 use Rattle.rules.specs.Hops.{HopFunction, lowest, highest, climb, descend}
-use Rattle.rules.specs.Records.{isIn, attested, united, hopOf}
+use Rattle.rules.specs.Records.{isIn, attested, united, listOf, hopOf, hopOver}
 use Rattle.rules.specs.Verdicts.{upstream, downstream, judged}
 use Rattle.rules.specs.Judging.{mostBytes, answerTo, judgedRoute}
 use Rattle.rules.specs.Vectors.{bytes, sequence, repeated, pair, pairsThen, two, longestThen, full, full-next, fullThen, judgedEmpty, Edges}
@@ -103,32 +103,32 @@ unfolding bytes
 most-long = length-then (mostBytes / length two) two []
 
 long-judged :
-    judgedEmpty (longestThen []) ≡ answerTo (hopOf []) 1 (merged (mergeRuns (repeated (mostBytes / length two) (numbersIn (ones (20 ∷ []) ∷ ones (replicate 254 30) ∷ [])) ++ [])))
+    judgedEmpty (longestThen []) ≡ answerTo (hopOver [] []) 1 (merged (mergeRuns (repeated (mostBytes / length two) (numbersIn (ones (20 ∷ []) ∷ ones (replicate 254 30) ∷ [])) ++ [])))
 unfolding hasSet numbersIn bytes isIn
 long-judged =
-    answer-by (hopOf []) 1 (longestThen []) _ _ refl (length-then (mostBytes / length two) two []) refl
+    answer-by (hopOver [] []) 1 (longestThen []) _ _ refl (length-then (mostBytes / length two) two []) refl
     (repeated-content 1 (mostBytes / length two - 1) two (ones (20 ∷ [])) (ones (replicate 254 30) ∷ []) [] []
     (read-then (sequence (20 ∷ [])) (sequence (replicate 254 30)) _ _ (sequence-read 20 [] refl) (sequence-read 30 (replicate 253 30) refl)) refl refl none-read refl)
 
 -- and of full segments.
 full-judged : (x : ℕ) (l : List ℕ) → isIn 0 (x ∷ l) ≡ false → ltb mostBytes (length (fullThen (sequence (x ∷ l)))) ≡ false
-    → judgedEmpty (fullThen (sequence (x ∷ l))) ≡ answerTo (hopOf []) 1 (merged (mergeRuns (full ++ (full-next ++ (x ∷ l ++ [])))))
+    → judgedEmpty (fullThen (sequence (x ∷ l))) ≡ answerTo (hopOver [] []) 1 (merged (mergeRuns (full ++ (full-next ++ (x ∷ l ++ [])))))
 unfolding hasSet numbersIn repeated isIn
 full-judged x l e h =
-    answer-by (hopOf []) 1 (fullThen (sequence (x ∷ l))) _ _ refl refl h
+    answer-by (hopOver [] []) 1 (fullThen (sequence (x ∷ l))) _ _ refl refl h
     (read-content 1 (fullThen (sequence (x ∷ l))) (ones full) (ones full-next ∷ ones (x ∷ l) ∷ [])
     (read-then (sequence full) (sequence full-next ++ sequence (x ∷ l)) _ _ (sequence-read 20 _ refl)
     (read-then (sequence full-next) (sequence (x ∷ l)) _ _ (sequence-read 30 _ refl) (sequence-read x l e))) refl refl)
 
 pub edges : Edges
-unfolding bytes repeated judgedRoute firstGiven contentOf startsFrom starts segments segmentFault faultAmong firstFault hasSet groundOf numbersIn runsAfter mergeRuns mergedPath lowest highest climb descend isIn attested united hopOf upstream downstream judged
+unfolding bytes repeated judgedRoute firstGiven contentOf startsFrom starts segments segmentFault faultAmong firstFault hasSet groundOf numbersIn runsAfter mergeRuns mergedPath lowest highest climb descend isIn attested united listOf hopOf hopOver upstream downstream judged
 edges =
     record {
       empty = refl;
       lone-byte = refl;
-      most-numbers = pairs-judged (hopOf []) 1 [] [] refl refl none-read refl refl ∙ refl;
-      one-number-more = pairs-judged (hopOf []) 1 (sequence (20 ∷ [])) _ refl refl (sequence-read 20 [] refl) refl refl ∙ refl;
-      one-repeat-more = pairs-judged (hopOf []) 1 (sequence (30 ∷ [])) _ refl refl (sequence-read 30 [] refl) refl refl ∙ refl;
+      most-numbers = pairs-judged (hopOver [] []) 1 [] [] refl refl none-read refl refl ∙ refl;
+      one-number-more = pairs-judged (hopOver [] []) 1 (sequence (20 ∷ [])) _ refl refl (sequence-read 20 [] refl) refl refl ∙ refl;
+      one-repeat-more = pairs-judged (hopOver [] []) 1 (sequence (30 ∷ [])) _ refl refl (sequence-read 30 [] refl) refl refl ∙ refl;
       most-bytes = long-judged ∙ refl;
       one-byte-more = too-long (longestThen (2 ∷ [])) _ (length-then (mostBytes / length two) two (2 ∷ [])) refl;
       bytes-are = most-long;

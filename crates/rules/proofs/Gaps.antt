@@ -11,6 +11,7 @@ use lib.ListN.{length}
 use mathlib.Core.List.{List}
 use mir.Syntax.{w32}
 use mir.Val.{SFits}
+use Rattle.types.specs.declared.Origin.{Origin}
 use Rattle.types.specs.declared.Hop.the-variants.{NoAttestation, ProviderPlus}
 use Rattle.rules.specs.Hops.{HopFunction}
 use Rattle.rules.specs.Verdicts.{rampUp, rampDown, gapOf}
@@ -81,15 +82,15 @@ module _ (hop : HopFunction) (path : List ℕ) (one : 1 ≤ length path) (n : �
 
 module _ (path : List ℕ) (one : 1 ≤ length path) where
   -- Where every hop is Provider+, K is N and L is 1: the least gap, at every N.
-  pub gap-least : gapOf (λ x y. ProviderPlus) path ≡ pos 1 -ℤ pos (length path)
-  gap-least = rw (k, l)
+  pub gap-least : (o : Origin) (s : ℕ) → gapOf (λ x y. ProviderPlus o s) path ≡ pos 1 -ℤ pos (length path)
+  gap-least o s = rw (k, l)
     where
-      k : rampUp (λ x y. ProviderPlus) path ≡ length path
-      k = ramp-up-only (ramp-up-is (λ x y. ProviderPlus) path one)
+      k : rampUp (λ x y. ProviderPlus o s) path ≡ length path
+      k = ramp-up-only (ramp-up-is (λ x y. ProviderPlus o s) path one)
           (record { low = one; high = omega arith; plus = λ i a b. refl; ends = λ h. absurd (omega arith) })
 
-      l : rampDown (λ x y. ProviderPlus) path ≡ 1
-      l = ramp-down-only (ramp-down-is (λ x y. ProviderPlus) path one)
+      l : rampDown (λ x y. ProviderPlus o s) path ≡ 1
+      l = ramp-down-only (ramp-down-is (λ x y. ProviderPlus o s) path one)
           (record { low = omega arith; high = one; plus = λ j a b. refl; ends = λ h. absurd (omega arith) })
 
   -- Where no AS has a record, K is 1 and L is N: the greatest gap, at every N.

@@ -123,7 +123,7 @@ gap-laws =
     record {
       least = λ hop path one. gap-low hop path one (length path) (omega arith);
       most = λ hop path one. gap-high hop path one (length path) (omega arith);
-      least-reached = gap-least;
+      least-reached = λ o s path one. gap-least path one o s;
       most-reached = gap-most;
       answered = answered-gap;
     }

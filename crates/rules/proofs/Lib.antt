@@ -8,3 +8,4 @@ pub mod Judges
 pub mod Laws
 pub mod Sequences
 pub mod Edges
+pub mod Overrides

@@ -23,8 +23,8 @@ use Rattle.rules.proofs.Gaps.{far}
 -- No hop is both Not Provider+ and Provider+.
 pub one-answer {ℓ} : {X : Type ℓ} (h : Hop) → isNotPlus h ≡ true → isPlus h ≡ true → X
 one-answer NoAttestation e f = absurd (true≢false (sym e))
-one-answer ProviderPlus e f = absurd (true≢false (sym e))
-one-answer NotProviderPlus e f = absurd (true≢false (sym f))
+one-answer (ProviderPlus o s) e f = absurd (true≢false (sym e))
+one-answer (NotProviderPlus o) e f = absurd (true≢false (sym f))
 
 -- Two tests that do not both pass may be made in either order.
 pub swapped : (s t : Bool) (x y z : Verdict) → (s ≡ true → t ≡ false) → cond s x (cond t y z) ≡ cond t y (cond s x z)

@@ -3,23 +3,31 @@ use Prim.Native.Nat.{ℕ, zero, suc, _+_, _-_}
 use mathlib.Core.List.{List}
 use mathlib.Core.Bool.{Bool, true, false, cond}
 use lib.ListN.{length, getD}
+use Rattle.types.specs.declared.Origin.{Origin}
+use Rattle.types.specs.declared.Origin.the-variants.{Public}
 use Rattle.types.specs.declared.Hop.{Hop}
 use Rattle.types.specs.declared.Hop.the-variants.{NoAttestation, ProviderPlus, NotProviderPlus}
 
 abbrev pub isPlus : Hop → Bool
 isPlus NoAttestation = false
-isPlus ProviderPlus = true
-isPlus NotProviderPlus = false
+isPlus (ProviderPlus o s) = true
+isPlus (NotProviderPlus o) = false
 
 abbrev pub isNotPlus : Hop → Bool
 isNotPlus NoAttestation = false
-isNotPlus ProviderPlus = false
-isNotPlus NotProviderPlus = true
+isNotPlus (ProviderPlus o s) = false
+isNotPlus (NotProviderPlus o) = true
 
 abbrev pub isUnattested : Hop → Bool
 isUnattested NoAttestation = true
-isUnattested ProviderPlus = false
-isUnattested NotProviderPlus = false
+isUnattested (ProviderPlus o s) = false
+isUnattested (NotProviderPlus o) = false
+
+-- The register that a hop is by ("P6"). No Attestation is by none, and nothing reads it there.
+abbrev pub originOf : Hop → Origin
+originOf NoAttestation = Public
+originOf (ProviderPlus o s) = o
+originOf (NotProviderPlus o) = o
 
 -- hop(x, y): what the records of x say of y.
 abbrev pub HopFunction : Type 0

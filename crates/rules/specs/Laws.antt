@@ -8,6 +8,7 @@ use lib.IntN.{ℤ, pos, _-ℤ_}
 use lib.Signed.{leZ, _≤ℤ_}
 use lib.Dec.{leb}
 use lib.ListN.{length}
+use Rattle.types.specs.declared.Origin.{Origin}
 use Rattle.types.specs.declared.Hop.the-variants.{NoAttestation, ProviderPlus}
 use Rattle.types.specs.declared.Verdict.{Verdict}
 use Rattle.types.specs.declared.Verdict.the-variants.{Valid, Invalid, Unknown}
@@ -98,7 +99,7 @@ pub record GapLaws : Type 0 where
   pub least : (hop : HopFunction) (path : List ℕ) → 1 ≤ length path → (pos 1 -ℤ pos (length path)) ≤ℤ gapOf hop path
   pub most : (hop : HopFunction) (path : List ℕ) → 1 ≤ length path → gapOf hop path ≤ℤ (pos (length path) -ℤ pos 1)
   -- Both ends are reached at every N: where every hop is Provider+, and where no AS has a record.
-  pub least-reached : (path : List ℕ) → 1 ≤ length path → gapOf (λ x y. ProviderPlus) path ≡ pos 1 -ℤ pos (length path)
+  pub least-reached : (o : Origin) (s : ℕ) (path : List ℕ) → 1 ≤ length path → gapOf (λ x y. ProviderPlus o s) path ≡ pos 1 -ℤ pos (length path)
   pub most-reached : (path : List ℕ) → 1 ≤ length path → gapOf (λ x y. NoAttestation) path ≡ pos (length path) -ℤ pos 1
   -- The gap of every answer given for a route lies within the most numbers of a path less one.
   pub answered : (hop : HopFunction) (role neighbour : ℕ) (attribute : List ℕ) (a : Answer) (g : ℤ)

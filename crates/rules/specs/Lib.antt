@@ -5,3 +5,4 @@ pub mod Judging
 pub mod Draft
 pub mod Laws
 pub mod Vectors
+pub mod Overrides

@@ -5,6 +5,8 @@ use mathlib.Core.List.{List, [], _∷_, _++_, map}
 use lib.IntN.{ℤ, pos, negsuc}
 use lib.ListN.{length, replicate}
 use Rattle.types.specs.declared.Ground.the-variants.{Empty, NotNeighbour}
+use Rattle.types.specs.declared.Origin.the-variants.{Public}
+use Rattle.types.specs.declared.Origins.the-variants.{One, Two}
 use Rattle.types.specs.declared.Cause.the-variants.{ByGround, ByHops}
 use Rattle.types.specs.declared.Verdict.{Verdict}
 use Rattle.types.specs.declared.Verdict.the-variants.{Valid, Invalid, Unknown}
@@ -20,7 +22,7 @@ use Rattle.as_path.specs.Grounds.{hasSet, groundOf}
 use Rattle.as_path.specs.Merging.{numbersIn, runsAfter, mergeRuns, mergedPath}
 use Rattle.as_path.specs.Reading.{mostNumbers, contentOf}
 use Rattle.rules.specs.Hops.{lowest, highest, climb, descend}
-use Rattle.rules.specs.Records.{Record, isIn, attested, united, hopOf}
+use Rattle.rules.specs.Records.{Record, isIn, attested, united, listOf, hopOf, hopOver}
 use Rattle.rules.specs.Verdicts.{upstream, downstream, judged}
 use Rattle.rules.specs.Judging.{mostBytes, judgedRoute}
 
@@ -67,12 +69,12 @@ abbrev pub vectors : List Vector
 vectors =
     vector 1 20 (20 ∷ 10 ∷ []) (plain Valid)
     ∷ vector 1 40 (40 ∷ 20 ∷ 10 ∷ []) (plain Valid)
-    ∷ vector 1 50 (50 ∷ 20 ∷ 10 ∷ []) (plain (Invalid (ByHops 3 0)))
-    ∷ vector 2 30 (30 ∷ 60 ∷ 10 ∷ []) (plain (Invalid (ByHops 2 0)))
+    ∷ vector 1 50 (50 ∷ 20 ∷ 10 ∷ []) (plain (Invalid (ByHops 3 0 (One Public))))
+    ∷ vector 2 30 (30 ∷ 60 ∷ 10 ∷ []) (plain (Invalid (ByHops 2 0 (One Public))))
     ∷ vector 1 30 (30 ∷ 60 ∷ []) (plain (Unknown 2 0))
     ∷ vector 3 50 (50 ∷ 40 ∷ 20 ∷ 10 ∷ []) (gapped Valid (pos 0))
     ∷ vector 3 20 (20 ∷ 10 ∷ 30 ∷ []) (gapped (Unknown 1 3) (pos 2))
-    ∷ vector 3 20 (20 ∷ 10 ∷ 40 ∷ []) (gapped (Invalid (ByHops 2 2)) (pos 2))
+    ∷ vector 3 20 (20 ∷ 10 ∷ 40 ∷ []) (gapped (Invalid (ByHops 2 2 (Two Public Public))) (pos 2))
     ∷ vector 3 50 (50 ∷ 20 ∷ []) (gapped Valid (pos 1))
     ∷ vector 6 80 (80 ∷ 70 ∷ []) (gapped Valid (negsuc 0))
     ∷ vector 1 30 (20 ∷ 10 ∷ []) (plain (Invalid (ByGround NotNeighbour)))
@@ -83,11 +85,11 @@ abbrev pub wanted : Vector → Judged
 wanted v = v .answer
 
 abbrev pub given : Vector → Judged
-given v = judgedRoute (hopOf registerD) (v .role) (v .neighbour) (sequence (v .path))
+given v = judgedRoute (hopOver registerD []) (v .role) (v .neighbour) (sequence (v .path))
 
 -- Every vector's answer is the definitions' own.
 pub starred : map given vectors ≡ map wanted vectors
-unfolding judgedRoute firstGiven contentOf numberAt numbersAt startsFrom starts segments numbersFault segmentFault faultAmong firstFault hasSet groundOf numbersIn runsAfter mergeRuns mergedPath lowest highest climb descend isIn attested united hopOf upstream downstream judged bytes
+unfolding judgedRoute firstGiven contentOf numberAt numbersAt startsFrom starts segments numbersFault segmentFault faultAmong firstFault hasSet groundOf numbersIn runsAfter mergeRuns mergedPath lowest highest climb descend isIn attested united listOf hopOf hopOver upstream downstream judged bytes
 starred = refl
 
 -- ---- runs over a segment's end
@@ -114,17 +116,17 @@ cutVectors =
     ∷ cut 1 20 ((20 ∷ 20 ∷ []) ∷ (20 ∷ []) ∷ (20 ∷ 20 ∷ []) ∷ (20 ∷ 10 ∷ []) ∷ []) (plain Valid)
     ∷ cut 1 20 ((20 ∷ 10 ∷ []) ∷ (10 ∷ []) ∷ []) (plain Valid)
     ∷ cut 3 20 ((20 ∷ []) ∷ (20 ∷ 10 ∷ []) ∷ (10 ∷ 30 ∷ []) ∷ []) (gapped (Unknown 1 3) (pos 2))
-    ∷ cut 3 20 ((20 ∷ 10 ∷ []) ∷ (20 ∷ 10 ∷ []) ∷ []) (gapped (Invalid (ByHops 3 3)) (pos 2))
+    ∷ cut 3 20 ((20 ∷ 10 ∷ []) ∷ (20 ∷ 10 ∷ []) ∷ []) (gapped (Invalid (ByHops 3 3 (Two Public Public))) (pos 2))
     ∷ []
 
 abbrev pub wantedCut : CutVector → Judged
 wantedCut v = v .answer
 
 abbrev pub givenCut : CutVector → Judged
-givenCut v = judgedRoute (hopOf registerD) (v .role) (v .neighbour) (sequences (v .paths))
+givenCut v = judgedRoute (hopOver registerD []) (v .role) (v .neighbour) (sequences (v .paths))
 
 pub starred-cut : map givenCut cutVectors ≡ map wantedCut cutVectors
-unfolding judgedRoute firstGiven contentOf numberAt numbersAt startsFrom starts segments numbersFault segmentFault faultAmong firstFault hasSet groundOf numbersIn runsAfter mergeRuns mergedPath lowest highest climb descend isIn attested united hopOf upstream downstream judged bytes
+unfolding judgedRoute firstGiven contentOf numberAt numbersAt startsFrom starts segments numbersFault segmentFault faultAmong firstFault hasSet groundOf numbersIn runsAfter mergeRuns mergedPath lowest highest climb descend isIn attested united listOf hopOf hopOver upstream downstream judged bytes
 starred-cut = refl
 
 -- Vector A's attribute, byte by byte.
@@ -163,7 +165,7 @@ abbrev pub fullThen : List ℕ → List ℕ
 fullThen rest = sequence full ++ (sequence full-next ++ rest)
 
 abbrev pub judgedEmpty : List ℕ → Judged
-judgedEmpty attribute = judgedRoute (hopOf []) 1 20 attribute
+judgedEmpty attribute = judgedRoute (hopOver [] []) 1 20 attribute
 
 -- Written from the limits, and then by number (P5); proofs/Edges.antt has the proof.
 pub record Edges : Type 0 where

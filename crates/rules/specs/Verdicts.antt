@@ -6,6 +6,7 @@ use lib.ListN.{length}
 use lib.IntN.{ℤ, pos, _-ℤ_}
 use lib.Signed.{leZ}
 use lib.Dec.{leb}
+use Rattle.types.specs.declared.Origins.the-variants.{One, Two}
 use Rattle.types.specs.declared.Cause.{Cause}
 use Rattle.types.specs.declared.Cause.the-variants.{ByHops}
 use Rattle.types.specs.declared.Verdict.{Verdict}
@@ -13,7 +14,7 @@ use Rattle.types.specs.declared.Verdict.the-variants.{Valid, Invalid, Unknown}
 use Rattle.types.specs.declared.Answer.{Answer}
 use Rattle.types.specs.declared.Answer.the-variants.{Plain, WithGap}
 use Rattle.types.specs.Roles.{isUpstream}
-use Rattle.rules.specs.Hops.{HopFunction, isNotPlus, isUnattested, up, down, lowest, highest, climb, descend}
+use Rattle.rules.specs.Hops.{HopFunction, isNotPlus, isUnattested, originOf, up, down, lowest, highest, climb, descend}
 
 module _ (hop : HopFunction) (path : List ℕ) where
   -- u: the lowest of 2..N whose upward hop is Not Provider+, or N + 1.
@@ -39,12 +40,12 @@ module _ (hop : HopFunction) (path : List ℕ) where
   abbrev pub gapOf : ℤ
   gapOf = pos rampDown -ℤ pos rampUp
 
-  -- The cause of an Invalid upstream at the hop to u, and downstream at the hops to u and v. A cause that says more says it here.
+  -- The cause of an Invalid upstream at the hop to u, and downstream at the hops to u and v, with the register of each hop.
   abbrev pub upCause : ℕ → Cause
-  upCause u = ByHops u 0
+  upCause u = ByHops u 0 (One (originOf (up hop path u)))
 
   abbrev pub downCause : ℕ → ℕ → Cause
-  downCause u v = ByHops u v
+  downCause u v = ByHops u v (Two (originOf (up hop path u)) (originOf (down hop path v)))
 
   unfoldable pub upstream : Verdict
   upstream =

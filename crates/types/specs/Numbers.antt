@@ -10,6 +10,10 @@ use Rattle.types.specs.declared.RoleRead.{RoleRead}
 use Rattle.types.specs.declared.RoleRead.the-variants.{Is, Nothing}
 use Rattle.types.specs.declared.Ground.{Ground}
 use Rattle.types.specs.declared.Ground.the-variants.{Empty, NotNeighbour, AsSet}
+use Rattle.types.specs.declared.Origin.{Origin}
+use Rattle.types.specs.declared.Origin.the-variants.{Public, Overrides}
+use Rattle.types.specs.declared.Origins.{Origins}
+use Rattle.types.specs.declared.Origins.the-variants.{One, Two}
 use Rattle.types.specs.declared.Cause.{Cause}
 use Rattle.types.specs.declared.Cause.the-variants.{ByGround, ByHops}
 use Rattle.types.specs.declared.Verdict.{Verdict}
@@ -57,7 +61,7 @@ verdictNumber (Unknown a b) = 2
 
 abbrev pub causeGround : Cause → ℕ
 causeGround (ByGround g) = groundNumber g
-causeGround (ByHops a b) = 0
+causeGround (ByHops a b o) = 0
 
 -- A ledger entry's ground: 0 where the verdict has none.
 abbrev pub verdictGround : Verdict → ℕ
@@ -67,11 +71,11 @@ verdictGround (Unknown a b) = 0
 
 abbrev pub causeA : Cause → ℕ
 causeA (ByGround g) = 0
-causeA (ByHops a b) = a
+causeA (ByHops a b o) = a
 
 abbrev pub causeB : Cause → ℕ
 causeB (ByGround g) = 0
-causeB (ByHops a b) = b
+causeB (ByHops a b o) = b
 
 -- The places a and b: 0 for Valid and for a ground.
 abbrev pub placeA : Verdict → ℕ
@@ -83,6 +87,38 @@ abbrev pub placeB : Verdict → ℕ
 placeB Valid = 0
 placeB (Invalid c) = causeB c
 placeB (Unknown a b) = b
+
+-- Registers: 1 public, 2 overrides; 0 stands where no hop is named.
+abbrev pub originNumber : Origin → ℕ
+originNumber Public = 1
+originNumber Overrides = 2
+
+abbrev pub firstOrigin : Origins → ℕ
+firstOrigin (One a) = originNumber a
+firstOrigin (Two a b) = originNumber a
+
+abbrev pub secondOrigin : Origins → ℕ
+secondOrigin (One a) = 0
+secondOrigin (Two a b) = originNumber b
+
+abbrev pub causeOriginA : Cause → ℕ
+causeOriginA (ByGround g) = 0
+causeOriginA (ByHops a b o) = firstOrigin o
+
+abbrev pub causeOriginB : Cause → ℕ
+causeOriginB (ByGround g) = 0
+causeOriginB (ByHops a b o) = secondOrigin o
+
+-- The register of the hop at place a, and at place b: only an Invalid by hops names one.
+abbrev pub originA : Verdict → ℕ
+originA Valid = 0
+originA (Invalid c) = causeOriginA c
+originA (Unknown a b) = 0
+
+abbrev pub originB : Verdict → ℕ
+originB Valid = 0
+originB (Invalid c) = causeOriginB c
+originB (Unknown a b) = 0
 
 -- ---- answers
 

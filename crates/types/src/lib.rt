@@ -2,7 +2,7 @@
 ghost use mathlib.Core.Path.{_≡_};
 ghost use Rattle.types.specs.Roles.{isRouteServer, isUpstream};
 ghost use Rattle.types.specs.Numbers.{roleOf, roleNumber, groundNumber, faultNumber, refusalNumber, refusalPlace, verdictNumber, verdictGround, placeA};
-ghost use Rattle.types.specs.Numbers.{placeB, verdictOf};
+ghost use Rattle.types.specs.Numbers.{placeB, originNumber, firstOrigin, secondOrigin, originA, originB, verdictOf};
 
 // The number of an autonomous system.
 pub struct AsNumber(pub u32);
@@ -119,17 +119,61 @@ impl Ground {
     }
 }
 
-// What the hop check says of two neighbours on a path.
-pub enum Hop {
-    NoAttestation,
-    ProviderPlus,
-    NotProviderPlus,
+// The register that counts for a customer: the public one, or the operator's own overrides.
+pub enum Origin {
+    Public,
+    Overrides,
 }
 
-// Why a route is Invalid: its ground, or the two places of the hops that are Not Provider+ (upstream the second is 0).
+impl Origin {
+    pub fn number(self) -> u32
+        ensures { λ r. ⌜ r ≡ originNumber self ⌝ }
+    {
+        match self {
+            Origin::Public => 1,
+            Origin::Overrides => 2,
+        }
+    }
+}
+
+// What the hop check says of two neighbours on a path, by which register; a Provider+ also by which source, the lowest that lists the provider.
+pub enum Hop {
+    NoAttestation,
+    ProviderPlus(Origin, u32),
+    NotProviderPlus(Origin),
+}
+
+// The registers by which the hops of an Invalid are Not Provider+: upstream it names one hop, downstream two.
+pub enum Origins {
+    One(Origin),
+    Two(Origin, Origin),
+}
+
+impl Origins {
+    pub fn first(self) -> u32
+        ensures { λ r. ⌜ r ≡ firstOrigin self ⌝ }
+    {
+        match self {
+            Origins::One(a) => a.number(),
+            Origins::Two(a, _) => a.number(),
+        }
+    }
+
+    // 0 where no second hop is named.
+    pub fn second(self) -> u32
+        ensures { λ r. ⌜ r ≡ secondOrigin self ⌝ }
+    {
+        match self {
+            Origins::One(_) => 0,
+            Origins::Two(_, b) => b.number(),
+        }
+    }
+}
+
+// Why a route is Invalid: its ground, or the two places of the hops that are Not Provider+ (upstream the second is 0), with their registers.
 pub enum Cause {
     ByGround(Ground),
-    ByHops(u32, u32),
+    ByHops(u32, u32, Origins),
 }
 
 pub enum Verdict {
@@ -157,7 +201,7 @@ impl Verdict {
             Verdict::Valid => 0,
             Verdict::Invalid(c) => match c {
                 Cause::ByGround(g) => g.number(),
-                Cause::ByHops(_, _) => 0,
+                Cause::ByHops(_, _, _) => 0,
             },
             Verdict::Unknown(_, _) => 0,
         }
@@ -170,7 +214,7 @@ impl Verdict {
             Verdict::Valid => 0,
             Verdict::Invalid(c) => match c {
                 Cause::ByGround(_) => 0,
-                Cause::ByHops(a, _) => a,
+                Cause::ByHops(a, _, _) => a,
             },
             Verdict::Unknown(a, _) => a,
         }
@@ -183,9 +227,36 @@ impl Verdict {
             Verdict::Valid => 0,
             Verdict::Invalid(c) => match c {
                 Cause::ByGround(_) => 0,
-                Cause::ByHops(_, b) => b,
+                Cause::ByHops(_, b, _) => b,
             },
             Verdict::Unknown(_, b) => b,
+        }
+    }
+
+    // The number of the register of the hop at place a, and at place b; 0 where no hop is named.
+    pub fn origin_a(self) -> u32
+        ensures { λ r. ⌜ r ≡ originA self ⌝ }
+    {
+        match self {
+            Verdict::Valid => 0,
+            Verdict::Invalid(c) => match c {
+                Cause::ByGround(_) => 0,
+                Cause::ByHops(_, _, o) => o.first(),
+            },
+            Verdict::Unknown(_, _) => 0,
+        }
+    }
+
+    pub fn origin_b(self) -> u32
+        ensures { λ r. ⌜ r ≡ originB self ⌝ }
+    {
+        match self {
+            Verdict::Valid => 0,
+            Verdict::Invalid(c) => match c {
+                Cause::ByGround(_) => 0,
+                Cause::ByHops(_, _, o) => o.second(),
+            },
+            Verdict::Unknown(_, _) => 0,
         }
     }
 }
@@ -319,6 +390,12 @@ impl Refusal {
 // What a judging ends in.
 pub enum Judged {
     Answered(Answer),
+    Refused(Refusal),
+}
+
+// What a hop between two numbers is answered as.
+pub enum Hopped {
+    Answered(Hop),
     Refused(Refusal),
 }
 

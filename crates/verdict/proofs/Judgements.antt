@@ -9,6 +9,7 @@ use lib.Dec.{leb}
 use lib.ListN.{length}
 use lib.IntN.{ℤ, pos, _-ℤ_}
 use lib.Signed.{leZ}
+use Rattle.types.specs.declared.Cause.{Cause}
 use Rattle.types.specs.declared.Verdict.{Verdict}
 use Rattle.types.specs.declared.Verdict.the-variants.{Valid, Invalid, Unknown}
 use Rattle.types.specs.declared.Answer.the-variants.{Plain, WithGap}
@@ -58,8 +59,8 @@ module _ (hop : HopFunction) (path : List ℕ) (role : ℕ) where
     by-indices = rw (t, d, e)
 
     -- u at most v.
-    pub judged-invalid : r .u ≤ r .v → WithGap (Invalid (downCause hop path (r .u) (r .v))) g ≡ judged hop path role
-    judged-invalid h = rw (by-indices, le-leb (r .u) (r .v) h)
+    pub judged-invalid : {k : Cause} → r .u ≤ r .v → k ≡ downCause hop path (r .u) (r .v) → WithGap (Invalid k) g ≡ judged hop path role
+    judged-invalid h q = rw (by-indices, le-leb (r .u) (r .v) h, q)
 
     -- u above v, and the gap at most 1.
     pub judged-valid : r .v < r .u → r .l ≤ r .k + 1 → WithGap Valid g ≡ judged hop path role

@@ -7,9 +7,12 @@ use native.Mathlib.Omega.{arith}
 use borrow.Author.Tests.{le-leb, lt-leb}
 use lib.Dec.{ltb}
 use lib.ListN.{length}
+use Rattle.types.specs.declared.Origin.{Origin}
+use Rattle.types.specs.declared.Origins.the-variants.{One}
 use Rattle.types.specs.declared.Hop.{Hop}
+use Rattle.types.specs.declared.Cause.the-variants.{ByHops}
 use Rattle.types.specs.declared.Verdict.the-variants.{Valid, Invalid, Unknown}
-use Rattle.rules.specs.Hops.{HopFunction, isNotPlus, isUnattested, asAt, up}
+use Rattle.rules.specs.Hops.{HopFunction, isNotPlus, isUnattested, originOf, asAt, up}
 use Rattle.rules.specs.Verdicts.{upCause, upstream}
 use Rattle.verdict.proofs.Turns.{First, first-starts, first-met, first-missed, first-on, first-done}
 
@@ -35,11 +38,14 @@ module _ {hop : HopFunction} {path : List ℕ} {a i : ℕ} (g : Rising hop path 
     read : up hop path (i + 1) ≡ x
     read = upward hop path i ∙ sym e
 
-    -- One that is Not Provider+ ends the loop.
-    pub rises-refused : isNotPlus x ≡ true → Invalid (upCause hop path (i + 1)) ≡ upstream hop path
+    -- One that is Not Provider+ ends the loop,
+    ends : isNotPlus x ≡ true → Invalid (upCause hop path (i + 1)) ≡ upstream hop path
     unfolding upstream
-    rises-refused z =
-        rw (first-met (g .refused) h (omega arith) (ap isNotPlus read ∙ z), le-leb (i + 1) (length path) (omega arith))
+    ends z = rw (first-met (g .refused) h (omega arith) (ap isNotPlus read ∙ z), le-leb (i + 1) (length path) (omega arith))
+
+    -- and its register is named.
+    pub rises-refused : {o : Origin} → isNotPlus x ≡ true → o ≡ originOf x → Invalid (ByHops (i + 1) 0 (One o)) ≡ upstream hop path
+    rises-refused z q = ap (λ o. Invalid (ByHops (i + 1) 0 (One o))) (q ∙ ap originOf (sym read)) ∙ ends z
 
     -- Another is passed, and noted if it is the first that is No Attestation.
     pub rises-on : {b : Bool} → isNotPlus x ≡ false → isUnattested x && ltb (length path) a ≡ b → Rising hop path (cond b (i + 1) a) (i + 1)

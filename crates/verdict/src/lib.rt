@@ -1,24 +1,28 @@
-// The verdict of a path over a register's records.
+// The verdict of a path over the records of two registers.
 use types::Answer;
 use types::AsNumber;
 use types::Cause;
 use types::Hop;
+use types::Origin;
+use types::Origins;
 use types::Role;
 use types::Verdict;
 ghost use mathlib.Core.Path.{_≡_};
-ghost use Prim.Native.Nat.{_+_, _≤_};
+ghost use Prim.Native.Nat.{_+_, _-_, _≤_};
 ghost use lib.ListN.{length};
 ghost use Rattle.types.specs.Numbers.{roleNumber};
 ghost use Rattle.rules.specs.Hops.{asAt};
-ghost use Rattle.rules.specs.Records.{hopOf};
+ghost use Rattle.types.specs.declared.Origin.the-variants.{Public};
+ghost use Rattle.types.specs.declared.Origins.the-variants.{Two};
+ghost use Rattle.rules.specs.Records.{hopOf, originFor};
 ghost use Rattle.rules.specs.Verdicts.{judged};
 ghost use Rattle.rules.specs.Verdicts as verdicts;
 ghost use Rattle.register.specs.Register.{recordsOf};
-ghost use Rattle.verdict.specs.Helpers.{longestPath, Judgeable};
+ghost use Rattle.registers.specs.Registers.{lent, hopIn};
+ghost use Rattle.verdict.specs.Helpers.{longestPath, JudgeableAlone, Judgeable, Named};
 ghost use Rattle.verdict.specs.Ramps.{rampsOf, afterUp, afterDown};
 
-// Whoever has one path to judge has no hints.
-pub const NO_HINTS: [u32; 0] = [0u32; 0];
+mod over;
 
 // u, v, K and L of a path.
 struct Ramps {
@@ -28,10 +32,10 @@ struct Ramps {
     l: usize,
 }
 
-// Upstream, one look-up for each number but the last.
-fn upstream(reg: &[u32], hints: &[u32], path: &[u32]) -> Verdict
-    requires { ⌜ Judgeable (now reg) (now path) ⌝ }
-    ensures { λ r. ⌜ r ≡ verdicts.upstream (hopOf (recordsOf (now (reg .entry)))) (now (path .entry)) ⌝ }
+// Upstream over the public register alone, one look-up for each number but the last.
+fn upstream_alone(reg: &[u32], hints: &[u32], path: &[u32]) -> Verdict
+    requires { ⌜ JudgeableAlone (now reg) (now path) ⌝ }
+    ensures { λ r. ⌜ r ≡ verdicts.upstream (hopOf Public (recordsOf (now (reg .entry)))) (now (path .entry)) ⌝ }
 {
     let n = path.len();
     let mut unattested = n + 1;
@@ -41,10 +45,10 @@ fn upstream(reg: &[u32], hints: &[u32], path: &[u32]) -> Verdict
         let x = path[n - i];
         let y = path[n - u];
         let position = hints::find(reg, hints, AsNumber(x));
-        let hop = hops::hop_from(reg, position, AsNumber(x), AsNumber(y));
+        let hop = hops::hop_from(reg, Origin::Public, position, AsNumber(x), AsNumber(y));
         if rules::is_not_plus(hop) {
             let a = u as u32;
-            return Verdict::Invalid(Cause::ByHops(a, 0));
+            return Verdict::Invalid(Cause::ByHops(a, 0, Origins::One(rules::origin(hop))));
         }
         if rules::is_unattested(hop) & (n < unattested) {
             unattested = u;
@@ -56,6 +60,17 @@ fn upstream(reg: &[u32], hints: &[u32], path: &[u32]) -> Verdict
         return Verdict::Unknown(a, 0);
     }
     Verdict::Valid
+}
+
+// Upstream. Most operators override nothing, and then a number is looked up in one register only.
+fn upstream<'a>(public: &'a [u32], overrides: &'a [u32], hints: &[u32], path: &[u32]) -> Verdict
+    requires { ⌜ Judgeable (lent (now public) (now overrides)) (now path) ⌝ }
+    ensures { λ r. ⌜ r ≡ verdicts.upstream (hopIn (lent (now (public .entry)) (now (overrides .entry)))) (now (path .entry)) ⌝ }
+{
+    if table::word(overrides, 0) == 0 {
+        return upstream_alone(public, hints, path);
+    }
+    over::upstream(public, overrides, hints, path)
 }
 
 // The indices after the hop from AS(i) to AS(i + 1).
@@ -113,10 +128,10 @@ fn number_or_zero(path: &[u32], i: usize) -> AsNumber
     AsNumber(0)
 }
 
-// All four indices in one pass, with one look-up for each number on the path and one reading of its lists.
-fn find_ramps(reg: &[u32], hints: &[u32], path: &[u32]) -> Ramps
-    requires { ⌜ Judgeable (now reg) (now path) ⌝ }
-    ensures { λ r. ⌜ r ≡ rampsOf (hopOf (recordsOf (now (reg .entry)))) (now (path .entry)) ⌝ }
+// All four indices over the public register alone in one pass, with one look-up for each number on the path and one reading of its lists.
+fn ramps_alone(reg: &[u32], hints: &[u32], path: &[u32]) -> Ramps
+    requires { ⌜ JudgeableAlone (now reg) (now path) ⌝ }
+    ensures { λ r. ⌜ r ≡ rampsOf (hopOf Public (recordsOf (now (reg .entry)))) (now (path .entry)) ⌝ }
 {
     let n = path.len();
     let mut r = Ramps {
@@ -128,13 +143,20 @@ fn find_ramps(reg: &[u32], hints: &[u32], path: &[u32]) -> Ramps
     let mut i: usize = 1;
     let origin = path[n - 1];
     let position = hints::find(reg, hints, AsNumber(origin));
-    let mut up = hops::hop_from(reg, position, AsNumber(origin), number_or_zero(path, 2));
+    let mut up = hops::hop_from(
+        reg,
+        Origin::Public,
+        position,
+        AsNumber(origin),
+        number_or_zero(path, 2),
+    );
     while i < n {
         let x = path[n - i];
         let y = path[n - (i + 1)];
         let position = hints::find(reg, hints, AsNumber(y));
         let hops = hops::hops_from(
             reg,
+            Origin::Public,
             position,
             AsNumber(y),
             AsNumber(x),
@@ -149,22 +171,58 @@ fn find_ramps(reg: &[u32], hints: &[u32], path: &[u32]) -> Ramps
     r
 }
 
-// The answer for a path of 1 number or more, looked up with hints for the register.
-pub fn judge_hinted(reg: &[u32], hints: &[u32], role: Role, path: &[u32]) -> Answer
-    requires { ⌜ Judgeable (now reg) (now path) ⌝ }
-    ensures { λ r. ⌜ r ≡ judged (hopOf (recordsOf (now (reg .entry)))) (now (path .entry)) (roleNumber role) ⌝ }
+// All four indices.
+fn find_ramps<'a>(public: &'a [u32], overrides: &'a [u32], hints: &[u32], path: &[u32]) -> Ramps
+    requires { ⌜ Judgeable (lent (now public) (now overrides)) (now path) ⌝ }
+    ensures { λ r. ⌜ r ≡ rampsOf (hopIn (lent (now (public .entry)) (now (overrides .entry)))) (now (path .entry)) ⌝ }
+{
+    if table::word(overrides, 0) == 0 {
+        return ramps_alone(public, hints, path);
+    }
+    over::ramps(public, overrides, hints, path)
+}
+
+// The registers of the hops to AS(u) and AS(v), both Not Provider+, where u is at most v: those that count for AS(u - 1) and AS(v + 1).
+fn origins(overrides: &[u32], path: &[u32], u: usize, v: usize) -> Origins
+    requires { ⌜ Named (now overrides) (now path) u v ⌝ }
+    ensures { λ r. ⌜ r ≡ Two (originFor (recordsOf (now (overrides .entry))) (asAt (now (path .entry)) (u - 1)))
+        (originFor (recordsOf (now (overrides .entry))) (asAt (now (path .entry)) (v + 1))) ⌝ }
+{
+    let n = path.len();
+    let x = path[n - (u - 1)];
+    let y = path[n - (v + 1)];
+    Origins::Two(
+        registers::origin_for(overrides, AsNumber(x)),
+        registers::origin_for(overrides, AsNumber(y)),
+    )
+}
+
+// The answer for a path of 1 number or more, looked up with hints for the public register.
+pub fn judge_hinted<'a>(
+    public: &'a [u32],
+    overrides: &'a [u32],
+    hints: &[u32],
+    role: Role,
+    path: &[u32],
+) -> Answer
+    requires { ⌜ Judgeable (lent (now public) (now overrides)) (now path) ⌝ }
+    ensures { λ r. ⌜ r ≡ judged (hopIn (lent (now (public .entry)) (now (overrides .entry)))) (now (path .entry)) (roleNumber role) ⌝ }
 {
     if role.is_upstream() {
-        return Answer::Plain(upstream(reg, hints, path));
+        return Answer::Plain(upstream(public, overrides, hints, path));
     }
-    let r = find_ramps(reg, hints, path);
+    let r = find_ramps(public, overrides, hints, path);
     let u = r.u;
     let v = r.v;
     let k = r.k;
     let l = r.l;
     let gap = rules::gap(l as u32, k as u32);
     if u <= v {
-        return Answer::WithGap(Verdict::Invalid(Cause::ByHops(u as u32, v as u32)), gap);
+        let origins = origins(overrides, path, u, v);
+        return Answer::WithGap(
+            Verdict::Invalid(Cause::ByHops(u as u32, v as u32, origins)),
+            gap,
+        );
     }
     if l <= k + 1 {
         return Answer::WithGap(Verdict::Valid, gap);
@@ -173,9 +231,9 @@ pub fn judge_hinted(reg: &[u32], hints: &[u32], role: Role, path: &[u32]) -> Ans
 }
 
 // The answer for a path of 1 number or more.
-pub fn judge(reg: &[u32], role: Role, path: &[u32]) -> Answer
-    requires { ⌜ Judgeable (now reg) (now path) ⌝ }
-    ensures { λ r. ⌜ r ≡ judged (hopOf (recordsOf (now (reg .entry)))) (now (path .entry)) (roleNumber role) ⌝ }
+pub fn judge<'a>(public: &'a [u32], overrides: &'a [u32], role: Role, path: &[u32]) -> Answer
+    requires { ⌜ Judgeable (lent (now public) (now overrides)) (now path) ⌝ }
+    ensures { λ r. ⌜ r ≡ judged (hopIn (lent (now (public .entry)) (now (overrides .entry)))) (now (path .entry)) (roleNumber role) ⌝ }
 {
-    judge_hinted(reg, &NO_HINTS, role, path)
+    judge_hinted(public, overrides, &registers::NO_HINTS, role, path)
 }

@@ -50,7 +50,19 @@ fn numbers(list: &[u32]) -> String {
 }
 
 const REGISTER: &str = "register";
+/// The overrides.
+const DRAWER: &str = "drawer";
 const LEDGER: &str = "ledger";
+const TABLES: [&str; 3] = [REGISTER, DRAWER, LEDGER];
+
+/// What stands before the words of commands on a register.
+fn d(register: &str) -> &'static str {
+    if register == DRAWER {
+        "d"
+    } else {
+        ""
+    }
+}
 
 // Lists
 
@@ -237,7 +249,8 @@ impl<W: FnMut(&str, &str) -> io::Result<()>> Stream<W> {
         type Phase<S> = fn(&mut S);
         let mut phases: Vec<Phase<Self>> = vec![
             Self::many_records,
-            Self::long_lists,
+            |s: &mut Self| s.long_lists(REGISTER),
+            |s: &mut Self| s.long_lists(DRAWER),
             Self::many_routes,
             Self::long_paths,
             Self::longest_paths,
@@ -249,21 +262,26 @@ impl<W: FnMut(&str, &str) -> io::Result<()>> Stream<W> {
         ];
         phases.extend([Self::long_ramps as Phase<Self>; 3]);
         phases.extend([Self::snapshots as Phase<Self>; 5]);
+        phases.extend([Self::overriding as Phase<Self>; 5]);
+        phases.extend([Self::two_damages as Phase<Self>; 4]);
         phases.extend([Self::ordinary as Phase<Self>; 12]);
         for damage in [
             |s: &mut Self| s.damage(REGISTER, Self::resize),
+            |s: &mut Self| s.damage(DRAWER, Self::resize),
             |s: &mut Self| s.damage(LEDGER, Self::resize),
         ] {
             phases.extend([damage as Phase<Self>; 2]);
         }
         for damage in [
             |s: &mut Self| s.damage(REGISTER, Self::poke_one_rule),
+            |s: &mut Self| s.damage(DRAWER, Self::poke_one_rule),
             |s: &mut Self| s.damage(LEDGER, Self::poke_one_rule),
         ] {
             phases.extend([damage as Phase<Self>; 3]);
         }
         for damage in [
             |s: &mut Self| s.damage(REGISTER, Self::poke),
+            |s: &mut Self| s.damage(DRAWER, Self::poke),
             |s: &mut Self| s.damage(LEDGER, Self::poke),
         ] {
             phases.extend([damage as Phase<Self>; 6]);
@@ -276,11 +294,17 @@ impl<W: FnMut(&str, &str) -> io::Result<()>> Stream<W> {
 
     // What is there
 
-    fn record_count(&self) -> usize {
-        match &self.model.register {
-            Table::Held(records) => records.len(),
-            Table::Words(_) => 0,
+    /// None for a register left as words by a poke.
+    fn records(&self, register: &str) -> Option<&Records> {
+        let table = if register == DRAWER { &self.model.overrides } else { &self.model.register };
+        match table {
+            Table::Held(records) => Some(records),
+            Table::Words(_) => None,
         }
+    }
+
+    fn record_count(&self, register: &str) -> usize {
+        self.records(register).map_or(0, Records::len)
     }
 
     fn route_count(&self) -> usize {
@@ -300,20 +324,36 @@ impl<W: FnMut(&str, &str) -> io::Result<()>> Stream<W> {
         }
     }
 
-    fn providers(&self, customer: u32) -> Vec<u32> {
-        let Table::Held(records) = &self.model.register else { return Vec::new() };
+    fn providers_in(&self, register: &str, customer: u32) -> Vec<u32> {
+        let Some(records) = self.records(register) else { return Vec::new() };
         let customer = AsNumber(customer);
         let lists = records.range((customer, 0)..=(customer, GREATEST_SOURCE));
-        lists.flat_map(|(_, list)| list.iter().map(|n| n.0)).filter(|n| *n != 0).collect()
+        lists.flat_map(|(_, list)| list.iter().map(|n| n.0)).collect()
+    }
+
+    /// By the register that counts, and now and then by the other.
+    fn providers(&mut self, customer: u32) -> Vec<u32> {
+        let overrides = self.providers_in(DRAWER, customer);
+        let providers = if overrides.is_empty() || self.random.percent(10) {
+            self.providers_in(REGISTER, customer)
+        } else {
+            overrides
+        };
+        providers.into_iter().filter(|n| *n != 0).collect()
+    }
+
+    fn some_record_in(&mut self, register: &str) -> Option<(u32, u32)> {
+        let count = self.record_count(register);
+        if count == 0 {
+            return None;
+        }
+        let nth = self.random.below(count);
+        self.records(register)?.keys().nth(nth).map(|(customer, source)| (customer.0, *source))
     }
 
     fn some_record(&mut self) -> Option<(u32, u32)> {
-        let Table::Held(records) = &self.model.register else { return None };
-        if records.is_empty() {
-            return None;
-        }
-        let nth = self.random.below(records.len());
-        records.keys().nth(nth).map(|(customer, source)| (customer.0, *source))
+        let register = self.register();
+        self.some_record_in(register)
     }
 
     fn some_route(&mut self) -> Option<u32> {
@@ -326,6 +366,11 @@ impl<W: FnMut(&str, &str) -> io::Result<()>> Stream<W> {
     }
 
     // Arguments
+
+    /// The overrides are the fewer, so that public records count too.
+    fn register(&mut self) -> &'static str {
+        self.random.pick(&[REGISTER, REGISTER, REGISTER, DRAWER])
+    }
 
     /// Few numbers, so that they meet again; now and then any.
     fn number(&mut self) -> u32 {
@@ -607,9 +652,24 @@ impl<W: FnMut(&str, &str) -> io::Result<()>> Stream<W> {
     // Calls
 
     fn file(&mut self) {
+        let register = self.register();
+        self.file_in(register);
+    }
+
+    fn file_in(&mut self, register: &str) {
         let (mut source, mut customer) = (self.source(), self.number_or_zero());
+        // Now and then one that the other register has
+        if self.random.percent(15) {
+            let other = if register == DRAWER { REGISTER } else { DRAWER };
+            (customer, source) = self.some_record_in(other).unwrap_or((customer, source));
+        }
         let mut list = self.list(customer);
-        if self.random.percent(4) {
+        // Several sources with one provider
+        if self.random.percent(12) {
+            let others = self.providers_in(register, customer);
+            list = ascending([list, others].concat());
+        }
+        if self.random.percent(6) {
             // Only above a greater customer is there room for long lists on both sides.
             customer = self.random.pick(&[customer, 255, 256, 1_000]);
             list = self.list_with(customer);
@@ -622,21 +682,69 @@ impl<W: FnMut(&str, &str) -> io::Result<()>> Stream<W> {
             let own = self.random.pick(&own);
             list = self.random.pick(&[list, own, Vec::new(), vec![2, 1]]);
         }
-        self.say(&format!("file {source} {customer}{}", numbers(&list)));
+        self.say(&format!("{}file {source} {customer}{}", d(register), numbers(&list)));
     }
 
     fn withdraw(&mut self) {
-        let (customer, source) = match self.some_record() {
+        let register = self.random.pick(&[REGISTER, DRAWER]);
+        self.withdraw_in(register);
+    }
+
+    fn withdraw_in(&mut self, register: &str) {
+        let (mut customer, mut source) = match self.some_record_in(register) {
             Some(record) if self.random.percent(60) => record,
-            _ => (self.number_or_zero(), self.source()),
+            // or one that the other register may have
+            _ => match self.some_record() {
+                Some(record) if self.random.percent(30) => record,
+                _ => (self.number_or_zero(), self.source()),
+            },
         };
-        self.say(&format!("withdraw {source} {customer}"));
+        if self.random.percent(12) {
+            (customer, source) =
+                self.random.pick(&[(customer, 8), (0, source.min(7)), (0, source), (0, 8)]);
+        }
+        self.say(&format!("{}withdraw {source} {customer}", d(register)));
     }
 
     fn clear(&mut self) {
+        let register = self.random.pick(&[REGISTER, DRAWER]);
+        self.clear_in(register);
+    }
+
+    fn clear_in(&mut self, register: &str) {
         // Few of the calls are this one, and only a source can be wrong with it.
-        let source = if self.random.percent(10) { 8 } else { self.source() };
-        self.say(&format!("clear {source}"));
+        let source = if self.random.percent(20) { 8 } else { self.source() };
+        self.say(&format!("{}clear {source}", d(register)));
+    }
+
+    /// From a number with records to one that a list of it holds, or any.
+    fn hop(&mut self) {
+        let x = match self.some_record() {
+            Some((customer, _)) if self.random.percent(80) => customer,
+            _ => self.number_or_zero(),
+        };
+        self.hop_from(x);
+    }
+
+    fn hop_from(&mut self, x: u32) {
+        let providers = self.providers(x);
+        let y = if !providers.is_empty() && self.random.percent(70) {
+            self.random.pick(&providers)
+        } else {
+            self.number_or_zero()
+        };
+        self.say(&format!("hop {x} {y}"));
+    }
+
+    fn lookup(&mut self) {
+        let (customer, mut source) = match self.some_record() {
+            Some(record) if self.random.percent(80) => record,
+            _ => (self.number_or_zero(), self.source()),
+        };
+        if self.random.percent(25) {
+            source = self.source();
+        }
+        self.say(&format!("lookup {customer} {source}"));
     }
 
     fn judge(&mut self) {
@@ -801,21 +909,29 @@ impl<W: FnMut(&str, &str) -> io::Result<()>> Stream<W> {
     fn well_formed(&self, table: &str) -> bool {
         match table {
             REGISTER => self.model.register.well_formed(),
+            DRAWER => self.model.overrides.well_formed(),
             _ => self.model.ledger.well_formed(),
         }
+    }
+
+    fn all_well_formed(&self) -> bool {
+        TABLES.iter().all(|table| self.well_formed(table))
     }
 
     fn any_call(&mut self) {
         match self.random.below(1_000) {
             0..=219 => self.file(),
             220..=299 => self.withdraw(),
-            300..=314 => self.clear(),
-            315..=634 => self.judge(),
-            635..=844 => self.keep(),
-            845..=929 => self.drop(),
+            300..=319 => self.clear(),
+            320..=589 => self.judge(),
+            590..=779 => self.keep(),
+            780..=854 => self.drop(),
+            855..=904 => self.hop(),
+            905..=929 => self.lookup(),
             930..=965 => self.say("rejudge"),
-            966..=976 => self.show(REGISTER),
-            977..=987 => self.show(LEDGER),
+            966..=973 => self.show(REGISTER),
+            974..=980 => self.show(DRAWER),
+            981..=987 => self.show(LEDGER),
             988..=990 => self.write(),
             991..=993 => self.read(),
             _ => self.bad_line(),
@@ -825,8 +941,10 @@ impl<W: FnMut(&str, &str) -> io::Result<()>> Stream<W> {
     // Phases
 
     fn ordinary(&mut self) {
-        if self.record_count() > 60 && self.random.percent(80) {
-            self.clear_all();
+        for (register, most) in [(REGISTER, 60), (DRAWER, 15)] {
+            if self.record_count(register) > most && self.random.percent(80) {
+                self.clear_all(register);
+            }
         }
         if self.route_count() > 100 && self.random.percent(60) {
             self.say("empty");
@@ -835,19 +953,74 @@ impl<W: FnMut(&str, &str) -> io::Result<()>> Stream<W> {
             self.any_call();
         }
         self.show(REGISTER);
+        self.show(DRAWER);
         self.say("rejudge");
         self.show(LEDGER);
     }
 
-    fn clear_all(&mut self) {
+    fn clear_all(&mut self, register: &str) {
         for source in 0..8 {
-            self.say(&format!("clear {source}"));
+            self.say(&format!("{}clear {source}", d(register)));
         }
+    }
+
+    /// Routes over public records, then overrides of numbers on their paths, put in
+    /// and taken out again.
+    fn overriding(&mut self) {
+        if self.route_count() > 40 || self.random.percent(30) {
+            self.say("empty");
+        }
+        self.clear_all(DRAWER);
+        for _ in 0..8 {
+            self.file_in(REGISTER);
+            self.keep();
+        }
+        self.say("rejudge");
+        for _ in 0..self.random.between(4, 10) {
+            let Some((customer, source)) = self.some_record_in(REGISTER) else { break };
+            // the same list, the same but for a number, or another; by any source
+            let mut list = self.providers_in(REGISTER, customer);
+            match self.random.below(5) {
+                0 => {}
+                1 => list.push(self.provider(customer)),
+                2 => list.truncate(1),
+                3 => list = vec![0],
+                _ => list = self.list(customer),
+            }
+            let source = if self.random.percent(50) { source } else { self.source() };
+            self.say(&format!("dfile {source} {customer}{}", numbers(&ascending(list))));
+            for _ in 0..self.random.below(3) {
+                self.hop_from(customer);
+                let source = self.source();
+                self.say(&format!("lookup {customer} {source}"));
+            }
+            // up by the public records
+            let public = self.providers_in(REGISTER, customer);
+            let provider = self.random.pick(&public).max(1);
+            let (role, path) = (self.random.between(1, 6), sequence(&[provider, customer]));
+            self.say(&format!("judge {role} {provider} {}", hex(&path)));
+            self.say("rejudge");
+            match self.random.below(6) {
+                0 | 1 => self.judge(),
+                2 => self.show(LEDGER),
+                3 => self.withdraw_in(DRAWER),
+                4 => self.withdraw_in(REGISTER),
+                _ => self.file_in(REGISTER),
+            }
+        }
+        self.show(DRAWER);
+        if self.random.percent(50) {
+            self.clear_all(DRAWER);
+        }
+        self.say("rejudge");
+        self.show(LEDGER);
     }
 
     /// Up to 1,024 records, then at the limit.
     fn many_records(&mut self) {
-        self.clear_all();
+        let register = self.random.pick(&[REGISTER, DRAWER]);
+        let d = d(register);
+        self.clear_all(register);
         let mut pairs: Vec<(u32, u32)> =
             (0..8).flat_map(|source| (1..=128).map(move |customer| (source, customer))).collect();
         while !pairs.is_empty() && self.left > 0 {
@@ -855,9 +1028,11 @@ impl<W: FnMut(&str, &str) -> io::Result<()>> Stream<W> {
             let first = self.provider(customer);
             let two = self.random.percent(30) && first < 40 && customer != 40;
             let list = if two { vec![first, 40] } else { vec![first] };
-            self.say(&format!("file {source} {customer}{}", numbers(&list)));
+            self.say(&format!("{d}file {source} {customer}{}", numbers(&list)));
         }
+        // the other register has room
         self.say("file 3 200 7");
+        self.say("dfile 3 200 7");
         for _ in 0..30 {
             let source = self.random.below(8);
             let provider = self.number();
@@ -865,20 +1040,23 @@ impl<W: FnMut(&str, &str) -> io::Result<()>> Stream<W> {
                 0..=5 => {
                     let customer = self.random.between(100, 160) as u32;
                     let provider = self.random.pick(&[provider, provider, provider, customer]);
-                    self.say(&format!("file {source} {customer} {provider}"));
+                    self.say(&format!("{d}file {source} {customer} {provider}"));
                 }
-                6 => self.withdraw(),
-                7 => self.keep(),
+                6 => self.withdraw_in(register),
+                7 => {
+                    self.keep();
+                    self.hop();
+                }
                 _ => self.judge(),
             }
         }
         if self.random.percent(50) {
             self.say("rejudge");
         }
-        self.show(REGISTER);
+        self.show(register);
         self.long_snapshot();
-        self.one_rule_and_back(REGISTER);
-        self.clear();
+        self.one_rule_and_back(register);
+        self.clear_in(register);
     }
 
     /// Tables as they are, now and then written and read back.
@@ -895,18 +1073,21 @@ impl<W: FnMut(&str, &str) -> io::Result<()>> Stream<W> {
     }
 
     /// Up to 8,192 numbers in lists, then at the limit.
-    fn long_lists(&mut self) {
-        self.clear_all();
+    fn long_lists(&mut self, register: &str) {
+        let d = d(register);
+        self.clear_all(register);
         for customer in 1..=32 {
             let (source, first) = (self.random.below(8), self.random.below(4) as u32);
             let list = run_without(customer, first, 256);
-            self.say(&format!("file {source} {customer}{}", numbers(&list)));
+            self.say(&format!("{d}file {source} {customer}{}", numbers(&list)));
         }
+        // the other register has room
         self.say("file 3 200 7");
+        self.say("dfile 3 200 7");
         for _ in 0..25 {
             let length = self.random.pick(&[1, 1, 2, 3, 255, 256, 256, 257]);
             let first = self.random.below(4) as u32;
-            let (customer, source) = match self.some_record() {
+            let (customer, source) = match self.some_record_in(register) {
                 // the same pair, so that its own room counts
                 Some(record) if self.random.percent(50) => record,
                 _ => (self.random.between(1, 36) as u32, self.random.below(8) as u32),
@@ -916,21 +1097,24 @@ impl<W: FnMut(&str, &str) -> io::Result<()>> Stream<W> {
             } else {
                 run_without(customer, first, length)
             };
-            self.say(&format!("file {source} {customer}{}", numbers(&list)));
+            self.say(&format!("{d}file {source} {customer}{}", numbers(&list)));
             if self.random.percent(15) {
-                self.withdraw();
+                self.withdraw_in(register);
             }
             if self.random.percent(30) {
                 self.judge();
             }
+            if self.random.percent(15) {
+                self.lookup();
+            }
         }
         self.say("rejudge");
         if self.random.percent(30) {
-            self.show(REGISTER);
+            self.show(register);
         }
         self.long_snapshot();
-        self.one_rule_and_back(REGISTER);
-        self.clear_all();
+        self.one_rule_and_back(register);
+        self.clear_all(register);
     }
 
     /// Up to 512 routes, then at the limit.
@@ -997,7 +1181,8 @@ impl<W: FnMut(&str, &str) -> io::Result<()>> Stream<W> {
             let path = self.distinct_neighbours(length);
             let bytes = self.sequences(&path);
             let neighbour = path.first().copied().unwrap_or(9);
-            self.say(&format!("keep {route} 3 {neighbour} {}", hex(&bytes)));
+            let call = if self.random.percent(20) { "judge" } else { &format!("keep {route}") };
+            self.say(&format!("{call} 3 {neighbour} {}", hex(&bytes)));
             if self.random.percent(20) {
                 self.drop();
             }
@@ -1029,10 +1214,18 @@ impl<W: FnMut(&str, &str) -> io::Result<()>> Stream<W> {
             let call = self.random.pick(&["judge".to_string(), format!("keep {route}")]);
             self.say(&format!("{call} {role} {} {}", path[0], hex(&bytes)));
         }
-        for change in ["withdraw 0 15", "file 0 13 7 8 9", "file 0 14 0"] {
+        let changes = [
+            "withdraw 0 15", "file 0 13 7 8 9", "file 0 14 0", "dfile 0 14 1 2 3 4 5 6",
+            "dfile 1 15 0", "dfile 2 16 7 8 9",
+        ];
+        for _ in 0..3 {
             self.say("rejudge");
+            let change = self.random.pick(&changes);
             self.say(change);
         }
+        let path = self.ramps();
+        let bytes = self.sequences(&path);
+        self.say(&format!("judge 3 {} {}", path[0], hex(&bytes)));
         self.say("rejudge");
         self.show(LEDGER);
         self.long_snapshot();
@@ -1071,45 +1264,52 @@ impl<W: FnMut(&str, &str) -> io::Result<()>> Stream<W> {
     }
 
     fn record_look_ups(&mut self) {
-        self.clear_all();
+        let register = self.random.pick(&[REGISTER, DRAWER]);
+        let d = d(register);
+        self.clear_all(register);
         let size = self.near_power(1_024);
         // By source, so that a list that is missed shows
         let provider = |customer: u32, source: u32| customer.wrapping_add(1 + source);
         // Pairs come twice now and then.
         for _ in 0..2 * size {
-            if self.record_count() == size {
+            if self.record_count(register) == size {
                 break;
             }
             let (customer, source) =
                 (3 * self.random.between(1, size) as u32, self.random.below(8) as u32);
-            self.say(&format!("file {source} {customer} {}", provider(customer, source)));
+            self.say(&format!("{d}file {source} {customer} {}", provider(customer, source)));
         }
         for _ in 0..40 {
-            let Some((customer, source)) = self.some_record() else { break };
+            let Some((customer, source)) = self.some_record_in(register) else { break };
             let above = customer.wrapping_add(1);
             let beside = self.random.pick(&[customer - 1, customer, customer, above]);
             let other = self.random.below(8) as u32;
             let listed = provider(customer, source);
-            match self.random.below(6) {
+            match self.random.below(8) {
                 0 | 1 => {
                     let path = hex(&sequence(&[listed, customer]));
                     self.say(&format!("judge 1 {listed} {path}"));
                 }
                 2 => {
-                    self.say(&format!("withdraw {source} {customer}"));
-                    self.say(&format!("file {source} {customer} {listed}"));
+                    self.say(&format!("{d}withdraw {source} {customer}"));
+                    self.say(&format!("{d}file {source} {customer} {listed}"));
                 }
-                3 => self.say(&format!("withdraw {other} {beside}")),
+                3 => self.say(&format!("{d}withdraw {other} {beside}")),
+                5 => self.say(&format!("hop {beside} {listed}")),
+                6 => {
+                    let source = self.random.pick(&[source, source, other]);
+                    self.say(&format!("lookup {beside} {source}"));
+                }
                 4 => {
                     let path = hex(&sequence(&[customer, beside]));
                     self.say(&format!("judge 3 {customer} {path}"));
                 }
-                _ => self.say(&format!("file {other} {beside} {}", provider(beside, other))),
+                _ => self.say(&format!("{d}file {other} {beside} {}", provider(beside, other))),
             }
         }
         self.say("rejudge");
         if self.random.percent(30) {
-            self.show(REGISTER);
+            self.show(register);
         }
     }
 
@@ -1170,17 +1370,48 @@ impl<W: FnMut(&str, &str) -> io::Result<()>> Stream<W> {
             self.keep();
         }
         let mut undo = vec![alter(self, table)];
-        if self.random.percent(30) {
-            let other = self.random.pick(&[REGISTER, LEDGER]);
-            let second = if self.random.percent(25) { Self::resize } else { Self::poke };
+        // A second one, mostly to another table: rows 1 of both go before rows 2 and 3.
+        if self.random.percent(50) {
+            let others = TABLES.map(|other| if other == table { LEDGER } else { other });
+            let other = self.random.pick(&others);
+            let second = if self.random.percent(35) { Self::resize } else { Self::poke };
             undo.push(second(self, other));
         }
-        // Every call once at least
+        self.every_call();
+        if self.random.percent(15) {
+            self.show(table);
+        }
+        if self.random.percent(60) {
+            // An altered table that was sound may have changed since: then
+            // undoing is one more alteration.
+            while let Some(command) = undo.pop() {
+                self.say(&command);
+            }
+            self.any_call();
+        }
+        if !self.all_well_formed() {
+            if self.random.percent(30) {
+                self.say("resize register 12290");
+                self.say("resize drawer 12290");
+                self.say("resize ledger 12802");
+                self.any_call();
+            }
+            self.say("empty");
+        }
+    }
+
+    /// Every call once at least.
+    fn every_call(&mut self) {
         type Call<S> = fn(&mut S);
-        let all: [Call<Self>; 9] = [
-            Self::file,
-            Self::withdraw,
-            Self::clear,
+        let all: [Call<Self>; 14] = [
+            |s| s.file_in(REGISTER),
+            |s| s.file_in(DRAWER),
+            |s| s.withdraw_in(REGISTER),
+            |s| s.withdraw_in(DRAWER),
+            |s| s.clear_in(REGISTER),
+            |s| s.clear_in(DRAWER),
+            Self::hop,
+            Self::lookup,
             Self::judge,
             Self::keep,
             Self::drop,
@@ -1196,30 +1427,35 @@ impl<W: FnMut(&str, &str) -> io::Result<()>> Stream<W> {
             let call = calls.swap_remove(self.random.below(calls.len()));
             call(self);
         }
-        if self.random.percent(15) {
-            self.show(table);
+    }
+
+    /// Two tables, each of a wrong length or with a wrong word, now and then the third too.
+    fn two_damages(&mut self) {
+        for _ in 0..2 {
+            self.file_in(REGISTER);
+            self.file_in(DRAWER);
+            self.keep();
         }
-        if self.random.percent(60) {
-            // An altered table that was sound may have changed since: then
-            // undoing is one more alteration.
-            while let Some(command) = undo.pop() {
-                self.say(&command);
-            }
-            self.any_call();
+        let spared = self.random.pick(&[REGISTER, DRAWER, LEDGER, "none"]);
+        for table in TABLES.into_iter().filter(|table| *table != spared) {
+            let full = self.words(table).len();
+            let command = match self.random.below(5) {
+                0 => format!("resize {table} {}", full + 1),
+                1 => format!("resize {table} {}", full.saturating_sub(1)),
+                2 => format!("poke {table} 1 4294967295"),
+                3 => format!("poke {table} {} 1", full.saturating_sub(1)),
+                _ => format!("poke {table} 0 {full}"),
+            };
+            self.say(&command);
         }
-        if !self.well_formed(REGISTER) || !self.well_formed(LEDGER) {
-            if self.random.percent(30) {
-                self.say("resize register 12290");
-                self.say("resize ledger 12802");
-                self.any_call();
-            }
-            self.say("empty");
-        }
+        self.every_call();
+        self.say("empty");
     }
 
     fn words(&self, table: &str) -> Vec<u32> {
         match table {
             REGISTER => self.model.register.words(),
+            DRAWER => self.model.overrides.words(),
             _ => self.model.ledger.words(),
         }
     }
@@ -1248,7 +1484,7 @@ impl<W: FnMut(&str, &str) -> io::Result<()>> Stream<W> {
             return self.resize(table);
         }
         // In a table that is damaged already the counts may say anything.
-        let entry = if table == REGISTER { 4 } else { 9 };
+        let entry = if table == LEDGER { 9 } else { 4 };
         let count = (words[0] as usize).min(full / entry);
         let body = (2 + entry * count).min(full - 1);
         let end = (body + words[1] as usize).min(full - 1);
@@ -1280,7 +1516,7 @@ impl<W: FnMut(&str, &str) -> io::Result<()>> Stream<W> {
     fn poke_one_rule(&mut self, table: &str) -> String {
         let words = self.words(table);
         let pokes = match table {
-            REGISTER => own_customer_pokes(&words),
+            REGISTER | DRAWER => own_customer_pokes(&words),
             _ if self.random.percent(20) => seam_pokes(&words),
             _ => equal_neighbour_pokes(&words),
         };
@@ -1296,6 +1532,8 @@ impl<W: FnMut(&str, &str) -> io::Result<()>> Stream<W> {
     fn look_at(&mut self, table: &str) {
         match table {
             REGISTER => self.judge(),
+            DRAWER if self.random.percent(50) => self.hop(),
+            DRAWER => self.judge(),
             _ => self.say("drop 4000000000"),
         }
     }
@@ -1332,7 +1570,7 @@ impl<W: FnMut(&str, &str) -> io::Result<()>> Stream<W> {
             self.keep();
         }
         for _ in 0..50 {
-            let table = self.random.pick(&[REGISTER, LEDGER]);
+            let table = self.random.pick(&[REGISTER, DRAWER, LEDGER, LEDGER]);
             let undo = match self.random.below(10) {
                 0..=3 => self.poke(table),
                 4 | 5 => self.poke_one_rule(table),
@@ -1341,7 +1579,7 @@ impl<W: FnMut(&str, &str) -> io::Result<()>> Stream<W> {
             self.look_at(table);
             self.say(&undo);
         }
-        if !self.well_formed(REGISTER) || !self.well_formed(LEDGER) {
+        if !self.all_well_formed() {
             self.say("empty");
         }
     }
@@ -1349,7 +1587,7 @@ impl<W: FnMut(&str, &str) -> io::Result<()>> Stream<W> {
     /// A word of an entry, by what it means. Gives the command that undoes it.
     fn poke_entry(&mut self, table: &str) -> String {
         let words = self.words(table);
-        let entry = if table == REGISTER { 4 } else { 9 };
+        let entry = if table == LEDGER { 9 } else { 4 };
         let count = words.first().map_or(0, |n| *n as usize);
         if !self.well_formed(table) || count == 0 {
             return self.poke(table);
@@ -1369,8 +1607,8 @@ impl<W: FnMut(&str, &str) -> io::Result<()>> Stream<W> {
         let before = words[if nth > 0 { index - entry } else { index }];
         let after = words[if nth + 1 < count { index + entry } else { index }];
         let bounds: &[u32] = match (table, field) {
-            (REGISTER, 1) => &[0, 7, 8],
-            (REGISTER, 3) => &[0, 1, 256, 257],
+            (REGISTER | DRAWER, 1) => &[0, 7, 8],
+            (REGISTER | DRAWER, 3) => &[0, 1, 256, 257],
             (LEDGER, 1) => &[0, 1, 3, 4, 6, 7],
             (LEDGER, 3) => &[0, 1, 2, 3, 4],
             (LEDGER, 4) => &[0, 1, 2, 3],
@@ -1410,7 +1648,7 @@ impl<W: FnMut(&str, &str) -> io::Result<()>> Stream<W> {
     /// Few records and routes, so that what is read has few words and each
     /// kind of damage meets each of them.
     fn snapshots(&mut self) {
-        if self.record_count() + self.route_count() > 20 || self.random.percent(30) {
+        if self.record_count(REGISTER) + self.route_count() > 20 || self.random.percent(30) {
             self.say("empty");
         }
         for _ in 0..self.random.between(2, 4) {
@@ -1420,13 +1658,14 @@ impl<W: FnMut(&str, &str) -> io::Result<()>> Stream<W> {
         self.write();
         for _ in 0..25 {
             self.read();
-            match self.random.below(8) {
+            match self.random.below(9) {
                 0 | 1 => self.write(),
                 2 => self.file(),
                 3 => self.keep(),
                 4 => self.say("rejudge"),
                 5 => self.show(REGISTER),
                 6 => self.show(LEDGER),
+                7 => self.show(DRAWER),
                 _ => {}
             }
         }
@@ -1439,9 +1678,10 @@ impl<W: FnMut(&str, &str) -> io::Result<()>> Stream<W> {
         }
         // at the longest line and one byte past it; not always, as it is long
         if self.random.percent(50) {
-            let starts = ["judge 1 200 ", "judge 1 20 ", "file 0 1", "file 0 12", "read "];
+            let starts =
+                ["judge 1 200 ", "judge 1 20 ", "file 0 1", "file 0 12", "dfile 0 1", "read "];
             let start = self.random.pick(&starts);
-            let repeated = if start.starts_with("file") { " 2" } else { "00" };
+            let repeated = if start.contains("file") { " 2" } else { "00" };
             let times = (console::LONGEST_LINE + 1 - start.len()) / 2 - self.random.below(2);
             self.say(&format!("{start}{}", repeated.repeat(times)));
         }
@@ -1484,7 +1724,7 @@ impl<W: FnMut(&str, &str) -> io::Result<()>> Stream<W> {
 const SHORT_FILE: usize = 1_500;
 const MOST_FILES: usize = 8;
 
-const BAD_LINES: [&str; 58] = [
+const BAD_LINES: [&str; 83] = [
     "", " ", "-", "0", "hello", "File 0 1 2", "file", "file 0", "file 0 ", "file x 1 2",
     "file 0 1 +2", "file 0 1 2,3", "file 0 1 -", " file 0 1 2", "file 0  1 2", "file 0 1 2\t3",
     "file 0 1 00", "file 0 4294967296 2", "file 0 1 18446744073709551617", "files 0 1 2",
@@ -1493,7 +1733,11 @@ const BAD_LINES: [&str; 58] = [
     "judge 1 5 - -", "judge 1 5 é", "keep 1 1 5", "keep 1 1", "keep 01 1 5 -", "keep 1 1 5 020",
     "drop", "drop x", "drop 1 1", "rejudge x", "poke register 0", "poke registers 0 0",
     "resize ledger 99999", "words", "empty 0", "write", "write -", "write 131073", "write 036",
-    "write 36 36", "read", "read 0", "read 0A", "read - -", "read 00 00",
+    "write 36 36", "read", "read 0", "read 0A", "read - -", "read 00 00", "dfile", "dfile 0",
+    "dfile 0 1 x", "d file 0 1 2", "dwithdraw 0", "dwithdraw 0 1 2", "dclear", "dclear 0 1",
+    "dclear 00", "drawer 0", "drawer ", "lookup", "lookup 5", "lookup 5 0 0", "lookup 5 x",
+    "lookup 05 0", "hop", "hop 5", "hop 0 5", "hop 5 0", "hop 0 0", "hop 5 6 7", "hop 5 06",
+    "poke drawer 0", "resize drawer 16385",
 ];
 
 // Fixed vectors
@@ -1575,6 +1819,14 @@ fn vectors() -> Vec<String> {
     snapshots_and_damaged_tables(&mut lines);
     lines.say("empty");
     full_snapshot(&mut lines);
+    for part in [
+        overridden_vectors, counting_records, sides, two_registers, rejudged_overrides,
+        overrides_at_the_ends, overridden_look_ups, full_overrides, damaged_overrides,
+        words_of_overrides, snapshots_beside_overrides,
+    ] {
+        lines.say("empty");
+        part(&mut lines);
+    }
     lines.0
 }
 
@@ -1896,6 +2148,16 @@ fn widest_gaps(lines: &mut Lines) {
         lines.keep(10 + role, role, 1, &path);
     }
     lines.all(&["ledger", "rejudge"]);
+    // both ends by overrides: 512 is the origin
+    for change in [
+        "dfile 3 1 0", "dfile 0 512 0", "file 3 512 0", "dwithdraw 0 512", "file 3 1 0",
+        "dwithdraw 3 1", "dfile 0 512 0", "dclear 0",
+    ] {
+        lines.say(change);
+        lines.judge(3, 1, &path);
+        lines.judge(1, 1, &path);
+    }
+    lines.all(&["file 3 1 2", "file 3 512 511"]);
     // the same path, every second number at the end of one segment and the start of the next
     lines.judge(6, 1, &overlapping(512, 2));
     lines.judge(1, 1, &overlapping(512, 2));
@@ -3284,6 +3546,402 @@ fn full_snapshot(lines: &mut Lines) {
     lines.all(&["withdraw 1 1", "write 100339", "rejudge"]);
 }
 
+// Fixed vectors of the overrides
+
+/// A command on the public register as one on the overrides; others as they are.
+fn over(line: &str) -> String {
+    match line.split(' ').next() {
+        Some("file" | "withdraw" | "clear") => format!("d{line}"),
+        Some(REGISTER) => DRAWER.to_string(),
+        _ => line.replace("poke register", "poke drawer").replace("words register", "words drawer"),
+    }
+}
+
+impl Lines {
+    fn all_vectors(&mut self) {
+        for (role, neighbour, path) in A_TO_L {
+            self.judge(role, neighbour, &sequence(path));
+        }
+    }
+
+    /// Each hop between the numbers, and each list.
+    fn hops_and_lists(&mut self, numbers: &[u32], sources: &[u32]) {
+        for x in numbers {
+            numbers.iter().for_each(|y| self.say(&format!("hop {x} {y}")));
+            sources.iter().for_each(|source| self.say(&format!("lookup {x} {source}")));
+        }
+    }
+}
+
+/// A to L over register D as overrides alone, as both, and with each customer overridden.
+fn overridden_vectors(lines: &mut Lines) {
+    lines.all(&["drawer", "words drawer"]);
+    REGISTER_D.iter().for_each(|filing| lines.say(&over(filing)));
+    lines.all(&["drawer", "register"]);
+    lines.all_vectors();
+    for (route, (role, neighbour, path)) in (1..).zip(A_TO_L) {
+        lines.keep(route, role, neighbour, &sequence(path));
+    }
+    // the same lists by both, then by the public register alone: only sides are others
+    lines.all(&["ledger", "rejudge"]);
+    lines.all(&REGISTER_D);
+    lines.all(&["rejudge", "dclear 0", "rejudge", "ledger"]);
+    lines.all_vectors();
+    for (customer, list) in [
+        (10, " 0"),
+        (10, " 30"),
+        (20, " 0"),
+        (20, " 50"),
+        (20, " 10"),
+        (30, " 0"),
+        (40, " 10 20"),
+        (50, " 20"),
+        (60, " 10"),
+        (60, " 30"),
+        (70, " 0"),
+        (80, " 0"),
+    ] {
+        lines.say(&format!("dfile 1 {customer}{list}"));
+        lines.all_vectors();
+        lines.all(&["rejudge", "ledger", &format!("dwithdraw 1 {customer}"), "rejudge"]);
+    }
+    // M and N by overrides: of 30, and of 20 by two sources
+    lines.all(&["dfile 0 30 0", "dfile 0 20 40", "dfile 1 20 50"]);
+    lines.all_vectors();
+    lines.all(&["rejudge", "ledger", "drawer", "register"]);
+}
+
+/// Which lists count, and the lowest source among them.
+fn counting_records(lines: &mut Lines) {
+    let (numbers, sources) = ([9, 10, 11, 20, 30], [0, 1, 2, 7]);
+    let hops = |lines: &mut Lines| lines.hops_and_lists(&numbers, &sources);
+    hops(lines);
+    // a lower source without 20, several with it
+    for filing in ["file 2 10 20", "file 0 10 30", "file 7 10 0 9 20", "file 1 10 20 30"] {
+        lines.say(filing);
+        lines.all(&["hop 10 20", "hop 10 30", "hop 10 9", "hop 10 40"]);
+        sources.iter().for_each(|source| lines.say(&format!("lookup 10 {source}")));
+    }
+    hops(lines);
+    // AS 0 alone; then a source that lists 20 beside others that don't
+    for change in [
+        "dfile 2 10 0", "dfile 7 10 20", "dfile 2 10 0 20", "dfile 0 10 11", "dwithdraw 7 10",
+        "dfile 1 9 20", "dfile 0 11 9 10 30", "dfile 7 11 20", "dwithdraw 2 10", "dclear 0",
+        "withdraw 1 10",
+    ] {
+        lines.all(&[change, "drawer"]);
+        hops(lines);
+    }
+    lines.all(&["lookup 10 8", "lookup 10 4294967295", "lookup 0 0", "lookup 0 8"]);
+    lines.all(&["lookup 4294967295 7", "hop 4294967295 4294967294", "hop 10 4294967295"]);
+    lines.all(&["dfile 7 4294967295 4294967294", "lookup 4294967295 7"]);
+    lines.all(&["hop 4294967295 4294967294", "hop 4294967294 4294967295", "hop 4294967295 1"]);
+    lines.all(&["hop 0 5", "hop 5 0", "hop 5", "hop 5 6 7", "lookup 5", "lookup 5 0 0"]);
+    // any line shows that nothing was changed
+    lines.all(&["register", "drawer", "ledger"]);
+}
+
+/// The sides of two hops downstream and of one upstream, by overrides at both ends of each.
+fn sides(lines: &mut Lines) {
+    for filing in ["file 0 1 2", "file 0 2 9", "file 0 8 7", "file 0 7 9"] {
+        lines.say(filing);
+    }
+    // 3 and 6 are where the named hops lead, 2 and 7 where they come from
+    let path = sequence(&[8, 7, 6, 5, 4, 3, 2, 1]);
+    for change in [
+        "dfile 0 3 9", "dfile 0 6 9", "dfile 4 2 9", "dfile 7 7 9", "dwithdraw 4 2", "dclear 0",
+        "dfile 0 1 0", "dfile 0 8 0", "dfile 0 2 3", "dfile 7 7 6", "dclear 7", "dclear 0",
+    ] {
+        lines.say(change);
+        for role in 1..=6 {
+            lines.judge(role, 8, &path);
+        }
+        lines.keep(3, 3, 8, &path);
+        lines.keep(4, 4, 5, &path);
+        lines.all(&["rejudge", "ledger", "drop 4", "drop 3"]);
+    }
+    // one hop that is both: of two numbers that do not list each other
+    lines.all(&["empty", "file 0 2 9", "file 0 4 9"]);
+    for change in ["dfile 0 3 9", "dfile 0 2 9", "dfile 0 4 9", "dwithdraw 0 2", "dwithdraw 0 3"] {
+        lines.say(change);
+        lines.judge(3, 4, &sequence(&[4, 3, 2]));
+        lines.judge(6, 2, &sequence(&[2, 3, 4]));
+        lines.judge(2, 4, &sequence(&[4, 3, 2]));
+    }
+    // a ground has no sides
+    lines.judge(3, 4, &[]);
+    lines.judge(3, 5, &sequence(&[4, 3, 2]));
+    lines.judge(3, 5, &segment(1, &[4]));
+}
+
+/// Pairs and sources that both have; arguments that are refused.
+fn two_registers(lines: &mut Lines) {
+    let show = ["register", "drawer"];
+    for change in [
+        "file 2 10 20", "dfile 2 10 30", "file 2 10 40 50", "dfile 2 10 60", "dfile 0 10 70",
+        "withdraw 0 10", "withdraw 2 10", "withdraw 2 10", "file 2 10 20", "file 2 5 20",
+        "dclear 2", "dclear 2", "dfile 2 10 20", "clear 2", "clear 0", "dwithdraw 1 10",
+        "dwithdraw 2 10", "dwithdraw 2 10", "file 0 10 70", "dwithdraw 0 10", "dwithdraw 0 10",
+        "dfile 7 10 1", "file 6 10 1", "dclear 6", "clear 7", "dclear 7", "clear 6",
+    ] {
+        lines.say(change);
+        lines.all(&show);
+        lines.say("hop 10 20");
+    }
+    lines.all(&["dfile 8 1 2", "dfile 4294967295 1 2", "dfile 8 0", "dfile 0 0 2", "dfile 7 0"]);
+    lines.all(&["dfile 0 1", "dfile 0 1 2 2", "dfile 0 1 3 2", "dfile 0 1 0 0", "dfile 0 1 0"]);
+    lines.all(&["dfile 0 7 7", "dfile 0 7 6 7", "dfile 0 7 7 8", "dfile 8 7 7", "dfile 0 0 0"]);
+    for length in [257, 256] {
+        lines.say(&over(&format!("file 0 1{}", numbers(&run_without(1, 0, length)))));
+    }
+    lines.all(&["lookup 1 0", "hop 1 256", "hop 1 257", "dfile 7 1 0 4294967295", "drawer"]);
+    lines.all(&["dwithdraw 8 1", "dwithdraw 8 0", "dwithdraw 0 0", "dwithdraw 0 2"]);
+    lines.all(&["dwithdraw 1 1", "dwithdraw 0 1", "dwithdraw 0 1", "dclear 8", "dclear 1"]);
+    lines.all(&["dclear 7", "dclear 7", "drawer", "file 0 1 2", "dfile 1 1 3", "keep 1 1 5 -"]);
+    lines.all(&["words register", "words drawer", "words ledger", "empty"]);
+    lines.all(&["words register", "words drawer", "words ledger", "hop 1 3", "rejudge"]);
+}
+
+/// Verdicts that overrides make others and the same again.
+fn rejudged_overrides(lines: &mut Lines) {
+    lines.all(&REGISTER_D);
+    for (route, (role, neighbour, path)) in (1..).zip(A_TO_L) {
+        lines.keep(route, role, neighbour, &sequence(path));
+    }
+    for change in [
+        // the same list: sides alone are others
+        "dfile 4 20 40", "dfile 4 20 50", "withdraw 0 20", "file 0 20 40", "dfile 0 20 40",
+        "dwithdraw 4 20", "dwithdraw 0 20", "dfile 0 20 10", "dclear 0", "dfile 3 10 20 30",
+        "dfile 3 40 0", "dfile 3 30 10", "dfile 3 60 30", "dfile 5 60 10", "dwithdraw 3 60",
+        "clear 0", "dclear 5", "dfile 3 70 80", "dfile 3 80 70", "dfile 3 80 0", "dclear 3",
+    ] {
+        lines.all(&[change, "rejudge", "rejudge", "ledger"]);
+        lines.judge(3, 20, &sequence(&[20, 10, 40]));
+        lines.judge(1, 50, &sequence(&[50, 20, 10]));
+    }
+    // untrue verdicts and places are mended by overrides too
+    lines.all(&["dfile 0 10 20", "poke ledger 6 2", "poke ledger 7 512", "poke ledger 8 512"]);
+    lines.all(&["rejudge", "ledger", "rejudge"]);
+}
+
+/// What the public register's look-ups show, shown of overrides, before and behind
+/// public records that they hide.
+fn overrides_at_the_ends(lines: &mut Lines) {
+    for public in [&["file 0 10 0"][..], &["file 0 1 9", "file 3 30 0", "file 7 4294967295 0"]] {
+        let mut part = Lines(Vec::new());
+        source_look_ups(&mut part);
+        lines.all(public);
+        part.0.iter().for_each(|line| lines.say(&over(line)));
+        lines.say("empty");
+    }
+    let mut part = Lines(Vec::new());
+    look_ups_at_the_ends(&mut part);
+    lines.all(&["file 1 1 2", "file 0 2 3", "file 7 4294967294 3", "file 6 4294967295 3"]);
+    part.0.iter().for_each(|line| lines.say(&over(line)));
+}
+
+/// Overrides of many sizes beside as many public records of numbers between them, looked
+/// up at some of both; then full.
+fn overridden_look_ups(lines: &mut Lines) {
+    let mut public = Lines(Vec::new());
+    for customer in (2..=3_074).step_by(24) {
+        public.file(customer % 8, customer, &[customer + 1]);
+    }
+    let [register, _] = parts(&file_after(&public.0));
+    lines.read_parts(&[register, vec![0, 0]]);
+    for size in 0..=1_024 {
+        if size > 0 {
+            lines.say(&over(&filing(size - 1)));
+        }
+        if !is_looked_through(size) {
+            continue;
+        }
+        let mut filings: Vec<usize> = (0..size).collect();
+        filings.sort_by_key(|nth| filed(*nth));
+        let positions: Vec<usize> = match size {
+            0 => vec![],
+            1..=5 => (0..size).collect(),
+            _ => vec![0, 1, size / 2, size - 2, size - 1],
+        };
+        for nth in positions.into_iter().map(|i| filings[i]) {
+            let (customer, source) = (filed(nth), nth % 8);
+            lines.say(&format!("hop {customer} {}", filed(nth + 1)));
+            lines.say(&format!("hop {} {customer}", customer + 1));
+            lines.say(&format!("lookup {customer} {source}"));
+        }
+        // the public ones below, between and above
+        for customer in [2, 1_538, 3_074] {
+            lines.say(&format!("hop {customer} {}", customer + 1));
+        }
+        lines.say("lookup 26 2");
+    }
+    lines.all(&["dfile 0 4000 1", "file 0 4000 1", "dfile 0 4000 4000", "lookup 4000 0"]);
+    let path = ascent(3, LONGEST_PATH - 1);
+    lines.judge(1, path[0], &sequence(&path));
+    lines.keep(1, 3, path[0], &sequence(&path));
+    // its own pair, a record less, and so one more
+    lines.all(&[&over(&filing(0)), &format!("dwithdraw 0 {}", filed(0)), "dfile 0 4000 2"]);
+    lines.all(&[&over(&filing(0)), "lookup 4000 0", "dclear 3", "dclear 3", &over(&filing(0))]);
+    lines.all(&["rejudge", "ledger", "drawer", "register"]);
+}
+
+/// 8,192 numbers in lists of the overrides, and of the public register.
+fn full_overrides(lines: &mut Lines) {
+    for full in ["d", ""] {
+        let other = if full == "d" { "" } else { "d" };
+        let list = |customer: u32, length: usize| numbers(&run_without(customer, 0, length));
+        for customer in 1..=32 {
+            lines.say(&format!("{full}file 0 {customer}{}", list(customer, 256)));
+        }
+        lines.say(&format!("{full}file 0 33 5"));
+        lines.say(&format!("{other}file 0 33 5"));
+        lines.say(&format!("{other}file 0 32{}", list(32, 256)));
+        lines.say(&format!("{full}file 0 32{}", list(32, 255)));
+        lines.say(&format!("{full}file 0 33 5 6"));
+        lines.say(&format!("{full}file 0 33 5"));
+        lines.say(&format!("{full}file 0 32{}", list(32, 256)));
+        lines.all(&["hop 33 5", "hop 33 6", "hop 32 256", "hop 32 255", "lookup 32 0"]);
+        lines.say(&format!("{full}withdraw 0 33"));
+        lines.say(&format!("{full}file 0 32{}", list(32, 256)));
+        lines.all(&["hop 33 5", "hop 33 6", "hop 32 256", "rejudge", "clear 0", "dclear 0"]);
+    }
+    lines.all(&["register", "drawer"]);
+}
+
+/// The overrides too short, too long or malformed, alone and beside the other tables.
+const DAMAGED_OVERRIDES: [&[&str]; 20] = [
+    &["resize drawer 12289"],
+    &["resize drawer 12291"],
+    &["resize drawer 0"],
+    &["resize drawer 12802"],
+    &["poke drawer 12289 1"],
+    &["poke drawer 0 4294967295"],
+    &["poke drawer 1 4294967295"],
+    &["poke register 0 9", "poke drawer 0 9"],
+    &["resize register 12289", "resize drawer 12291"],
+    // row 1 of one before row 2 of another
+    &["poke register 0 9", "resize drawer 12291"],
+    &["poke drawer 0 9", "resize register 12291"],
+    &["poke drawer 0 9", "resize ledger 12801"],
+    &["poke register 12289 1", "resize ledger 12803"],
+    &["poke ledger 0 9", "resize drawer 12289"],
+    &["poke register 0 9", "poke ledger 0 9", "resize drawer 12289"],
+    &["poke register 0 9", "poke drawer 0 9", "resize ledger 12801"],
+    // row 2 before row 3
+    &["poke drawer 0 9", "poke ledger 0 9"],
+    &["poke register 0 9", "poke drawer 0 9", "poke ledger 0 9"],
+    &["resize register 0", "resize drawer 0", "resize ledger 0"],
+    &["poke ledger 12801 1"],
+];
+
+fn damaged_overrides(lines: &mut Lines) {
+    let file = file_after(&SMALL);
+    let calls = [
+        "judge 9 0 02", "judge 1 5 -", "keep 1 9 0 02", "keep 7 1 5 -", "rejudge", "hop 10 20",
+        "hop 1 2", "hop 0 1", "lookup 10 0", "lookup 1 0", "lookup 0 9", "file 9 0", "file 0 1 2",
+        "dfile 9 0", "dfile 0 1 2", "withdraw 9 0", "withdraw 0 1", "dwithdraw 9 0",
+        "dwithdraw 0 1", "clear 9", "clear 5", "dclear 9", "dclear 5", "drop 77", "drop 9",
+        "write 0", "write 131072",
+    ];
+    for damages in DAMAGED_OVERRIDES {
+        lines.say("empty");
+        lines.all(&SMALL);
+        lines.all(&["file 0 1 2", "dfile 0 10 20", "dfile 3 65010 65001", "rejudge"]);
+        lines.all(damages);
+        lines.all(&calls);
+        lines.read(&file[..159]);
+        lines.all(&SHOW);
+        lines.say("words drawer");
+        lines.read(&file);
+        lines.all(&SHOW);
+        lines.all(&["words drawer", "hop 10 20", "lookup 10 0", "rejudge"]);
+    }
+    lines.all(&["empty", "resize drawer 16385", "poke drawer 12290 1", "poke overrides 0 1"]);
+    lines.all(&["resize drawer 16384", "poke drawer 16383 7", "words drawer", "drawer"]);
+    lines.all(&["poke drawer 16384 7", "resize drawer 12290", "words drawer", "hop 1 2"]);
+    lines.all(&["resize drawer 1", "drawer", "words drawer", "resize drawer 12290", "hop 1 2"]);
+}
+
+/// Single words of the overrides, each put back; and each rule of a register broken alone.
+fn words_of_overrides(lines: &mut Lines) {
+    let filings = ["dfile 0 10 20 30", "dfile 3 10 7", "dfile 7 20 0 40"];
+    lines.all(&filings);
+    lines.all(&["file 0 10 50", "drawer"]);
+    let mut model = Model::new();
+    for line in filings {
+        console::answer(&mut model, line.as_bytes());
+    }
+    let words = model.overrides.words();
+    for index in (0..20).chain([words.len() - 1]) {
+        let old = words[index];
+        let mut values = vec![old.wrapping_sub(1), old + 1, 0, 1, 8, 10, 257, u32::MAX];
+        values.dedup();
+        for value in values {
+            lines.all(&[&format!("poke drawer {index} {value}"), "hop 10 20"]);
+        }
+        lines.say(&format!("poke drawer {index} {old}"));
+    }
+    lines.all(&["hop 10 20", "drawer"]);
+    // other words that are well formed count
+    for (index, value) in [(2, 9), (14, 19), (7, 2), (3, 1)] {
+        lines.all(&[&format!("poke drawer {index} {value}"), "hop 10 20", "hop 10 19", "hop 10 7"]);
+        lines.all(&["hop 9 20", "hop 10 50", "lookup 10 2", "lookup 9 0", "drawer"]);
+    }
+    for (sound, pokes, call) in one_rule_broken() {
+        if call.starts_with("judge") && sound.len() < 100 {
+            lines.say("empty");
+            sound.iter().for_each(|line| lines.say(&over(line)));
+            lines.say(call);
+            pokes.iter().for_each(|line| lines.say(&over(line)));
+            lines.say(call);
+        }
+    }
+    // a list that would hold its own customer, at each place
+    lines.say("empty");
+    let near: Vec<String> = NEAR.iter().map(|line| over(line)).collect();
+    lines.0.extend(near);
+    let [words, _] = parts(&file_after(&NEAR));
+    for (index, value) in own_customer_pokes(&words) {
+        lines.all(&[&format!("poke drawer {index} {value}"), "rejudge", "hop 10 9", "clear 5"]);
+        lines.say(&format!("poke drawer {index} {}", words[index]));
+    }
+    lines.all(&["rejudge", "drawer"]);
+}
+
+/// Writing leaves the overrides out, reading leaves them as they are.
+fn snapshots_beside_overrides(lines: &mut Lines) {
+    let file = file_after(&SMALL);
+    let judge = "judge 1 20 0202000000140000000a";
+    lines.all(&SMALL);
+    lines.all(&["dfile 3 10 30", "dfile 4 65010 7", judge, "write 159", "write 160"]);
+    for changes in [
+        &[][..],
+        &["clear 2", "drop 7"],
+        &["file 0 10 20", "dfile 5 10 20"],
+        &["empty"],
+        &["dfile 0 10 20", "dfile 0 65010 65001"],
+        &["dclear 0", "dfile 0 20 10"],
+    ] {
+        lines.all(changes);
+        lines.read(&file);
+        lines.all(&["drawer", "register", judge, "lookup 65010 2", "lookup 65010 4", "hop 10 20"]);
+        lines.all(&["hop 65010 65001", "write 160", "rejudge", "ledger", "write 160"]);
+    }
+    // refused reads and writes leave them too
+    lines.read(&file[..159]);
+    lines.read(&with(&file, &[(5, 9)]));
+    lines.all(&["write 0", "drawer", judge]);
+    // a snapshot with the overrides' words as its register
+    lines.all(&["dfile 1 10 20", "dfile 2 30 40"]);
+    let [_, ledger] = parts(&file);
+    let mut other = Model::new();
+    for line in ["file 1 10 20", "file 2 30 40", "file 0 20 10"] {
+        console::answer(&mut other, line.as_bytes());
+    }
+    lines.read_parts(&[other.register.used_words(), ledger]);
+    lines.all(&["register", "drawer", "rejudge", judge, "dclear 1", judge, "rejudge", "ledger"]);
+}
+
 /// Lines at the edges of what a command is, not all of them text.
 fn odd_lines() -> Vec<Vec<u8>> {
     let mut lines = Lines(Vec::new());
@@ -3305,7 +3963,21 @@ fn odd_lines() -> Vec<Vec<u8>> {
     lines.all(&[
         "register", "poke ledger 0 1", "poke ledger 1 4294967295", "ledger", "poke tables 0 1",
         "resize tables 5", "words tables", "words", "words register ledger", "register 1", "empty",
+        "drawer", "drawer ", " drawer", "drawer 1", "Drawer", "drawers", "words drawer ",
+        "words drawer register", "dfile 1 2", "dfile 1", "dfile 1 2 ", "dfile  1 2",
+        "dclear 4294967296", "dclear 4294967295", "dclear 01", "dclear +1", "dwithdraw 1",
+        "lookup 1 1", "lookup 1 1 ", "lookup  1 1", "lookup 01 1", "lookup 4294967296 1",
+        "hop 1 1", "hop 1 1 ", "hop 1", "hop 0 1", "hop 1 0", "hop 01 1", "hop 1 4294967296",
+        "hop 1 4294967295", "ddrop 1", "drejudge", "poke drawer 12290 1", "poke drawer 12289 1",
+        "words drawer", "resize drawer 16385", "resize drawer 16384",
+        "poke drawer 16383 4294967295", "words drawer", "drawer", "poke drawer 0 4294967295",
+        "poke drawer 1 4294967295", "drawer", "resize drawer 0", "drawer", "words drawer",
+        "resize drawer 1", "drawer", "resize drawer 12290", "words drawer", "words register",
+        "empty", "words drawer",
     ]);
+    lines.say(&format!("dfile 0 1{}", " 2".repeat(131_067)));
+    lines.say(&format!("dfile 0 1{}", " 2".repeat(131_068)));
+    lines.say("drawer");
     let mut lines: Vec<Vec<u8>> = lines.0.into_iter().map(String::into_bytes).collect();
     lines.extend([&b"\xff"[..], b"\x00", b"register\r", b"drop\t1"].map(<[u8]>::to_vec));
     lines
@@ -3333,10 +4005,15 @@ mod tests {
     use reference::{judge, RouteNumber};
     use std::collections::{BTreeMap, BTreeSet};
 
-    const ROWS: [(&str, &[u32]); 9] = [
+    const ROWS: [(&str, &[u32]); 14] = [
         ("file", &[1, 2, 4, 5, 6, 8]),
         ("withdraw", &[1, 2, 4, 5, 7]),
         ("clear", &[1, 2, 4]),
+        ("dfile", &[1, 2, 4, 5, 6, 8]),
+        ("dwithdraw", &[1, 2, 4, 5, 7]),
+        ("dclear", &[1, 2, 4]),
+        ("hop", &[1, 2]),
+        ("lookup", &[]),
         ("judge", &[1, 2, 9, 10, 11, 12, 13, 14, 15, 16, 17]),
         ("keep", &[1, 2, 3, 9, 10, 11, 12, 13, 14, 15, 16, 17, 18, 20]),
         ("drop", &[1, 3, 19]),
@@ -3387,7 +4064,7 @@ mod tests {
         random_stream(31, 8_000, |line, _| {
             console::answer(&mut model, line.as_bytes());
             let words = model.register.used_words();
-            if line.starts_with("clear") && words.len() < 300 {
+            if line.contains("clear") && words.len() < 300 {
                 for (index, value) in own_customer_pokes(&words) {
                     let mut poked = words.clone();
                     poked[index] = value;
@@ -3709,20 +4386,23 @@ mod tests {
     #[test]
     fn own_customers_are_drawn() {
         let seen = drawn(|model, line, answer| {
-            let before = model.register.well_formed();
+            let before = model.register.well_formed() && model.overrides.well_formed();
             console::answer(model, line.as_bytes());
             let words: Vec<&str> = line.split(' ').collect();
             let kind = match (words[0], answer) {
-                ("file", "refused 6") => {
+                ("file" | "dfile", "refused 6") => {
                     let list: Vec<u32> =
                         words[2..].iter().map(|word| word.parse().unwrap()).collect();
                     let (customer, list) = (list[0], &list[1..]);
                     let other = list.len() > 256 || list != ascending(list.to_vec());
                     place(list, customer).filter(|_| !other)
                 }
-                ("poke", _) if before => {
-                    only_own_customer(&model.register.words()).then(|| "poke".to_string())
+                ("poke", _) if before => match words[1] {
+                    REGISTER => only_own_customer(&model.register.words()),
+                    DRAWER => only_own_customer(&model.overrides.words()),
+                    _ => false,
                 }
+                .then(|| format!("poke {}", words[1])),
                 ("read", "refused 2") => {
                     let [register, _] = parts(&console::bytes(words[1]).unwrap());
                     only_own_customer(&register).then(|| "read".to_string())
@@ -3733,10 +4413,220 @@ mod tests {
         });
         for kind in [
             "alone", "first", "between", "last", "first of 256", "between of 256", "last of 256",
-            "poke", "read",
+            "poke register", "poke drawer", "read",
         ] {
             assert!(seen.get(kind).is_some_and(|count| *count >= 4), "{kind}: {seen:?}");
         }
+    }
+
+    /// What is wrong with a table: 1 its length, 2 its words, 0 nothing.
+    fn wrong<T: Form>(table: &Table<T>) -> u32 {
+        match (table.right_length(), table.well_formed()) {
+            (false, _) => 1,
+            (true, false) => 2,
+            (true, true) => 0,
+        }
+    }
+
+    /// The same with no override.
+    fn without_overrides(model: &Model) -> Model {
+        Model { overrides: Model::new().overrides, ..model.clone() }
+    }
+
+    /// Of a hop or a lookup over well-formed registers.
+    fn kinds_of_lists(model: &Model, words: &[&str], answer: &str) -> Vec<&'static str> {
+        let (Table::Held(public), Table::Held(overrides)) = (&model.register, &model.overrides)
+        else {
+            return vec![];
+        };
+        let [x, y] = [1, 2].map(|i| words[i].parse::<u32>().unwrap());
+        let lists = |records: &Records| -> Vec<(u32, Vec<AsNumber>)> {
+            let of = records.iter().filter(|((customer, _), _)| customer.0 == x);
+            of.map(|((_, source), list)| (*source, list.clone())).collect()
+        };
+        let (public, overrides) = (lists(public), lists(overrides));
+        let lists = if overrides.is_empty() { &public } else { &overrides };
+        let both = !public.is_empty() && !overrides.is_empty();
+        if words[0] == "lookup" {
+            let listed = |lists: &[(u32, Vec<AsNumber>)]| lists.iter().any(|(s, _)| *s == y);
+            return match (answer == "list", overrides.is_empty()) {
+                (true, false) if listed(&public) => vec!["lookup: hidden"],
+                (false, false) if listed(&public) => vec!["lookup: drawer for public"],
+                (false, false) => vec!["lookup: drawer"],
+                (false, true) => vec!["lookup: public"],
+                _ => vec!["lookup: none"],
+            };
+        }
+        let listing = |lists: &[(u32, Vec<AsNumber>)]| {
+            lists.iter().filter(|(_, list)| list.contains(&AsNumber(y))).count()
+        };
+        let named = answer.split(' ').nth(2).map(|source| source.parse::<u32>().unwrap());
+        [
+            ("hop: drawer above 0", named > Some(0) && !overrides.is_empty()),
+            ("hop: lower source without", named.is_some_and(|named| lists[0].0 < named)),
+            ("hop: several list it", listing(lists) > 1),
+            ("hop: hidden provider", both && named.is_none() && listing(&public) > 0),
+            ("hop: hidden other", both && named.is_some() && listing(&public) == 0),
+            ("hop: both list it", both && named.is_some() && listing(&public) > 0),
+            ("hop: no public record", !both && answer.contains("drawer")),
+        ]
+        .into_iter()
+        .filter_map(|(kind, given)| given.then_some(kind))
+        .collect()
+    }
+
+    /// Of an answer that the same model gives otherwise without overrides.
+    fn kind_of_change(model: &Model, line: &str, answer: &str) -> Option<&'static str> {
+        let mut other = without_overrides(model);
+        let without = console::answer(&mut other, line.as_bytes());
+        let word = |answer: &str| answer.split(' ').next().unwrap_or("").to_string();
+        Some(match (&word(&without)[..], &word(answer)[..]) {
+            _ if without == answer => return None,
+            ("Valid", "Invalid") => "Valid to Invalid",
+            ("Invalid", "Valid") => "Invalid to Valid",
+            ("Unknown", "Valid") => "Unknown to Valid",
+            ("Unknown", "Invalid") => "Unknown to Invalid",
+            ("Invalid", "Invalid")
+                if without.replace("public", "") == answer.replace("drawer", "") =>
+            {
+                "sides alone"
+            }
+            _ => "otherwise",
+        })
+    }
+
+    /// Sides, hops, lists, verdicts that overrides change, and rows with bad overrides.
+    #[test]
+    fn overrides_are_drawn() {
+        let seen = drawn(|model, line, answer| {
+            let words: Vec<&str> = line.split(' ').collect();
+            let before = (words[0] == "rejudge").then(|| model.clone());
+            console::answer(model, line.as_bytes());
+            let mut kinds: Vec<String> = Vec::new();
+            // A call that was refused, and one that is lent no more than it reads, leaves them.
+            let bad = [wrong(&model.register), wrong(&model.overrides), wrong(&model.ledger)];
+            if words[0] == "read" || bad != [0; 3] {
+                if answer != "error" && !["poke", "resize", "words"].contains(&words[0]) {
+                    kinds.push(format!(
+                        "{} {bad:?} {}",
+                        words[0],
+                        answer.split(" at ").next().unwrap()
+                    ));
+                }
+                return kinds;
+            }
+            match words[0] {
+                "hop" if answer != "error" => {
+                    kinds.push(answer.to_string());
+                    kinds.extend(
+                        kinds_of_lists(model, &words, answer).iter().map(|k| k.to_string()),
+                    );
+                }
+                "lookup" if answer != "error" => {
+                    kinds.extend(
+                        kinds_of_lists(model, &words, answer).iter().map(|k| k.to_string()),
+                    );
+                }
+                "judge" if has_path(answer) => {
+                    if answer.starts_with("Invalid") {
+                        let sides: Vec<&str> = answer.split(' ').skip(3).take(2).collect();
+                        kinds.push(sides.join(" "));
+                    }
+                    kinds.extend(kind_of_change(model, line, answer).map(str::to_string));
+                }
+                "rejudge" if answer.starts_with("changed") => {
+                    let mut other = without_overrides(&before.unwrap());
+                    let without = console::answer(&mut other, b"rejudge");
+                    if without != answer {
+                        kinds.push("another count".to_string());
+                    }
+                    if other.ledger.words() != model.ledger.words() {
+                        kinds.push("another ledger".to_string());
+                    }
+                }
+                _ => {}
+            }
+            kinds
+        });
+        for (kind, least) in [
+            ("none", 40),
+            ("other public", 50),
+            ("other drawer", 50),
+            ("provider public 0", 40),
+            ("provider public 7", 5),
+            ("provider drawer 0", 20),
+            ("provider drawer 7", 3),
+            ("hop: drawer above 0", 50),
+            ("hop: lower source without", 40),
+            ("hop: several list it", 20),
+            ("hop: hidden provider", 20),
+            ("hop: hidden other", 20),
+            ("hop: both list it", 20),
+            ("hop: no public record", 20),
+            ("lookup: none", 50),
+            ("lookup: public", 50),
+            ("lookup: drawer", 20),
+            ("lookup: drawer for public", 20),
+            ("lookup: hidden", 25),
+            ("public -", 150),
+            ("drawer -", 90),
+            ("public public", 70),
+            ("public drawer", 30),
+            ("drawer public", 30),
+            ("drawer drawer", 40),
+            ("Valid to Invalid", 15),
+            ("Invalid to Valid", 20),
+            ("Unknown to Valid", 20),
+            ("Unknown to Invalid", 20),
+            ("sides alone", 20),
+            ("another count", 50),
+            ("another ledger", 50),
+            // one table, then two: a length goes before words, words of a register before 3
+            ("judge [0, 2, 0] refused 2", 15),
+            ("judge [0, 1, 0] refused 1", 5),
+            ("keep [0, 2, 0] refused 2", 15),
+            ("keep [0, 1, 0] refused 1", 5),
+            ("rejudge [0, 2, 0] refused 2", 15),
+            ("rejudge [0, 1, 0] refused 1", 5),
+            ("hop [0, 2, 0] refused 2", 15),
+            ("hop [0, 1, 0] refused 1", 5),
+            ("hop [2, 0, 0] refused 2", 15),
+            ("hop [1, 0, 0] refused 1", 5),
+            ("lookup [0, 2, 0] list", 15),
+            ("lookup [0, 1, 0] list", 5),
+            ("lookup [2, 0, 0] list", 15),
+            ("lookup [1, 0, 0] list", 5),
+            ("dfile [0, 2, 0] refused 2", 15),
+            ("dfile [0, 1, 0] refused 1", 5),
+            ("file [0, 2, 0] new", 5),
+            ("file [0, 1, 0] new", 2),
+            ("dfile [2, 0, 0] new", 5),
+            ("dfile [1, 0, 0] new", 2),
+            ("withdraw [0, 2, 0] done", 5),
+            ("dwithdraw [2, 0, 0] done", 3),
+            ("drop [0, 2, 0] done", 5),
+            ("drop [0, 1, 0] done", 2),
+            ("read [0, 2, 0] done", 5),
+            ("read [0, 1, 0] done", 2),
+            ("read [0, 2, 0] refused 24", 1),
+            ("judge [1, 2, 0] refused 1", 1),
+            ("judge [2, 1, 0] refused 1", 1),
+            ("judge [2, 2, 0] refused 2", 1),
+            ("judge [0, 2, 1] refused 2", 1),
+            ("keep [0, 2, 1] refused 1", 1),
+            ("keep [0, 2, 2] refused 2", 1),
+            ("rejudge [0, 2, 1] refused 1", 1),
+            ("rejudge [0, 2, 2] refused 2", 1),
+            ("rejudge [0, 1, 2] refused 1", 1),
+        ] {
+            assert!(seen.get(kind).is_some_and(|count| *count >= least), "{kind}: {seen:#?}");
+        }
+        // a write is not lent the overrides
+        let written = |(kind, _): &(&String, &usize)| {
+            kind.starts_with("write [0, 2, 0] written")
+                || kind.starts_with("write [0, 1, 0] written")
+        };
+        assert!(seen.iter().filter(written).count() > 10);
     }
 
     /// How often each call gave each kind of answer.
@@ -3779,6 +4669,14 @@ mod tests {
                 ("file", "new"),
                 ("file", "replaced"),
                 ("withdraw", "done"),
+                ("dfile", "new"),
+                ("dfile", "replaced"),
+                ("dwithdraw", "done"),
+                ("hop", "none"),
+                ("hop", "provider"),
+                ("hop", "other"),
+                ("hop", "error"),
+                ("lookup", "list"),
                 ("write", "written"),
                 ("read", "done"),
             ] {
@@ -3791,7 +4689,7 @@ mod tests {
     fn every_row_is_reached() {
         for seed in 1..=4 {
             let mut seen = Seen::default();
-            random_stream(seed, 8_000, |line, answer| {
+            random_stream(seed, 10_000, |line, answer| {
                 assert!(!line.contains('\n'));
                 seen.note(line, answer);
                 Ok(())
@@ -3829,8 +4727,12 @@ mod tests {
         }
         seen.check();
         for edge in [
-            "Valid gap -511", "Unknown 1 512 gap 511", "Unknown 512 0", "Invalid 512 0",
-            "Invalid 2 511 gap 511", "refused 16 at 4092", "refused 12 at 4094",
+            "Valid gap -511", "Unknown 1 512 gap 511", "Unknown 512 0", "Invalid 512 0 public -",
+            "Invalid 2 511 public public gap 511", "refused 16 at 4092", "refused 12 at 4094",
+            "Invalid 2 511 drawer drawer gap 511", "Invalid 2 511 public drawer gap 511",
+            "Invalid 2 511 drawer public gap 511", "Invalid 2 0 drawer -", "provider drawer 0",
+            "provider drawer 7", "provider public 7", "other drawer", "other public", "list",
+            "list 0",
         ] {
             assert!(answers.contains(edge), "{edge}");
         }
@@ -3896,6 +4798,7 @@ mod tests {
         let mut model = Model::new();
         random_stream(21, 2_500, |line, answer| {
             model.register = Table::Words(model.register.words());
+            model.overrides = Table::Words(model.overrides.words());
             model.ledger = Table::Words(model.ledger.words());
             assert_eq!(console::answer(&mut model, line.as_bytes()), answer, "{line}");
             Ok(())

@@ -1,7 +1,9 @@
 -- `answers::put_cause` meets its contract. Assumes nothing.
+use mathlib.Core.List.{_++_}
 use native.Mathlib.Omega.{arith}
-use Rattle.answers.specs.Texts.{causeText}
-use Rattle.answers.proofs.Writing.{matched}
+use Rattle.text.specs.Ascii.{ascii}
+use Rattle.answers.specs.Texts.{placesText, originsText, causeText}
+use Rattle.answers.proofs.Writing.{writes-on, matched}
 use borrow.Author.Needs.{needs}
 use Rattle.answers.proofs.put_cause.Statement.{statement}
 use Rattle.answers.proofs.put_cause.Tie as tie
@@ -30,6 +32,9 @@ slice-aggregate-put-places c = search needs
 put-places-requires : tie.Need-put-places-requires
 put-places-requires c κs = search needs
 
+put-origins-requires : tie.Need-put-origins-requires
+put-origins-requires c κs = search needs
+
 same-length : tie.Need-same-length
 same-length c = search needs
 
@@ -43,8 +48,12 @@ same-length-2 c = search needs
 
 returns-2 : tie.Need-returns-2
 returns-2 c =
-    let p = c .before .before .put-places .ensures in
-    matched causeText _ _ _ (c .before .before .before .before .before .before .cause2 .given .1) (p .0) (p .1) (omega arith)
+    let a = c .before .before .before .before .before .before .before .before .before .before .before .before .before .args in
+    let e = c .before .before .before .before .before .before .before .before .before .before .cause2 .given in
+    let p = c .before .before .before .before .before .before .put-places .ensures in
+    let q = c .before .before .put-origins .ensures in
+    let w = writes-on (a .out .now) (a .at) (ascii "Invalid " ++ placesText (e .0 .0) (e .0 .1 .0)) (originsText (e .0 .1 .1 .0)) (p .0) (p .1) (q .0) (q .1) in
+    matched causeText _ _ _ (e .1) (w .0) (w .1) (omega arith)
 
 pub put-cause-spec : {M : Type 1} → statement M
 put-cause-spec =
@@ -58,6 +67,7 @@ put-cause-spec =
     enum-known-cause-2
     slice-aggregate-put-places
     put-places-requires
+    put-origins-requires
     same-length
     returns
     same-length-2

@@ -25,6 +25,9 @@ empty-table-requires c κs = search needs
 empty-table-requires-2 : tie.Need-empty-table-requires-2
 empty-table-requires-2 c κs = search needs
 
+empty-table-requires-3 : tie.Need-empty-table-requires-3
+empty-table-requires-3 c κs = search needs
+
 no-output-requires : tie.Need-no-output-requires
 no-output-requires c κs = search needs
 
@@ -43,13 +46,17 @@ slice-aggregate-serve-4 c = search needs
 slice-aggregate-serve-5 : tie.Need-slice-aggregate-serve-5
 slice-aggregate-serve-5 c = search needs
 
+slice-aggregate-serve-6 : tie.Need-slice-aggregate-serve-6
+slice-aggregate-serve-6 c = search needs
+
 serve-requires : tie.Need-serve-requires
 serve-requires c κs =
-    let no-line = c .before .before .before .before .before .before .before .before .no-line in
-    let empty-table = c .before .before .before .before .before .before .before .empty-table in
-    let empty-table2 = c .before .before .before .before .before .before .empty-table2 in
-    let no-output = c .before .before .before .before .before .no-output in
-    starts _ _ _ _ (sym (no-line .ensures)) (empty-table .ensures) (empty-table2 .ensures) (omega (arith, no-output .ensures))
+    let no-line = c .before .before .before .before .before .before .before .before .before .before .no-line in
+    let empty-table = c .before .before .before .before .before .before .before .before .before .empty-table in
+    let empty-table2 = c .before .before .before .before .before .before .before .before .empty-table2 in
+    let empty-table3 = c .before .before .before .before .before .before .before .empty-table3 in
+    let no-output = c .before .before .before .before .before .before .no-output in
+    starts _ _ _ _ _ (sym (no-line .ensures)) (empty-table .ensures) (empty-table2 .ensures) (empty-table3 .ensures) (omega (arith, no-output .ensures))
 
 slice-aggregate-finish : tie.Need-slice-aggregate-finish
 slice-aggregate-finish c = search needs
@@ -62,6 +69,9 @@ slice-aggregate-finish-3 c = search needs
 
 slice-aggregate-finish-4 : tie.Need-slice-aggregate-finish-4
 slice-aggregate-finish-4 c = search needs
+
+slice-aggregate-finish-5 : tie.Need-slice-aggregate-finish-5
+slice-aggregate-finish-5 c = search needs
 
 finish-requires : tie.Need-finish-requires
 finish-requires c κs = search needs
@@ -83,17 +93,20 @@ main-spec =
     no-line-requires
     empty-table-requires
     empty-table-requires-2
+    empty-table-requires-3
     no-output-requires
     slice-aggregate-serve
     slice-aggregate-serve-2
     slice-aggregate-serve-3
     slice-aggregate-serve-4
     slice-aggregate-serve-5
+    slice-aggregate-serve-6
     serve-requires
     slice-aggregate-finish
     slice-aggregate-finish-2
     slice-aggregate-finish-3
     slice-aggregate-finish-4
+    slice-aggregate-finish-5
     finish-requires
     slice-aggregate-flush
     flush-requires

@@ -1,28 +1,32 @@
 -- `filter::keep` meets its contract. Assumes nothing.
 use mathlib.Core.Path.{_≡_, sym, _∙_, ap}
 use borrow.Author.Tests.{not-true, not-false}
-use Rattle.filter.specs.Calls.{hopIn, keeping, keepEffect}
+use Rattle.filter.specs.Calls.{keeping, keepEffect}
+use Rattle.registers.specs.Registers.{lent, hopIn}
 use Rattle.filter.proofs.Judgings.{known-role, judged-refused}
 use Rattle.filter.proofs.Keepings.{keep-register-length, keep-ledger-length, keep-register-malformed, keep-ledger-malformed, keep-refused}
 use borrow.Author.Needs.{needs}
 use Rattle.filter.proofs.keep.Statement.{statement}
 use Rattle.filter.proofs.keep.Tie as tie
 
+are-long-requires : tie.Need-are-long-requires
+are-long-requires c κs = search needs
+
 returns : tie.Need-returns
-returns c = let a = c .before .before .before .before .args in
-    keep-register-length (a .reg .now) (a .led .now) (keeping (a .number .0) (a .role) (a .neighbour .0) (a .attribute .now)) (c .if1 .taken)
+returns c = let a = c .before .before .before .before .before .before .args in
+    keep-register-length (lent (a .public .now) (a .overrides .now)) (a .led .now) (keeping (a .number .0) (a .role) (a .neighbour .0) (a .attribute .now)) (sym (c .before .are-long .ensures) ∙ not-true _ (c .if1 .taken))
 
 returns-2 : tie.Need-returns-2
-returns-2 c = let a = c .before .before .before .before .before .args in
-    keep-ledger-length (a .reg .now) (a .led .now) (keeping (a .number .0) (a .role) (a .neighbour .0) (a .attribute .now)) (c .before .if1 .left) (c .if2 .taken)
+returns-2 c = let a = c .before .before .before .before .before .before .before .args in
+    keep-ledger-length (lent (a .public .now) (a .overrides .now)) (a .led .now) (keeping (a .number .0) (a .role) (a .neighbour .0) (a .attribute .now)) (sym (c .before .before .are-long .ensures) ∙ not-false _ (c .before .if1 .left)) (c .if2 .taken)
 
-is-register-requires : tie.Need-is-register-requires
-is-register-requires c κs = search needs
+are-registers-requires : tie.Need-are-registers-requires
+are-registers-requires c κs = search needs
 
 returns-3 : tie.Need-returns-3
-returns-3 c = let a = c .before .before .before .before .before .before .before .args in
-    keep-register-malformed (a .reg .now) (a .led .now) (keeping (a .number .0) (a .role) (a .neighbour .0) (a .attribute .now)) (c .before .before .before .if1 .left) (c .before .before .if2 .left)
-    (sym (c .before .is-register .ensures) ∙ not-true _ (c .if3 .taken))
+returns-3 c = let a = c .before .before .before .before .before .before .before .before .before .args in
+    keep-register-malformed (lent (a .public .now) (a .overrides .now)) (a .led .now) (keeping (a .number .0) (a .role) (a .neighbour .0) (a .attribute .now)) (sym (c .before .before .before .before .are-long .ensures) ∙ not-false _ (c .before .before .before .if1 .left)) (c .before .before .if2 .left)
+    (sym (c .before .are-registers .ensures) ∙ not-true _ (c .if3 .taken))
 
 is-ledger-requires : tie.Need-is-ledger-requires
 is-ledger-requires c κs = search needs
@@ -31,9 +35,9 @@ same-length : tie.Need-same-length
 same-length c = search needs
 
 returns-4 : tie.Need-returns-4
-returns-4 c = let a = c .before .before .before .before .before .before .before .before .before .before .args in
-    keep-ledger-malformed (a .reg .now) (a .led .now) (keeping (a .number .0) (a .role) (a .neighbour .0) (a .attribute .now)) (c .before .before .before .before .before .before .if1 .left) (c .before .before .before .before .before .if2 .left)
-    (sym (c .before .before .before .before .is-register .ensures) ∙ not-false _ (c .before .before .before .if3 .left)) (sym (c .before .is-ledger .ensures) ∙ not-true _ (c .if4 .taken))
+returns-4 c = let a = c .before .before .before .before .before .before .before .before .before .before .before .before .args in
+    keep-ledger-malformed (lent (a .public .now) (a .overrides .now)) (a .led .now) (keeping (a .number .0) (a .role) (a .neighbour .0) (a .attribute .now)) (sym (c .before .before .before .before .before .before .before .are-long .ensures) ∙ not-false _ (c .before .before .before .before .before .before .if1 .left)) (c .before .before .before .before .before .if2 .left)
+    (sym (c .before .before .before .before .are-registers .ensures) ∙ not-false _ (c .before .before .before .if3 .left)) (sym (c .before .is-ledger .ensures) ∙ not-true _ (c .if4 .taken))
 
 know-requires : tie.Need-know-requires
 know-requires c κs = search needs
@@ -45,11 +49,11 @@ enum-known-role : tie.Need-enum-known-role
 enum-known-role c = search needs
 
 keep-known-requires : tie.Need-keep-known-requires
-keep-known-requires c κs = let a = c .before .before .before .before .before .before .before .before .before .before .before .before .before .before .before .args in
+keep-known-requires c κs = let a = c .before .before .before .before .before .before .before .before .before .before .before .before .before .before .before .before .before .args in
     let k = known-role (a .role) (a .neighbour .0) (a .attribute .now) _ (sym (c .before .before .before .before .know .ensures) ∙ c .before .before .role .given .1) in
     rw (k .1) (record {
-      long = c .before .before .before .before .before .before .before .before .before .before .before .if1 .left;
-      ok = sym (c .before .before .before .before .before .before .before .before .before .is-register .ensures) ∙ not-false _ (c .before .before .before .before .before .before .before .before .if3 .left);
+      long = sym (c .before .before .before .before .before .before .before .before .before .before .before .before .are-long .ensures) ∙ not-false _ (c .before .before .before .before .before .before .before .before .before .before .before .if1 .left);
+      ok = sym (c .before .before .before .before .before .before .before .before .before .are-registers .ensures) ∙ not-false _ (c .before .before .before .before .before .before .before .before .if3 .left);
       long-ledger = c .before .before .before .before .before .before .before .before .before .before .if2 .left;
       ok-ledger = sym (c .before .before .before .before .before .before .is-ledger .ensures) ∙ not-false _ (c .before .before .before .before .before .if4 .left);
       argued = k .0;
@@ -59,26 +63,27 @@ same-length-2 : tie.Need-same-length-2
 same-length-2 c = search needs
 
 returns-5 : tie.Need-returns-5
-returns-5 c = let a = c .before .before .before .before .before .before .before .before .before .before .before .before .before .before .args in
-    keep-refused (a .reg .now) (a .led .now) (keeping (a .number .0) (a .role) (a .neighbour .0) (a .attribute .now)) (c .before .before .before .before .before .before .before .before .before .before .if1 .left) (c .before .before .before .before .before .before .before .before .before .if2 .left)
-    (sym (c .before .before .before .before .before .before .before .before .is-register .ensures) ∙ not-false _ (c .before .before .before .before .before .before .before .if3 .left)) (sym (c .before .before .before .before .before .is-ledger .ensures) ∙ not-false _ (c .before .before .before .before .if4 .left))
-    (judged-refused (hopIn (a .reg .now)) (a .role) (a .neighbour .0) (a .attribute .now) _ (sym (c .before .before .before .know .ensures) ∙ c .before .r .given .1))
+returns-5 c = let a = c .before .before .before .before .before .before .before .before .before .before .before .before .before .before .before .before .args in
+    keep-refused (lent (a .public .now) (a .overrides .now)) (a .led .now) (keeping (a .number .0) (a .role) (a .neighbour .0) (a .attribute .now)) (sym (c .before .before .before .before .before .before .before .before .before .before .before .are-long .ensures) ∙ not-false _ (c .before .before .before .before .before .before .before .before .before .before .if1 .left)) (c .before .before .before .before .before .before .before .before .before .if2 .left)
+    (sym (c .before .before .before .before .before .before .before .before .are-registers .ensures) ∙ not-false _ (c .before .before .before .before .before .before .before .if3 .left)) (sym (c .before .before .before .before .before .is-ledger .ensures) ∙ not-false _ (c .before .before .before .before .if4 .left))
+    (judged-refused (hopIn (lent (a .public .now) (a .overrides .now))) (a .role) (a .neighbour .0) (a .attribute .now) _ (sym (c .before .before .before .know .ensures) ∙ c .before .r .given .1))
 
 same-length-3 : tie.Need-same-length-3
 same-length-3 c = search needs
 
 returns-6 : tie.Need-returns-6
-returns-6 c = let a = c .before .before .before .before .before .before .before .before .before .before .before .before .before .before .before .before .before .before .args in
+returns-6 c = let a = c .before .before .before .before .before .before .before .before .before .before .before .before .before .before .before .before .before .before .before .before .args in
     let k = known-role (a .role) (a .neighbour .0) (a .attribute .now) _ (sym (c .before .before .before .before .before .before .before .know .ensures) ∙ c .before .before .before .before .before .role .given .1) in
-    c .before .before .keep-known .ensures ∙ ap (λ n. keepEffect (a .reg .now) (a .led .now) (keeping (a .number .0) n (a .neighbour .0) (a .attribute .now))) (k .1)
+    c .before .before .keep-known .ensures ∙ ap (λ n. keepEffect (lent (a .public .now) (a .overrides .now)) (a .led .now) (keeping (a .number .0) n (a .neighbour .0) (a .attribute .now))) (k .1)
 
 pub keep-spec : {M : Type 1} → statement M
 keep-spec =
     tie.close
     (tie.spec
+    are-long-requires
     returns
     returns-2
-    is-register-requires
+    are-registers-requires
     returns-3
     is-ledger-requires
     same-length

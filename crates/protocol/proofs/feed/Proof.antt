@@ -15,7 +15,7 @@ find-requires c κs = search needs
 
 slice-aggregate-join : tie.Need-slice-aggregate-join
 slice-aggregate-join c =
-    let a = c .before .before .before .before .before .before .before .before .before .args in
+    let a = c .before .before .before .before .before .before .before .before .before .before .args in
     let find = c .before .before .find in
     sym (length-take-le (find .result) (a .piece .now) (find .ensures .1))
 
@@ -25,8 +25,8 @@ join-requires c κs = search needs
 end-line-requires : tie.Need-end-line-requires
 end-line-requires c κs = search needs
 
-add-t26 : tie.Need-add-t26
-add-t26 c = search needs
+add-t29 : tie.Need-add-t29
+add-t29 c = record { fits = omega (arith, c .before .before .before .before .before .before .before .before .before .before .before .before .before .before .if1 .taken, c .before .before .before .before .before .before .before .before .before .before .before .before .before .before .before .before .before .before .before .before .before .before .before .before .before .before .before .before .good .0) }
 
 same-length : tie.Need-same-length
 same-length c = search needs
@@ -40,16 +40,19 @@ same-length-3 c = search needs
 same-length-4 : tie.Need-same-length-4
 same-length-4 c = search needs
 
+same-length-5 : tie.Need-same-length-5
+same-length-5 c = search needs
+
 returns : tie.Need-returns
 returns c =
-    let a = c .before .before .before .before .before .before .before .before .before .before .before .before .before .before .before .before .before .before .before .before .before .before .before .before .args in
-    let find = c .before .before .before .before .before .before .before .before .before .before .before .before .before .before .before .before .before .find in
-    let join = c .before .before .before .before .before .before .before .before .before .before .before .before .before .before .join in
-    let if1 = c .before .before .before .before .before .before .before .before .before .before .before .if1 in
-    let end-line = c .before .before .before .before .before .before .end-line in
+    let a = c .before .before .before .before .before .before .before .before .before .before .before .before .before .before .before .before .before .before .before .before .before .before .before .before .before .before .before .before .args in
+    let find = c .before .before .before .before .before .before .before .before .before .before .before .before .before .before .before .before .before .before .before .before .find in
+    let join = c .before .before .before .before .before .before .before .before .before .before .before .before .before .before .before .before .before .join in
+    let if1 = c .before .before .before .before .before .before .before .before .before .before .before .before .before .before .if1 in
+    let end-line = c .before .before .before .before .before .before .before .before .end-line in
     let p = end-line .ensures in
     let w =
-    line-ends (sessionIn (a .s) (a .line .now) (a .reg .now) (a .led .now)) (a .piece .now) (find .result) _ (find .ensures .0) (join .ensures .0)
+    line-ends (sessionIn (a .s) (a .line .now) (a .reg .now) (a .overrides .now) (a .led .now)) (a .piece .now) (find .result) _ (find .ensures .0) (join .ensures .0)
     (if1 .taken) (p .0) (no-line (end-line .result .line) _ (p .1)) in (
       w .0,
       w .2,
@@ -60,18 +63,18 @@ returns c =
       p .5,
     )
 
-same-length-5 : tie.Need-same-length-5
-same-length-5 c = search needs
+same-length-6 : tie.Need-same-length-6
+same-length-6 c = search needs
 
 returns-2 : tie.Need-returns-2
 returns-2 c =
-    let a = c .before .before .before .before .before .before .before .before .before .before .before .before .before .args in
-    let pre = c .before .before .before .before .before .before .before .before .before .before .before .before .before .pre in
+    let a = c .before .before .before .before .before .before .before .before .before .before .before .before .before .before .args in
+    let pre = c .before .before .before .before .before .before .before .before .before .before .before .before .before .before .pre in
     let find = c .before .before .before .before .before .before .find in
     let join = c .before .before .before .join in
     let if1 = c .if1 in
     let w =
-    line-goes-on (sessionIn (a .s) (a .line .now) (a .reg .now) (a .led .now)) (a .piece .now) (find .result) _ (find .ensures .0) (join .ensures .0)
+    line-goes-on (sessionIn (a .s) (a .line .now) (a .reg .now) (a .overrides .now) (a .led .now)) (a .piece .now) (find .result) _ (find .ensures .0) (join .ensures .0)
     (if1 .left) (find .ensures .1) in (
       w .0,
       w .2,
@@ -90,11 +93,12 @@ feed-spec =
     slice-aggregate-join
     join-requires
     end-line-requires
-    add-t26
+    add-t29
     same-length
     same-length-2
     same-length-3
     same-length-4
-    returns
     same-length-5
+    returns
+    same-length-6
     returns-2)

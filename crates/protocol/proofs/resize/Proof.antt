@@ -12,9 +12,9 @@ use Rattle.protocol.proofs.resize_named.Reads as resize-named-reads
 
 returns : tie.Need-returns
 returns c =
-    let a = c .before .before .before .before .args in
-    let pre = c .before .before .before .before .pre in (
-      does-nothing (take (a .s .register) (a .reg .now)) (take (a .s .ledger) (a .led .now)) _ (other-count _ 3 _ (λ e. c .if1 .taken (pre .0 ∙ e))),
+    let a = c .before .before .before .before .before .args in
+    let pre = c .before .before .before .before .before .pre in (
+      does-nothing (take (a .s .register) (a .reg .now)) (take (a .s .overrides) (a .overrides .now)) (take (a .s .ledger) (a .led .now)) _ (other-count _ 3 _ (λ e. c .if1 .taken (pre .0 ∙ e))),
       pre .1,
     )
 
@@ -29,9 +29,9 @@ enum-told c = search needs
 
 returns-2 : tie.Need-returns-2
 returns-2 c =
-    let a = c .before .before .before .before .before .before .before .args in
-    let pre = c .before .before .before .before .before .before .before .pre in (
-      does-nothing (take (a .s .register) (a .reg .now)) (take (a .s .ledger) (a .led .now)) _
+    let a = c .before .before .before .before .before .before .before .before .args in
+    let pre = c .before .before .before .before .before .before .before .before .pre in (
+      does-nothing (take (a .s .register) (a .reg .now)) (take (a .s .overrides) (a .overrides .now)) (take (a .s .ledger) (a .led .now)) _
           (right-count _ 3 _ (sym (pre .0) ∙ c .before .before .before .if1 .left)
           ∙ no-number _ 2 _ (sym (c .before .before .number .ensures) ∙ c .enum-told .given .1)),
       pre .1,
@@ -42,11 +42,11 @@ cast-to c = search needs
 
 returns-3 : tie.Need-returns-3
 returns-3 c =
-    let a = c .before .before .before .before .before .before .before .before .before .args in
-    let pre = c .before .before .before .before .before .before .before .before .before .pre in
+    let a = c .before .before .before .before .before .before .before .before .before .before .args in
+    let pre = c .before .before .before .before .before .before .before .before .before .before .pre in
     let if1 = c .before .before .before .before .before .if1 in
     let number = c .before .before .before .before .number in (
-      does-nothing (take (a .s .register) (a .reg .now)) (take (a .s .ledger) (a .led .now)) _
+      does-nothing (take (a .s .register) (a .reg .now)) (take (a .s .overrides) (a .overrides .now)) (take (a .s .ledger) (a .led .now)) _
           (right-count _ 3 _ (sym (pre .0) ∙ if1 .left)
           ∙ number-is _ 2 _ (sym (number .ensures) ∙ c .before .before .length .given .1)
           ∙ too-many _ _ _ (c .if2 .taken)),
@@ -65,17 +65,20 @@ same-length c = search needs
 same-length-2 : tie.Need-same-length-2
 same-length-2 c = search needs
 
+same-length-3 : tie.Need-same-length-3
+same-length-3 c = search needs
+
 returns-4 : tie.Need-returns-4
 returns-4 c =
-    let a = c .before .before .before .before .before .before .before .before .before .before .before .before .before .before .before .before .before .args in
-    let pre = c .before .before .before .before .before .before .before .before .before .before .before .before .before .before .before .before .before .pre in
-    let if1 = c .before .before .before .before .before .before .before .before .before .before .before .before .before .if1 in
-    let number = c .before .before .before .before .before .before .before .before .before .before .before .before .number in
-    let length′ = c .before .before .before .before .before .before .before .before .before .before .length in
-    let if2 = c .before .before .before .before .before .before .before .before .if2 in
-    let named = c .before .before .before .before .before .before .before .named in
-    let resize-named = c .before .before .before .before .resize-named in (
-      does (take (a .s .register) (a .reg .now)) (take (a .s .ledger) (a .led .now)) _
+    let a = c .before .before .before .before .before .before .before .before .before .before .before .before .before .before .before .before .before .before .before .before .before .args in
+    let pre = c .before .before .before .before .before .before .before .before .before .before .before .before .before .before .before .before .before .before .before .before .before .pre in
+    let if1 = c .before .before .before .before .before .before .before .before .before .before .before .before .before .before .before .before .if1 in
+    let number = c .before .before .before .before .before .before .before .before .before .before .before .before .before .before .before .number in
+    let length′ = c .before .before .before .before .before .before .before .before .before .before .before .before .before .length in
+    let if2 = c .before .before .before .before .before .before .before .before .before .before .before .if2 in
+    let named = c .before .before .before .before .before .before .before .before .before .before .named in
+    let resize-named = c .before .before .before .before .before .before .resize-named in (
+      does (take (a .s .register) (a .reg .now)) (take (a .s .overrides) (a .overrides .now)) (take (a .s .ledger) (a .led .now)) _
           (right-count _ 3 _ (sym (pre .0) ∙ if1 .left)
           ∙ number-is _ 2 _ (sym (number .ensures) ∙ length′ .given .1)
           ∙ not-too-many _ _ _ (if2 .left)
@@ -99,4 +102,5 @@ resize-spec =
     resize-named-requires
     same-length
     same-length-2
+    same-length-3
     returns-4)

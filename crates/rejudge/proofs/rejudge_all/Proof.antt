@@ -1,6 +1,8 @@
 -- `rejudge::rejudge_all` meets its contract. Assumes nothing.
 use native.Mathlib.Omega.{arith}
 use Rattle.register.proofs.Looking.{head-within}
+use Rattle.registers.specs.Registers.{lent}
+use Rattle.registers.proofs.Choosing.{public-ok}
 use borrow.Author.Needs.{needs}
 use Rattle.rejudge.proofs.rejudge_all.Statement.{statement}
 use Rattle.rejudge.proofs.rejudge_all.Tie as tie
@@ -9,7 +11,9 @@ path-words-requires : tie.Need-path-words-requires
 path-words-requires c κs = search needs
 
 word-requires : tie.Need-word-requires
-word-requires c κs = omega (arith, head-within _ (c .before .before .before .before .pre .0))
+word-requires c κs =
+    let s = c .before .before .before .before .before in
+    omega (arith, head-within _ (public-ok (lent (s .args .public .now) (s .args .overrides .now)) (s .pre .0)))
 
 slice-aggregate-rejudge-routes : tie.Need-slice-aggregate-rejudge-routes
 slice-aggregate-rejudge-routes c = search needs
@@ -27,7 +31,9 @@ slice-aggregate-fill : tie.Need-slice-aggregate-fill
 slice-aggregate-fill c = search needs
 
 fill-requires : tie.Need-fill-requires
-fill-requires c κs = search needs
+fill-requires c κs =
+    let s = c .before .before .before .before .before .before .before .before in
+    (public-ok (lent (s .args .public .now) (s .args .overrides .now)) (s .pre .0), omega arith)
 
 slice-aggregate-rejudge-routes-2 : tie.Need-slice-aggregate-rejudge-routes-2
 slice-aggregate-rejudge-routes-2 c = search needs

@@ -1,6 +1,5 @@
 -- `rejudge::rejudge_route` meets its contract. Assumes nothing.
-use Rattle.rules.specs.Records.{hopOf}
-use Rattle.register.specs.Register.{recordsOf}
+use Rattle.registers.specs.Registers.{lent, hopIn}
 use Rattle.rejudge.proofs.Rerouting.{grounded, may-judge, rejudged-route}
 use borrow.Author.Needs.{needs}
 use Rattle.rejudge.proofs.rejudge_route.Statement.{statement}
@@ -14,8 +13,8 @@ same-length c = search needs
 
 returns : tie.Need-returns
 returns c =
-    let s = c .before .before .before .before .before .before in
-    grounded (s .pre .1) (c .before .ground .ensures) (hopOf (recordsOf (s .args .reg .now))) (c .if1 .taken)
+    let s = c .before .before .before .before .before .before .before in
+    grounded (s .pre .1) (c .before .ground .ensures) (hopIn (lent (s .args .public .now) (s .args .overrides .now))) (c .if1 .taken)
 
 role-requires : tie.Need-role-requires
 role-requires c κs = search needs
@@ -26,7 +25,7 @@ path-requires c κs = search needs
 judge-hinted-requires : tie.Need-judge-hinted-requires
 judge-hinted-requires c κs =
     let g = c .before .before .before .before in
-    let s = g .before .before .before .before .before .before in
+    let s = g .before .before .before .before .before .before .before in
     let m = may-judge (s .pre .1) (g .before .ground .ensures) (g .if1 .left) (c .path .ensures) in
     (s .pre .0, m .0, m .1)
 
@@ -44,9 +43,9 @@ returns-2 c =
     let v = c .before .before .before .before in
     let r = v .before .before .before .before in
     let g = r .before .before in
-    let s = g .before .before .before .before .before .before in
+    let s = g .before .before .before .before .before .before .before in
     rejudged-route (s .pre .1) (g .before .ground .ensures) (g .if1 .left) (v .before .before .path .ensures)
-    (hopOf (recordsOf (s .args .reg .now))) (r .role .ensures) (v .before .judge-hinted .ensures) (v .verdict .ensures)
+    (hopIn (lent (s .args .public .now) (s .args .overrides .now))) (r .role .ensures) (v .before .judge-hinted .ensures) (v .verdict .ensures)
     (c .before .before .stamp .ensures)
 
 pub rejudge-route-spec : {M : Type 1} → statement M

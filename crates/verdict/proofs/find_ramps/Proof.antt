@@ -1,130 +1,32 @@
 -- `verdict::find_ramps` meets its contract. Assumes nothing.
-use borrow.Author.Needs.{needs}
-use Prim.Native.Nat.{_-_}
+use mathlib.Core.Path.{sym, _∙_, ap}
 use native.Mathlib.Omega.{arith}
-use Rattle.rules.specs.Records.{hopOf}
-use Rattle.register.specs.Register.{recordsOf}
-use Rattle.verdict.proofs.Passing.{Passing, passes, passes-on, passed}
+use borrow.Author.Needs.{needs}
+use Rattle.register.proofs.Looking.{head-within}
+use Rattle.registers.specs.Registers.{lent}
+use Rattle.registers.proofs.Choosing.{public-ok, overrides-ok, hops-alone}
+use Rattle.verdict.specs.Ramps.{rampsOf}
 use Rattle.verdict.proofs.find_ramps.Statement.{statement}
 use Rattle.verdict.proofs.find_ramps.Tie as tie
 
-abbrev Inv-loop : tie.InvT-loop
-Inv-loop reg hints path n r₀ i₀ origin position up₀ r i up = Passing (hopOf (recordsOf reg)) path r i up
+word-requires : tie.Need-word-requires
+word-requires c κs =
+    let s = c .before .before .before .before in
+    omega (arith, head-within (s .args .overrides .now) (overrides-ok (lent (s .args .public .now) (s .args .overrides .now)) (s .pre .0)))
 
-abbrev μ-loop : tie.MeasureT-loop
-μ-loop reg hints path n r₀ i₀ origin position up₀ r i up = n - i
+ramps-alone-requires : tie.Need-ramps-alone-requires
+ramps-alone-requires c κs = let s = c .before .before .before .before .before .before in (public-ok (lent (s .args .public .now) (s .args .overrides .now)) (s .pre .0), s .pre .1, s .pre .2)
 
-add-origin : tie.Need-add-origin Inv-loop μ-loop
-add-origin c = search needs
+returns : tie.Need-returns
+returns c =
+    let s = c .before .before .before .before .before .before .before in
+    c .ramps-alone .ensures ∙ ap (λ hop. rampsOf hop (s .args .path .now)) (sym (hops-alone (lent (s .args .public .now) (s .args .overrides .now)) (s .pre .0) (c .before .before .word .ensures .0) (c .before .if1 .taken)))
 
-sub-origin : tie.Need-sub-origin Inv-loop μ-loop
-sub-origin c = search needs
+ramps-requires : tie.Need-ramps-requires
+ramps-requires c κs = search needs
 
-mul-origin : tie.Need-mul-origin Inv-loop μ-loop
-mul-origin c = search needs
-
-shared-slice-read-origin : tie.Need-shared-slice-read-origin Inv-loop μ-loop
-shared-slice-read-origin c = search needs
-
-find-requires : tie.Need-find-requires Inv-loop μ-loop
-find-requires c κs = search needs
-
-number-or-zero-requires : tie.Need-number-or-zero-requires Inv-loop μ-loop
-number-or-zero-requires c κs = search needs
-
-hop-from-requires : tie.Need-hop-from-requires Inv-loop μ-loop
-hop-from-requires c κs = search needs
-
-loop-holds : tie.Need-loop-holds Inv-loop μ-loop
-loop-holds c = passes _ _ (c .before .before .before .before .before .before .before .pre .1) (c .before .number-or-zero .ensures) (c .hop-from .ensures)
-
-sub-x : tie.Need-sub-x Inv-loop μ-loop
-sub-x c = search needs
-
-mul-x : tie.Need-mul-x Inv-loop μ-loop
-mul-x c = search needs
-
-shared-slice-read-x : tie.Need-shared-slice-read-x Inv-loop μ-loop
-shared-slice-read-x c = omega (arith, c .before .before .loop .inv .low, c .before .loop-test .taken)
-
-add-y : tie.Need-add-y Inv-loop μ-loop
-add-y c = search needs
-
-sub-y : tie.Need-sub-y Inv-loop μ-loop
-sub-y c = search needs
-
-mul-y : tie.Need-mul-y Inv-loop μ-loop
-mul-y c = search needs
-
-shared-slice-read-y : tie.Need-shared-slice-read-y Inv-loop μ-loop
-shared-slice-read-y c = search needs
-
-find-requires-2 : tie.Need-find-requires-2 Inv-loop μ-loop
-find-requires-2 c κs = search needs
-
-add-number-or-zero : tie.Need-add-number-or-zero Inv-loop μ-loop
-add-number-or-zero c = search needs
-
-number-or-zero-requires-2 : tie.Need-number-or-zero-requires-2 Inv-loop μ-loop
-number-or-zero-requires-2 c κs = search needs
-
-hops-from-requires : tie.Need-hops-from-requires Inv-loop μ-loop
-hops-from-requires c κs = search needs
-
-after-up-requires : tie.Need-after-up-requires Inv-loop μ-loop
-after-up-requires c κs = search needs
-
-after-down-requires : tie.Need-after-down-requires Inv-loop μ-loop
-after-down-requires c κs =
-    let t = c .before .before .before .before .before .before in
-    omega (arith, t .loop-test .taken, t .before .before .before .before .before .before .before .before .before .pre .2)
-
-add-i : tie.Need-add-i Inv-loop μ-loop
-add-i c =
-    let t = c .before .before .before .before .before .before .before in
-    omega (arith, t .loop-test .taken, t .before .before .before .before .before .before .before .before .before .pre .2)
-
-loop-less : tie.Need-loop-less Inv-loop μ-loop
-loop-less c = search needs
-
-loop-again : tie.Need-loop-again Inv-loop μ-loop
-loop-again c =
-    let h = c .before .before in
-    let t = h .before .before .before .before .before in
-    passes-on (t .before .loop .inv) (t .loop-test .taken) (c .before .after-up .ensures) (h .hops-from .ensures .0) (c .after-down .ensures)
-    (h .before .number-or-zero2 .ensures) (h .hops-from .ensures .1)
-
-returns : tie.Need-returns Inv-loop μ-loop
-returns c = passed (c .before .loop .inv) (c .loop-test .left)
+returns-2 : tie.Need-returns-2
+returns-2 c = search needs
 
 pub find-ramps-spec : {M : Type 1} → statement M
-find-ramps-spec =
-    tie.close
-    (tie.spec
-    Inv-loop
-    μ-loop
-    add-origin
-    sub-origin
-    mul-origin
-    shared-slice-read-origin
-    find-requires
-    number-or-zero-requires
-    hop-from-requires
-    loop-holds
-    sub-x
-    mul-x
-    shared-slice-read-x
-    add-y
-    sub-y
-    mul-y
-    shared-slice-read-y
-    find-requires-2
-    add-number-or-zero
-    number-or-zero-requires-2
-    hops-from-requires
-    after-up-requires
-    after-down-requires
-    add-i
-    loop-less
-    loop-again
-    returns)
+find-ramps-spec = tie.close (tie.spec word-requires ramps-alone-requires returns ramps-requires returns-2)

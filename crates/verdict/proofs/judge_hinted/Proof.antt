@@ -2,6 +2,8 @@
 use mathlib.Core.Path.{sym, _∙_}
 use mir.Syntax.{w32}
 use mir.ValLaws.{toZ-ofZ}
+use Rattle.registers.specs.Registers.{lent}
+use Rattle.verdict.proofs.Naming.{may-name, named}
 use Rattle.verdict.proofs.Judgements.{bounded, judged-upstream, judged-invalid, judged-valid, judged-unknown}
 use native.Mathlib.Omega.{arith}
 use borrow.Author.Needs.{needs}
@@ -21,37 +23,45 @@ find-ramps-requires : tie.Need-find-ramps-requires
 find-ramps-requires c κs = search needs
 
 cast-gap : tie.Need-cast-gap
-cast-gap c = omega (arith, bounded _ _ (c .before .before .before .before .before .before .pre .1) (c .find-ramps .ensures) .l)
+cast-gap c = omega (arith, bounded _ _ (c .before .before .before .before .before .before .before .pre .1) (c .find-ramps .ensures) .l)
 
 cast-gap-2 : tie.Need-cast-gap-2
-cast-gap-2 c = omega (arith, bounded _ _ (c .before .before .before .before .before .before .pre .1) (c .find-ramps .ensures) .k)
+cast-gap-2 c = omega (arith, bounded _ _ (c .before .before .before .before .before .before .before .pre .1) (c .find-ramps .ensures) .k)
 
 gap-requires : tie.Need-gap-requires
 gap-requires c κs =
-    let b = bounded _ _ (c .before .before .before .before .before .before .pre .1) (c .find-ramps .ensures) in
+    let b = bounded _ _ (c .before .before .before .before .before .before .before .pre .1) (c .find-ramps .ensures) in
     (omega (arith, b .l), omega (arith, b .k))
 
-cast-t16 : tie.Need-cast-t16
-cast-t16 c =
+origins-requires : tie.Need-origins-requires
+origins-requires c κs =
     let f = c .before .before in
-    omega (arith, bounded _ _ (f .before .before .before .before .before .before .pre .1) (f .find-ramps .ensures) .u)
+    let s = f .before .before .before .before .before .before .before in
+    may-name (lent (s .args .public .now) (s .args .overrides .now)) (s .args .path .now) (f .find-ramps .ensures) (c .if2 .taken) (s .pre .0) (s .pre .2)
 
-cast-t17 : tie.Need-cast-t17
-cast-t17 c =
-    let f = c .before .before in
-    omega (arith, bounded _ _ (f .before .before .before .before .before .before .pre .1) (f .find-ramps .ensures) .v)
+cast-t18 : tie.Need-cast-t18
+cast-t18 c =
+    let f = c .before .before .before in
+    omega (arith, bounded _ _ (f .before .before .before .before .before .before .before .pre .1) (f .find-ramps .ensures) .u)
+
+cast-t19 : tie.Need-cast-t19
+cast-t19 c =
+    let f = c .before .before .before in
+    omega (arith, bounded _ _ (f .before .before .before .before .before .before .before .pre .1) (f .find-ramps .ensures) .v)
 
 returns-2 : tie.Need-returns-2
 returns-2 c =
-    let g = c .before in
+    let g = c .before .before in
     let f = g .before in
+    let s = f .before .before .before .before .before .before .before in
+    let n = named (lent (s .args .public .now) (s .args .overrides .now)) (s .args .path .now) (f .find-ramps .ensures) (c .before .if2 .taken) (c .origins .ensures) in
     judged-invalid _ _ _ (sym (f .before .before .is-upstream .ensures) ∙ f .before .if1 .left) (f .find-ramps .ensures)
-    (toZ-ofZ w32 _ (record { sfits = g .gap .ok }) ∙ g .gap .ensures) (c .if2 .taken)
+    (toZ-ofZ w32 _ (record { sfits = g .gap .ok }) ∙ g .gap .ensures) (c .before .if2 .taken) n
 
 add-if3 : tie.Need-add-if3
 add-if3 c =
     let f = c .before .before in
-    omega (arith, bounded _ _ (f .before .before .before .before .before .before .pre .1) (f .find-ramps .ensures) .k)
+    omega (arith, bounded _ _ (f .before .before .before .before .before .before .before .pre .1) (f .find-ramps .ensures) .k)
 
 returns-3 : tie.Need-returns-3
 returns-3 c =
@@ -60,15 +70,15 @@ returns-3 c =
     judged-valid _ _ _ (sym (f .before .before .is-upstream .ensures) ∙ f .before .if1 .left) (f .find-ramps .ensures)
     (toZ-ofZ w32 _ (record { sfits = g .gap .ok }) ∙ g .gap .ensures) (c .before .if2 .left) (c .if3 .taken)
 
-cast-t13 : tie.Need-cast-t13
-cast-t13 c =
+cast-t15 : tie.Need-cast-t15
+cast-t15 c =
     let f = c .before .before .before in
-    omega (arith, bounded _ _ (f .before .before .before .before .before .before .pre .1) (f .find-ramps .ensures) .k)
+    omega (arith, bounded _ _ (f .before .before .before .before .before .before .before .pre .1) (f .find-ramps .ensures) .k)
 
-cast-t14 : tie.Need-cast-t14
-cast-t14 c =
+cast-t16 : tie.Need-cast-t16
+cast-t16 c =
     let f = c .before .before .before in
-    omega (arith, bounded _ _ (f .before .before .before .before .before .before .pre .1) (f .find-ramps .ensures) .l)
+    omega (arith, bounded _ _ (f .before .before .before .before .before .before .before .pre .1) (f .find-ramps .ensures) .l)
 
 returns-4 : tie.Need-returns-4
 returns-4 c =
@@ -88,11 +98,12 @@ judge-hinted-spec =
     cast-gap
     cast-gap-2
     gap-requires
-    cast-t16
-    cast-t17
+    origins-requires
+    cast-t18
+    cast-t19
     returns-2
     add-if3
     returns-3
-    cast-t13
-    cast-t14
+    cast-t15
+    cast-t16
     returns-4)

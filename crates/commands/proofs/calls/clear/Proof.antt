@@ -1,8 +1,7 @@
 -- `commands::calls::clear` meets its contract. Assumes nothing.
 use mathlib.Core.Path.{refl, sym, ap, _∙_}
-use Rattle.commands.proofs.Parsing.{other-count, right-count, number-is, no-number, does, does-nothing}
+use Rattle.commands.proofs.Parsing.{other-count, right-count, number-is, no-number, replied, does, does-nothing}
 use Rattle.commands.specs.declared.Reply.the-variants as reply
-use Rattle.commands.specs.Performing.{result}
 use borrow.Author.Needs.{needs}
 use Rattle.commands.proofs.calls.clear.Statement.{statement}
 use Rattle.commands.proofs.calls.clear.Tie as tie
@@ -11,9 +10,9 @@ use Rattle.lines.proofs.number.Reads as number-reads
 
 returns : tie.Need-returns
 returns c =
-    let a = c .before .before .before .before .args in
-    let pre = c .before .before .before .before .pre in
-    does-nothing (a .reg .now) (a .led .now) _ (other-count _ 2 _ (λ e. c .if1 .taken (pre ∙ e)))
+    let a = c .before .before .before .before .before .args in
+    let pre = c .before .before .before .before .before .pre in
+    does-nothing (a .reg .now) (a .overrides .now) (a .led .now) _ (other-count _ 2 _ (λ e. c .if1 .taken (pre ∙ e)))
 
 number-requires : tie.Need-number-requires
 number-requires c κs = search needs
@@ -26,29 +25,32 @@ enum-told c = search needs
 
 returns-2 : tie.Need-returns-2
 returns-2 c =
-    let a = c .before .before .before .before .before .before .before .args in
-    let pre = c .before .before .before .before .before .before .before .pre in
-    does-nothing (a .reg .now) (a .led .now) _
+    let a = c .before .before .before .before .before .before .before .before .args in
+    let pre = c .before .before .before .before .before .before .before .before .pre in
+    does-nothing (a .reg .now) (a .overrides .now) (a .led .now) _
     (right-count _ 2 _ (sym (pre) ∙ c .before .before .before .if1 .left)
     ∙ no-number _ 1 _ (sym (c .before .before .number .ensures) ∙ c .enum-told .given .1))
 
-clear-requires : tie.Need-clear-requires
-clear-requires c κs = search needs
+clear-in-requires : tie.Need-clear-in-requires
+clear-in-requires c κs = search needs
 
 same-length : tie.Need-same-length
 same-length c = search needs
 
+same-length-2 : tie.Need-same-length-2
+same-length-2 c = search needs
+
 returns-3 : tie.Need-returns-3
 returns-3 c =
-    let a = c .before .before .before .before .before .before .before .before .before .before .before .before .args in
-    let pre = c .before .before .before .before .before .before .before .before .before .before .before .before .pre in
-    let if1 = c .before .before .before .before .before .before .before .before .if1 in
-    let number = c .before .before .before .before .before .before .before .number in
-    let source = c .before .before .before .before .before .source in
-    let clear = c .before .before .clear in
-    does (a .reg .now) (a .led .now) _
+    let a = c .before .before .before .before .before .before .before .before .before .before .before .before .before .before .before .before .args in
+    let pre = c .before .before .before .before .before .before .before .before .before .before .before .before .before .before .before .before .pre in
+    let if1 = c .before .before .before .before .before .before .before .before .before .before .before .if1 in
+    let number = c .before .before .before .before .before .before .before .before .before .before .number in
+    let source = c .before .before .before .before .before .before .before .before .source in
+    let clear-in = c .before .before .before .before .clear-in in
+    does (a .reg .now) (a .overrides .now) (a .led .now) _
     (right-count _ 2 _ (sym (pre) ∙ if1 .left) ∙ number-is _ 1 _ (sym (number .ensures) ∙ source .given .1))
-    (λ i. result (reply.Cleared (clear .ensures i .answer)) (clear .ensures i .words) (a .led .now))
+    (λ i. replied (reply.Cleared (clear-in .ensures .0 i)) (clear-in .ensures .1 i) (a .led .now))
 
 pub clear-spec : {M : Type 1} → statement M
 clear-spec =
@@ -59,6 +61,7 @@ clear-spec =
     enum-known-source
     enum-told
     returns-2
-    clear-requires
+    clear-in-requires
     same-length
+    same-length-2
     returns-3)

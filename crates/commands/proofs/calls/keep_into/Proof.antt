@@ -11,9 +11,9 @@ use Rattle.commands.proofs.calls.keep_into.Tie as tie
 
 returns : tie.Need-returns
 returns c =
-    let a = c .before .before .before .before .before .args in
-    let pre = c .before .before .before .before .before .pre in
-    does-nothing (a .reg .now) (a .led .now) _ (other-count _ 5 _ (λ e. c .if1 .taken (pre .1 ∙ e)))
+    let a = c .before .before .before .before .before .before .args in
+    let pre = c .before .before .before .before .before .before .pre in
+    does-nothing (a .reg .now) (a .overrides .now) (a .led .now) _ (other-count _ 5 _ (λ e. c .if1 .taken (pre .1 ∙ e)))
 
 number-requires : tie.Need-number-requires
 number-requires c κs = search needs
@@ -26,9 +26,9 @@ enum-told c = search needs
 
 returns-2 : tie.Need-returns-2
 returns-2 c =
-    let a = c .before .before .before .before .before .before .before .before .args in
-    let pre = c .before .before .before .before .before .before .before .before .pre in
-    does-nothing (a .reg .now) (a .led .now) _
+    let a = c .before .before .before .before .before .before .before .before .before .args in
+    let pre = c .before .before .before .before .before .before .before .before .before .pre in
+    does-nothing (a .reg .now) (a .overrides .now) (a .led .now) _
     (right-count _ 5 _ (sym (pre .1) ∙ c .before .before .before .if1 .left)
     ∙ no-number _ 1 _ (sym (c .before .before .number .ensures) ∙ c .enum-told .given .1))
 
@@ -43,12 +43,12 @@ enum-told-2 c = search needs
 
 returns-3 : tie.Need-returns-3
 returns-3 c =
-    let a = c .before .before .before .before .before .before .before .before .before .before .before .before .args in
-    let pre = c .before .before .before .before .before .before .before .before .before .before .before .before .pre in
+    let a = c .before .before .before .before .before .before .before .before .before .before .before .before .before .args in
+    let pre = c .before .before .before .before .before .before .before .before .before .before .before .before .before .pre in
     let if1 = c .before .before .before .before .before .before .before .if1 in
     let number = c .before .before .before .before .before .before .number in
     let number2 = c .before .before .before .before .number2 in
-    does-nothing (a .reg .now) (a .led .now) _
+    does-nothing (a .reg .now) (a .overrides .now) (a .led .now) _
     (right-count _ 5 _ (sym (pre .1) ∙ if1 .left)
     ∙ number-is _ 1 _ (sym (number .ensures) ∙ number2 .given .1)
     ∙ no-number _ 2 _ (sym (c .before .before .number3 .ensures) ∙ c .enum-told2 .given .1))
@@ -64,14 +64,14 @@ enum-told-3 c = search needs
 
 returns-4 : tie.Need-returns-4
 returns-4 c =
-    let a = c .before .before .before .before .before .before .before .before .before .before .before .before .before .before .before .before .args in
-    let pre = c .before .before .before .before .before .before .before .before .before .before .before .before .before .before .before .before .pre in
+    let a = c .before .before .before .before .before .before .before .before .before .before .before .before .before .before .before .before .before .args in
+    let pre = c .before .before .before .before .before .before .before .before .before .before .before .before .before .before .before .before .before .pre in
     let if1 = c .before .before .before .before .before .before .before .before .before .before .before .if1 in
     let number = c .before .before .before .before .before .before .before .before .before .before .number in
     let number2 = c .before .before .before .before .before .before .before .before .number2 in
     let number3 = c .before .before .before .before .before .before .number3 in
     let role = c .before .before .before .before .role in
-    does-nothing (a .reg .now) (a .led .now) _
+    does-nothing (a .reg .now) (a .overrides .now) (a .led .now) _
     (right-count _ 5 _ (sym (pre .1) ∙ if1 .left)
     ∙ number-is _ 1 _ (sym (number .ensures) ∙ number2 .given .1)
     ∙ number-is _ 2 _ (sym (number3 .ensures) ∙ role .given .1)
@@ -91,8 +91,8 @@ same-length c = search needs
 
 returns-5 : tie.Need-returns-5
 returns-5 c =
-    let a = c .before .before .before .before .before .before .before .before .before .before .before .before .before .before .before .before .before .before .before .before .before .before .before .args in
-    let pre = c .before .before .before .before .before .before .before .before .before .before .before .before .before .before .before .before .before .before .before .before .before .before .before .pre in
+    let a = c .before .before .before .before .before .before .before .before .before .before .before .before .before .before .before .before .before .before .before .before .before .before .before .before .args in
+    let pre = c .before .before .before .before .before .before .before .before .before .before .before .before .before .before .before .before .before .before .before .before .before .before .before .before .pre in
     let if1 = c .before .before .before .before .before .before .before .before .before .before .before .before .before .before .before .before .before .before .if1 in
     let number = c .before .before .before .before .before .before .before .before .before .before .before .before .before .before .before .before .before .number in
     let number2 = c .before .before .before .before .before .before .before .before .before .before .before .before .before .before .before .number2 in
@@ -100,7 +100,7 @@ returns-5 c =
     let role = c .before .before .before .before .before .before .before .before .before .before .before .role in
     let number4 = c .before .before .before .before .before .before .before .before .before .number4 in
     let neighbour = c .before .before .before .before .before .before .before .neighbour in
-    does-nothing (a .reg .now) (a .led .now) _
+    does-nothing (a .reg .now) (a .overrides .now) (a .led .now) _
     (right-count _ 5 _ (sym (pre .1) ∙ if1 .left)
     ∙ number-is _ 1 _ (sym (number .ensures) ∙ number2 .given .1)
     ∙ number-is _ 2 _ (sym (number3 .ensures) ∙ role .given .1)
@@ -109,13 +109,13 @@ returns-5 c =
 
 slice-reshare-prefix-keep : tie.Need-slice-reshare-prefix-keep
 slice-reshare-prefix-keep c =
-    let bytes = c .before .before .before .before .before .before .before .bytes in
-    omega (arith, ap readCount (c .before .before .before .k .given .1), bytes .ensures .2, bytes .kept .1 .1 .0)
+    let bytes = c .before .before .before .before .before .before .before .before .bytes in
+    omega (arith, ap readCount (c .before .before .before .before .k .given .1), bytes .ensures .2, bytes .kept .1 .1 .0)
 
 slice-aggregate-keep : tie.Need-slice-aggregate-keep
 slice-aggregate-keep c =
-    let bytes = c .before .before .before .before .before .before .before .before .bytes in
-    let k = c .before .before .before .before .k in
+    let bytes = c .before .before .before .before .before .before .before .before .before .bytes in
+    let k = c .before .before .before .before .before .k in
     sym (length-take-le _ _ (omega (arith, ap readCount (k .given .1), bytes .ensures .2, bytes .kept .1 .1 .0)))
 
 keep-requires : tie.Need-keep-requires
@@ -130,21 +130,24 @@ same-length-3 c = search needs
 same-length-4 : tie.Need-same-length-4
 same-length-4 c = search needs
 
+same-length-5 : tie.Need-same-length-5
+same-length-5 c = search needs
+
 returns-6 : tie.Need-returns-6
 returns-6 c =
-    let a = c .before .before .before .before .before .before .before .before .before .before .before .before .before .before .before .before .before .before .before .before .before .before .before .before .before .before .before .before .before .before .args in
-    let pre = c .before .before .before .before .before .before .before .before .before .before .before .before .before .before .before .before .before .before .before .before .before .before .before .before .before .before .before .before .before .before .pre in
-    let if1 = c .before .before .before .before .before .before .before .before .before .before .before .before .before .before .before .before .before .before .before .before .before .before .before .before .before .if1 in
-    let number = c .before .before .before .before .before .before .before .before .before .before .before .before .before .before .before .before .before .before .before .before .before .before .before .before .number in
-    let number2 = c .before .before .before .before .before .before .before .before .before .before .before .before .before .before .before .before .before .before .before .before .before .before .number2 in
-    let number3 = c .before .before .before .before .before .before .before .before .before .before .before .before .before .before .before .before .before .before .before .before .number3 in
-    let role = c .before .before .before .before .before .before .before .before .before .before .before .before .before .before .before .before .before .before .role in
-    let number4 = c .before .before .before .before .before .before .before .before .before .before .before .before .before .before .before .before .number4 in
-    let neighbour = c .before .before .before .before .before .before .before .before .before .before .before .before .before .before .neighbour in
-    let bytes = c .before .before .before .before .before .before .before .before .before .before .before .bytes in
-    let k = c .before .before .before .before .before .before .before .k in
+    let a = c .before .before .before .before .before .before .before .before .before .before .before .before .before .before .before .before .before .before .before .before .before .before .before .before .before .before .before .before .before .before .before .before .args in
+    let pre = c .before .before .before .before .before .before .before .before .before .before .before .before .before .before .before .before .before .before .before .before .before .before .before .before .before .before .before .before .before .before .before .before .pre in
+    let if1 = c .before .before .before .before .before .before .before .before .before .before .before .before .before .before .before .before .before .before .before .before .before .before .before .before .before .before .if1 in
+    let number = c .before .before .before .before .before .before .before .before .before .before .before .before .before .before .before .before .before .before .before .before .before .before .before .before .before .number in
+    let number2 = c .before .before .before .before .before .before .before .before .before .before .before .before .before .before .before .before .before .before .before .before .before .before .before .number2 in
+    let number3 = c .before .before .before .before .before .before .before .before .before .before .before .before .before .before .before .before .before .before .before .before .before .number3 in
+    let role = c .before .before .before .before .before .before .before .before .before .before .before .before .before .before .before .before .before .before .before .role in
+    let number4 = c .before .before .before .before .before .before .before .before .before .before .before .before .before .before .before .before .before .number4 in
+    let neighbour = c .before .before .before .before .before .before .before .before .before .before .before .before .before .before .before .neighbour in
+    let bytes = c .before .before .before .before .before .before .before .before .before .before .before .before .bytes in
+    let k = c .before .before .before .before .before .before .before .before .k in
     let keep = c .before .before .keep in
-    keeps (a .reg .now) (a .led .now) (wordsOf (a .line .now)) (sym (pre .1) ∙ if1 .left) (sym (number .ensures) ∙ number2 .given .1)
+    keeps (a .reg .now) (a .overrides .now) (a .led .now) (wordsOf (a .line .now)) (sym (pre .1) ∙ if1 .left) (sym (number .ensures) ∙ number2 .given .1)
     (sym (number3 .ensures) ∙ role .given .1) (sym (number4 .ensures) ∙ neighbour .given .1)
     (buffered (wordAt (a .line .now) 4) (a .attribute .now) (bytes .ensures .0) (bytes .ensures .1) (bytes .ensures .2) (k .given .1))
     (keep .ensures)
@@ -177,4 +180,5 @@ keep-into-spec =
     same-length-2
     same-length-3
     same-length-4
+    same-length-5
     returns-6)

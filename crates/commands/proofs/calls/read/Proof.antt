@@ -11,9 +11,9 @@ use Rattle.commands.proofs.calls.read.Tie as tie
 
 returns : tie.Need-returns
 returns c =
-    let a = c .before .before .before .before .args in
-    let pre = c .before .before .before .before .pre in
-    does-nothing (a .reg .now) (a .led .now) _ (other-count _ 2 _ (λ e. c .if1 .taken (pre .1 ∙ e)))
+    let a = c .before .before .before .before .before .args in
+    let pre = c .before .before .before .before .before .pre in
+    does-nothing (a .reg .now) (a .overrides .now) (a .led .now) _ (other-count _ 2 _ (λ e. c .if1 .taken (pre .1 ∙ e)))
 
 no-bytes-requires : tie.Need-no-bytes-requires
 no-bytes-requires c κs = search needs
@@ -32,10 +32,10 @@ enum-told c = search needs
 
 returns-2 : tie.Need-returns-2
 returns-2 c =
-    let a = c .before .before .before .before .before .before .before .before .before .before .args in
-    let pre = c .before .before .before .before .before .before .before .before .before .before .pre in
+    let a = c .before .before .before .before .before .before .before .before .before .before .before .args in
+    let pre = c .before .before .before .before .before .before .before .before .before .before .before .pre in
     let if1 = c .before .before .before .before .before .before .if1 in
-    does-nothing (a .reg .now) (a .led .now) _
+    does-nothing (a .reg .now) (a .overrides .now) (a .led .now) _
     (right-count _ 2 _ (sym (pre .1) ∙ if1 .left)
     ∙ no-bytes _ 1 _ (sym (c .before .before .before .bytes .ensures .0) ∙ c .enum-told .given .1))
 
@@ -60,14 +60,14 @@ same-length-2 c = search needs
 
 returns-3 : tie.Need-returns-3
 returns-3 c =
-    let a = c .before .before .before .before .before .before .before .before .before .before .before .before .before .before .before .before .before .before .before .args in
-    let pre = c .before .before .before .before .before .before .before .before .before .before .before .before .before .before .before .before .before .before .before .pre in
+    let a = c .before .before .before .before .before .before .before .before .before .before .before .before .before .before .before .before .before .before .before .before .args in
+    let pre = c .before .before .before .before .before .before .before .before .before .before .before .before .before .before .before .before .before .before .before .before .pre in
     let if1 = c .before .before .before .before .before .before .before .before .before .before .before .before .before .before .before .if1 in
     let no-bytes′ = c .before .before .before .before .before .before .before .before .before .before .before .before .before .before .no-bytes in
     let bytes = c .before .before .before .before .before .before .before .before .before .before .before .before .bytes in
     let k = c .before .before .before .before .before .before .before .before .before .k in
     let read = c .before .before .before .before .read in
-    reads (a .reg .now) (a .led .now) (wordsOf (a .line .now)) (sym (pre .1) ∙ if1 .left)
+    reads (a .reg .now) (a .overrides .now) (a .led .now) (wordsOf (a .line .now)) (sym (pre .1) ∙ if1 .left)
     (buffered (wordAt (a .line .now) 1) (no-bytes′ .result) (bytes .ensures .0) (bytes .ensures .1) (bytes .ensures .2) (k .given .1))
     (read .ensures)
 

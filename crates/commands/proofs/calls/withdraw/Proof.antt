@@ -1,8 +1,7 @@
 -- `commands::calls::withdraw` meets its contract. Assumes nothing.
 use mathlib.Core.Path.{refl, sym, ap, _∙_}
-use Rattle.commands.proofs.Parsing.{other-count, right-count, number-is, no-number, does, does-nothing}
+use Rattle.commands.proofs.Parsing.{other-count, right-count, number-is, no-number, replied, does, does-nothing}
 use Rattle.commands.specs.declared.Reply.the-variants as reply
-use Rattle.commands.specs.Performing.{result}
 use borrow.Author.Needs.{needs}
 use Rattle.commands.proofs.calls.withdraw.Statement.{statement}
 use Rattle.commands.proofs.calls.withdraw.Tie as tie
@@ -11,9 +10,9 @@ use Rattle.lines.proofs.number.Reads as number-reads
 
 returns : tie.Need-returns
 returns c =
-    let a = c .before .before .before .before .args in
-    let pre = c .before .before .before .before .pre in
-    does-nothing (a .reg .now) (a .led .now) _ (other-count _ 3 _ (λ e. c .if1 .taken (pre ∙ e)))
+    let a = c .before .before .before .before .before .args in
+    let pre = c .before .before .before .before .before .pre in
+    does-nothing (a .reg .now) (a .overrides .now) (a .led .now) _ (other-count _ 3 _ (λ e. c .if1 .taken (pre ∙ e)))
 
 number-requires : tie.Need-number-requires
 number-requires c κs = search needs
@@ -26,9 +25,9 @@ enum-told c = search needs
 
 returns-2 : tie.Need-returns-2
 returns-2 c =
-    let a = c .before .before .before .before .before .before .before .args in
-    let pre = c .before .before .before .before .before .before .before .pre in
-    does-nothing (a .reg .now) (a .led .now) _
+    let a = c .before .before .before .before .before .before .before .before .args in
+    let pre = c .before .before .before .before .before .before .before .before .pre in
+    does-nothing (a .reg .now) (a .overrides .now) (a .led .now) _
     (right-count _ 3 _ (sym (pre) ∙ c .before .before .before .if1 .left)
     ∙ no-number _ 1 _ (sym (c .before .before .number .ensures) ∙ c .enum-told .given .1))
 
@@ -43,37 +42,40 @@ enum-told-2 c = search needs
 
 returns-3 : tie.Need-returns-3
 returns-3 c =
-    let a = c .before .before .before .before .before .before .before .before .before .before .before .args in
-    let pre = c .before .before .before .before .before .before .before .before .before .before .before .pre in
+    let a = c .before .before .before .before .before .before .before .before .before .before .before .before .args in
+    let pre = c .before .before .before .before .before .before .before .before .before .before .before .before .pre in
     let if1 = c .before .before .before .before .before .before .before .if1 in
     let number = c .before .before .before .before .before .before .number in
     let source = c .before .before .before .before .source in
-    does-nothing (a .reg .now) (a .led .now) _
+    does-nothing (a .reg .now) (a .overrides .now) (a .led .now) _
     (right-count _ 3 _ (sym (pre) ∙ if1 .left)
     ∙ number-is _ 1 _ (sym (number .ensures) ∙ source .given .1)
     ∙ no-number _ 2 _ (sym (c .before .before .number2 .ensures) ∙ c .enum-told2 .given .1))
 
-withdraw-requires : tie.Need-withdraw-requires
-withdraw-requires c κs = search needs
+withdraw-in-requires : tie.Need-withdraw-in-requires
+withdraw-in-requires c κs = search needs
 
 same-length : tie.Need-same-length
 same-length c = search needs
 
+same-length-2 : tie.Need-same-length-2
+same-length-2 c = search needs
+
 returns-4 : tie.Need-returns-4
 returns-4 c =
-    let a = c .before .before .before .before .before .before .before .before .before .before .before .before .before .before .before .before .args in
-    let pre = c .before .before .before .before .before .before .before .before .before .before .before .before .before .before .before .before .pre in
-    let if1 = c .before .before .before .before .before .before .before .before .before .before .before .before .if1 in
-    let number = c .before .before .before .before .before .before .before .before .before .before .before .number in
-    let source = c .before .before .before .before .before .before .before .before .before .source in
-    let number2 = c .before .before .before .before .before .before .before .number2 in
-    let customer = c .before .before .before .before .before .customer in
-    let withdraw = c .before .before .withdraw in
-    does (a .reg .now) (a .led .now) _
+    let a = c .before .before .before .before .before .before .before .before .before .before .before .before .before .before .before .before .before .before .before .before .args in
+    let pre = c .before .before .before .before .before .before .before .before .before .before .before .before .before .before .before .before .before .before .before .before .pre in
+    let if1 = c .before .before .before .before .before .before .before .before .before .before .before .before .before .before .before .if1 in
+    let number = c .before .before .before .before .before .before .before .before .before .before .before .before .before .before .number in
+    let source = c .before .before .before .before .before .before .before .before .before .before .before .before .source in
+    let number2 = c .before .before .before .before .before .before .before .before .before .before .number2 in
+    let customer = c .before .before .before .before .before .before .before .before .customer in
+    let withdraw-in = c .before .before .before .before .withdraw-in in
+    does (a .reg .now) (a .overrides .now) (a .led .now) _
     (right-count _ 3 _ (sym (pre) ∙ if1 .left)
     ∙ number-is _ 1 _ (sym (number .ensures) ∙ source .given .1)
     ∙ number-is _ 2 _ (sym (number2 .ensures) ∙ customer .given .1))
-    (λ i. result (reply.Removed (withdraw .ensures i .answer)) (withdraw .ensures i .words) (a .led .now))
+    (λ i. replied (reply.Removed (withdraw-in .ensures .0 i)) (withdraw-in .ensures .1 i) (a .led .now))
 
 pub withdraw-spec : {M : Type 1} → statement M
 withdraw-spec =
@@ -88,6 +90,7 @@ withdraw-spec =
     enum-known-customer
     enum-told-2
     returns-3
-    withdraw-requires
+    withdraw-in-requires
     same-length
+    same-length-2
     returns-4)

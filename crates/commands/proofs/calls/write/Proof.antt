@@ -7,9 +7,9 @@ use Rattle.commands.proofs.calls.write.Tie as tie
 
 returns : tie.Need-returns
 returns c =
-    let a = c .before .before .before .before .args in
-    let pre = c .before .before .before .before .pre in
-    does-nothing (a .reg .now) (a .led .now) _ (other-count _ 2 _ (λ e. c .if1 .taken (pre ∙ e)))
+    let a = c .before .before .before .before .before .args in
+    let pre = c .before .before .before .before .before .pre in
+    does-nothing (a .reg .now) (a .overrides .now) (a .led .now) _ (other-count _ 2 _ (λ e. c .if1 .taken (pre ∙ e)))
 
 number-requires : tie.Need-number-requires
 number-requires c κs = search needs
@@ -22,9 +22,9 @@ enum-told c = search needs
 
 returns-2 : tie.Need-returns-2
 returns-2 c =
-    let a = c .before .before .before .before .before .before .before .args in
-    let pre = c .before .before .before .before .before .before .before .pre in
-    does-nothing (a .reg .now) (a .led .now) _
+    let a = c .before .before .before .before .before .before .before .before .args in
+    let pre = c .before .before .before .before .before .before .before .before .pre in
+    does-nothing (a .reg .now) (a .overrides .now) (a .led .now) _
     (right-count _ 2 _ (sym pre ∙ c .before .before .before .if1 .left)
     ∙ no-number _ 1 _ (sym (c .before .before .number .ensures) ∙ c .enum-told .given .1))
 
@@ -33,22 +33,22 @@ cast-bytes c = search needs
 
 returns-3 : tie.Need-returns-3
 returns-3 c =
-    let a = c .before .before .before .before .before .before .before .before .before .args in
-    let pre = c .before .before .before .before .before .before .before .before .before .pre in
+    let a = c .before .before .before .before .before .before .before .before .before .before .args in
+    let pre = c .before .before .before .before .before .before .before .before .before .before .pre in
     let if1 = c .before .before .before .before .before .if1 in
     let number = c .before .before .before .before .number in
-    does-nothing (a .reg .now) (a .led .now) _
+    does-nothing (a .reg .now) (a .overrides .now) (a .led .now) _
     (right-count _ 2 _ (sym pre ∙ if1 .left)
     ∙ number-is _ 1 _ (sym (number .ensures) ∙ c .before .before .capacity .given .1)
     ∙ too-many _ _ _ (c .if2 .taken))
 
 returns-4 : tie.Need-returns-4
 returns-4 c =
-    let a = c .before .before .before .before .before .before .before .before .before .args in
-    let pre = c .before .before .before .before .before .before .before .before .before .pre in
+    let a = c .before .before .before .before .before .before .before .before .before .before .args in
+    let pre = c .before .before .before .before .before .before .before .before .before .before .pre in
     let if1 = c .before .before .before .before .before .if1 in
     let number = c .before .before .before .before .number in
-    does (a .reg .now) (a .led .now) _
+    does (a .reg .now) (a .overrides .now) (a .led .now) _
     (right-count _ 2 _ (sym pre ∙ if1 .left)
     ∙ number-is _ 1 _ (sym (number .ensures) ∙ c .before .before .capacity .given .1)
     ∙ not-too-many _ _ _ (c .if2 .left))

@@ -1,7 +1,7 @@
 -- `commands::choice::named` meets its contract. Assumes nothing.
 use mathlib.Core.Path.{sym, _∙_}
 use Rattle.lines.specs.Words.{wordAt}
-use Rattle.commands.proofs.Choosing.{names-register, names-ledger, names-neither}
+use Rattle.commands.proofs.Choosing.{names-register, names-overrides, names-ledger, names-neither}
 use borrow.Author.Needs.{needs}
 use Rattle.commands.proofs.choice.named.Statement.{statement}
 use Rattle.commands.proofs.choice.named.Tie as tie
@@ -27,16 +27,25 @@ is-word-requires-2 c κs = search needs
 returns-2 : tie.Need-returns-2
 returns-2 c =
     let a = c .before .before .before .before .before .before .before .args in
-    let is-word = c .before .before .before .before .is-word in
-    names-ledger (wordAt (a .line .now) (a .k))
-    (sym (is-word .ensures) ∙ c .before .before .before .if1 .left) (sym (c .before .is-word2 .ensures) ∙ c .if2 .taken)
+    names-overrides (wordAt (a .line .now) (a .k)) (sym (c .before .before .before .before .is-word .ensures) ∙ c .before .before .before .if1 .left) (sym (c .before .is-word2 .ensures) ∙ c .if2 .taken)
+
+slice-aggregate-is-word-3 : tie.Need-slice-aggregate-is-word-3
+slice-aggregate-is-word-3 c = search needs
+
+is-word-requires-3 : tie.Need-is-word-requires-3
+is-word-requires-3 c κs = search needs
 
 returns-3 : tie.Need-returns-3
 returns-3 c =
-    let a = c .before .before .before .before .before .before .before .args in
-    let is-word = c .before .before .before .before .is-word in
+    let a = c .before .before .before .before .before .before .before .before .before .before .args in
+    names-ledger (wordAt (a .line .now) (a .k))
+    (sym (c .before .before .before .before .before .before .before .is-word .ensures) ∙ c .before .before .before .before .before .before .if1 .left) (sym (c .before .before .before .before .is-word2 .ensures) ∙ c .before .before .before .if2 .left) (sym (c .before .is-word3 .ensures) ∙ c .if3 .taken)
+
+returns-4 : tie.Need-returns-4
+returns-4 c =
+    let a = c .before .before .before .before .before .before .before .before .before .before .args in
     names-neither (wordAt (a .line .now) (a .k))
-    (sym (is-word .ensures) ∙ c .before .before .before .if1 .left) (sym (c .before .is-word2 .ensures) ∙ c .if2 .left)
+    (sym (c .before .before .before .before .before .before .before .is-word .ensures) ∙ c .before .before .before .before .before .before .if1 .left) (sym (c .before .before .before .before .is-word2 .ensures) ∙ c .before .before .before .if2 .left) (sym (c .before .is-word3 .ensures) ∙ c .if3 .left)
 
 pub named-spec : {M : Type 1} → statement M
 named-spec =
@@ -48,4 +57,7 @@ named-spec =
     slice-aggregate-is-word-2
     is-word-requires-2
     returns-2
-    returns-3)
+    slice-aggregate-is-word-3
+    is-word-requires-3
+    returns-3
+    returns-4)

@@ -1,8 +1,7 @@
 -- `commands::choice::snapshot` meets its contract. Assumes nothing.
 use mathlib.Core.Path.{sym, _∙_}
 use Rattle.lines.specs.Words.{wordsOf}
-use Rattle.commands.proofs.Parsing.{does}
-use Rattle.commands.proofs.Choosing.{is-read, is-write, is-look}
+use Rattle.commands.proofs.Choosing.{is-read, is-write, is-overriding}
 use borrow.Author.Needs.{needs}
 use Rattle.commands.proofs.choice.snapshot.Statement.{statement}
 use Rattle.commands.proofs.choice.snapshot.Tie as tie
@@ -22,13 +21,16 @@ same-length c = search needs
 same-length-2 : tie.Need-same-length-2
 same-length-2 c = search needs
 
+same-length-3 : tie.Need-same-length-3
+same-length-3 c = search needs
+
 returns : tie.Need-returns
 returns c =
-    let a = c .before .before .before .before .before .before .before .before .before .before .before .before .before .args in
-    let is-word = c .before .before .before .before .before .before .before .before .is-word in
-    let if1 = c .before .before .before .before .before .before .before .if1 in
-    let read = c .before .before .before .before .read in
-    does (a .reg .now) (a .led .now) _ (is-read (wordsOf (a .line .now)) (sym (is-word .ensures) ∙ if1 .taken)) (read .ensures)
+    let a = c .before .before .before .before .before .before .before .before .before .before .before .before .before .before .before .before .before .args in
+    let is-word = c .before .before .before .before .before .before .before .before .before .before .before .is-word in
+    let if1 = c .before .before .before .before .before .before .before .before .before .before .if1 in
+    let read = c .before .before .before .before .before .before .read in
+    rw (is-read (wordsOf (a .line .now)) (sym (is-word .ensures) ∙ if1 .taken)) (read .ensures)
 
 slice-aggregate-is-word-2 : tie.Need-slice-aggregate-is-word-2
 slice-aggregate-is-word-2 c = search needs
@@ -39,25 +41,8 @@ is-word-requires-2 c κs = search needs
 write-requires : tie.Need-write-requires
 write-requires c κs = search needs
 
-same-length-3 : tie.Need-same-length-3
-same-length-3 c = search needs
-
 same-length-4 : tie.Need-same-length-4
 same-length-4 c = search needs
-
-returns-2 : tie.Need-returns-2
-returns-2 c =
-    let a = c .before .before .before .before .before .before .before .before .before .before .before .before .before .before .before .before .args in
-    let is-word = c .before .before .before .before .before .before .before .before .before .before .before .is-word in
-    let if1 = c .before .before .before .before .before .before .before .before .before .before .if1 in
-    let is-word2 = c .before .before .before .before .before .before .before .before .is-word2 in
-    let if2 = c .before .before .before .before .before .before .before .if2 in
-    let write = c .before .before .before .before .write in
-    does (a .reg .now) (a .led .now) _
-    (is-write (wordsOf (a .line .now)) (sym (is-word .ensures) ∙ if1 .left) (sym (is-word2 .ensures) ∙ if2 .taken)) (write .ensures)
-
-look-requires : tie.Need-look-requires
-look-requires c κs = search needs
 
 same-length-5 : tie.Need-same-length-5
 same-length-5 c = search needs
@@ -65,16 +50,37 @@ same-length-5 c = search needs
 same-length-6 : tie.Need-same-length-6
 same-length-6 c = search needs
 
+returns-2 : tie.Need-returns-2
+returns-2 c =
+    let a = c .before .before .before .before .before .before .before .before .before .before .before .before .before .before .before .before .before .before .before .before .args in
+    let is-word = c .before .before .before .before .before .before .before .before .before .before .before .before .before .before .is-word in
+    let if1 = c .before .before .before .before .before .before .before .before .before .before .before .before .before .if1 in
+    let is-word2 = c .before .before .before .before .before .before .before .before .before .before .before .is-word2 in
+    let if2 = c .before .before .before .before .before .before .before .before .before .before .if2 in
+    let write = c .before .before .before .before .before .before .write in
+    rw (is-write (wordsOf (a .line .now)) (sym (is-word .ensures) ∙ if1 .left) (sym (is-word2 .ensures) ∙ if2 .taken)) (write .ensures)
+
+overriding-requires : tie.Need-overriding-requires
+overriding-requires c κs = search needs
+
+same-length-7 : tie.Need-same-length-7
+same-length-7 c = search needs
+
+same-length-8 : tie.Need-same-length-8
+same-length-8 c = search needs
+
+same-length-9 : tie.Need-same-length-9
+same-length-9 c = search needs
+
 returns-3 : tie.Need-returns-3
 returns-3 c =
-    let a = c .before .before .before .before .before .before .before .before .before .before .before .before .before .before .before .before .args in
-    let is-word = c .before .before .before .before .before .before .before .before .before .before .before .is-word in
-    let if1 = c .before .before .before .before .before .before .before .before .before .before .if1 in
-    let is-word2 = c .before .before .before .before .before .before .before .before .is-word2 in
-    let if2 = c .before .before .before .before .before .before .before .if2 in
-    let look = c .before .before .before .before .look in
-    does (a .reg .now) (a .led .now) _
-    (is-look (wordsOf (a .line .now)) (sym (is-word .ensures) ∙ if1 .left) (sym (is-word2 .ensures) ∙ if2 .left)) (look .ensures)
+    let a = c .before .before .before .before .before .before .before .before .before .before .before .before .before .before .before .before .before .before .before .before .args in
+    let is-word = c .before .before .before .before .before .before .before .before .before .before .before .before .before .before .is-word in
+    let if1 = c .before .before .before .before .before .before .before .before .before .before .before .before .before .if1 in
+    let is-word2 = c .before .before .before .before .before .before .before .before .before .before .before .is-word2 in
+    let if2 = c .before .before .before .before .before .before .before .before .before .before .if2 in
+    let overriding = c .before .before .before .before .before .before .overriding in
+    rw (is-overriding (wordsOf (a .line .now)) (sym (is-word .ensures) ∙ if1 .left) (sym (is-word2 .ensures) ∙ if2 .left)) (overriding .ensures)
 
 pub snapshot-spec : {M : Type 1} → statement M
 snapshot-spec =
@@ -85,14 +91,17 @@ snapshot-spec =
     read-requires
     same-length
     same-length-2
+    same-length-3
     returns
     slice-aggregate-is-word-2
     is-word-requires-2
     write-requires
-    same-length-3
     same-length-4
-    returns-2
-    look-requires
     same-length-5
     same-length-6
+    returns-2
+    overriding-requires
+    same-length-7
+    same-length-8
+    same-length-9
     returns-3)
