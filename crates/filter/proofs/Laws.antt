@@ -1,4 +1,5 @@
 -- Keep, Drop and Re-judge do what is said of them. Assumes nothing.
+use mathlib.Core.Path.{refl}
 use Rattle.ledger.proofs.Changes.{drops-own, drops-no-other, drops-one}
 use Rattle.ledger.proofs.Laws.{rules-apart}
 use Rattle.filter.specs.Calls.{keptRoute}
@@ -13,6 +14,8 @@ call-laws =
       keep-holds = λ reg led k a h. keep-holds reg led k h;
       keep-rules = λ reg led k a h. keep-rules reg led k h;
       keep-apart = λ reg led k a h. rules-apart (keptRoute reg k) (keep-rules reg led k h);
+      origins-unkept = λ number role neighbour a b o p path. refl;
+      origins-unstamped = λ a b o p r. refl;
       drops-own = drops-own;
       drops-no-other = drops-no-other;
       drops-one = drops-one;

@@ -9,6 +9,9 @@ use lib.Dec.{eqb}
 use lib.ListN.{length, getD}
 use Rattle.types.specs.declared.Refusal.{Refusal}
 use Rattle.types.specs.declared.Hopped.the-variants as hopped
+use Rattle.types.specs.declared.Origins.{Origins}
+use Rattle.types.specs.declared.Cause.the-variants.{ByHops}
+use Rattle.types.specs.declared.Verdict.the-variants.{Invalid}
 use Rattle.types.specs.declared.Answer.{Answer}
 use Rattle.types.specs.declared.Judged.the-variants.{Answered}
 use Rattle.types.specs.declared.Rejudged.the-variants.{Changed}
@@ -19,7 +22,7 @@ use Rattle.rules.specs.Records.{listOf, counting}
 use Rattle.register.specs.Register.{lastSource, recordsOf}
 use Rattle.registers.specs.Registers.{Registers, hopIn, bothLong, bothOk, BothFormed}
 use Rattle.ledger.specs.Routes.{ledgerWords, Route, routesOf, routeAt, noRuns, routeOk, routesOk, ledgerOk}
-use Rattle.ledger.specs.Calls.{findRoute, holdsRoute, eraseRoute, differs}
+use Rattle.ledger.specs.Calls.{findRoute, holdsRoute, eraseRoute, routeFor, stamped, differs}
 use Rattle.rejudge.specs.Rejudging.{rejudgedRoute, countBelow}
 use Rattle.filter.specs.Calls.{Keeping, registerRows, pathIn, judgeAnswer, keptRoute, keepEffect, rejudgeEffect, hopAnswer, lookRows, lookupList}
 
@@ -54,6 +57,10 @@ pub record CallLaws : Type 0 where
   pub keep-rules : (reg : Registers) (led : List ℕ) (k : Keeping) (a : Answer) → keepEffect reg led k .answer ≡ Answered a → routeOk (keptRoute reg k) ≡ true
   pub keep-apart : (reg : Registers) (led : List ℕ) (k : Keeping) (a : Answer) → keepEffect reg led k .answer ≡ Answered a
       → noRuns (keptRoute reg k .path) ≡ true
+  -- The registers that an Invalid names are not stored, by a keeping or by a re-judging: verdicts that differ in them alone make the same route.
+  pub origins-unkept : (number role neighbour a b : ℕ) (o p : Origins) (path : List ℕ)
+      → routeFor number role neighbour (Invalid (ByHops a b o)) path ≡ routeFor number role neighbour (Invalid (ByHops a b p)) path
+  pub origins-unstamped : (a b : ℕ) (o p : Origins) (r : Route) → stamped (Invalid (ByHops a b o)) r ≡ stamped (Invalid (ByHops a b p)) r
   -- Of a ledger's routes a drop takes out its own and no other.
   pub drops-own : (number : ℕ) (rs : List Route) → findRoute number (eraseRoute number rs) ≡ none
   pub drops-no-other : (number : ℕ) (rs : List Route) (k : ℕ) → (number ≡ k → ⊥) → findRoute k (eraseRoute number rs) ≡ findRoute k rs
