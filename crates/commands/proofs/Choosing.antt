@@ -1,6 +1,6 @@
 -- The command that a line's first word chooses, and the table that a word names. Assumes nothing.
 use Prim.Native.Nat.{ℕ}
-use mathlib.Core.Path.{_≡_, refl, sym}
+use mathlib.Core.Path.{_≡_, refl}
 use mathlib.Core.Bool.{true, false}
 use mathlib.Core.List.{List}
 use Rattle.text.specs.Ascii.{ascii}

@@ -1,14 +1,14 @@
 -- A route judged: what the reader answers is the content, and each way through Judge is its definition. Assumes nothing.
 use Prim.Native.Nat.{ℕ, _+_, _≤_, _<_}
 use mathlib.Core.Path.{_≡_, refl, sym, _∙_, ap}
-use mathlib.Core.Bool.{Bool, true, false, not, cond}
-use mathlib.Core.List.{List, [], _∷_, _++_}
+use mathlib.Core.Bool.{Bool, true, false, cond}
+use mathlib.Core.List.{List}
 use mathlib.Core.Option.{none, some}
 use native.Mathlib.Omega.{arith}
 use borrow.Author.Tests.{eq-eqb, ne-eqb, lt-ltb, le-ltb, ltb-false}
 use lib.Dec.{ltb, eqb}
 use lib.ListN.{length, take, drop}
-use lib.Seq.{sets, sets-eq, take-at}
+use lib.Seq.{sets-eq, take-at}
 use Rattle.types.specs.declared.Role.{Role}
 use Rattle.types.specs.declared.RoleRead.{RoleRead}
 use Rattle.types.specs.declared.RoleRead.the-variants.{Is, Nothing}
@@ -18,7 +18,6 @@ use Rattle.types.specs.declared.Verdict.the-variants.{Invalid}
 use Rattle.types.specs.declared.Answer.the-variants.{Plain}
 use Rattle.types.specs.declared.Refusal.{Refusal}
 use Rattle.types.specs.declared.Refusal.the-variants.{TableLength, RegisterMalformed, RoleNumber, NeighbourZero, AttributeLength, PathLength}
-use Rattle.types.specs.declared.Judged.{Judged}
 use Rattle.types.specs.declared.Judged.the-variants.{Answered, Refused}
 use Rattle.types.specs.Numbers.{roleNumber, roleOf}
 use Rattle.types.specs.Roles.{isRole}
@@ -27,14 +26,13 @@ use Rattle.types.proofs.Clashes.{clash}
 use Rattle.types.proofs.RoleNumbers.{Names, role-named, role-none}
 use Rattle.as_path.specs.declared.Reading.the-variants as reading
 use Rattle.as_path.specs.Reading.{mostNumbers, Content, faulty, grounded, merged, contentOf, readingOf, bufferAfter}
-use Rattle.as_path.proofs.Contents.{Merged, merged-means}
+use Rattle.as_path.proofs.Contents.{merged-means}
 use Rattle.as_path.proofs.MergedPaths.{merged-first}
 use Rattle.rules.specs.Hops.{HopFunction}
 use Rattle.rules.specs.Verdicts.{judged}
 use Rattle.rules.specs.Judging.{mostBytes, argumentRows, judgeRows, answerTo, judgedRoute, refusalIn}
 use Rattle.rules.proofs.Judges.{judged-reads}
 use Rattle.registers.specs.Registers.{Registers, hopIn, bothLong, bothOk}
-use Rattle.filter.specs.declared.Known.{Known}
 use Rattle.filter.specs.declared.Known.the-variants as known
 use Rattle.filter.specs.Helpers.{afterRole, knownFrom}
 use Rattle.filter.specs.Calls.{judgeAnswer}

@@ -9,7 +9,6 @@ use native.Mathlib.Omega.{arith}
 use borrow.Author.Tests.{ltb-true, ltb-false}
 use lib.Dec.{ltb}
 use lib.ListN.{length}
-use Rattle.types.specs.declared.Place.{Place}
 use Rattle.types.specs.declared.Place.the-variants.{Nowhere, Byte}
 use Rattle.types.specs.declared.Fault.{Fault}
 use Rattle.types.specs.declared.Fault.the-variants.{CutShort, UnknownType, Confederation, NoNumbers, ZeroNumber}
@@ -30,7 +29,7 @@ use Rattle.rules.specs.Judging.{mostBytes, argumentRows, contentRow, judgeRows,
 use Rattle.rules.proofs.Judges.{first-append}
 use Rattle.registers.specs.Registers.{Registers}
 use Rattle.ledger.specs.Calls.{storeRows}
-use Rattle.filter.specs.Calls.{Keeping, registerRows, tableRows, judgeRowsOver, judgeAnswer, keptRoute, keepEffect}
+use Rattle.filter.specs.Calls.{Keeping, registerRows, tableRows, judgeAnswer, keptRoute, keepEffect}
 use Rattle.filter.proofs.Keepings.{keep-first}
 use Rattle.filter.proofs.Refusals.{judge-reads, keep-reads, route-numbers, judge-numbers, rejudge-numbers, store-ranges}
 

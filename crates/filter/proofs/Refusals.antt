@@ -1,5 +1,5 @@
 -- Each call is refused by the first of its rows that is given, and by no other; a refusal leaves the ledger's words. Assumes nothing.
-use Prim.Native.Nat.{ℕ, zero, suc, _≤_}
+use Prim.Native.Nat.{ℕ, _≤_}
 use mathlib.Core.Path.{_≡_, refl, sym, _∙_, ap}
 use mathlib.Core.Bool.{Bool, not}
 use mathlib.Core.Logic.{_↔_}

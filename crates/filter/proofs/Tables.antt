@@ -22,7 +22,7 @@ use Rattle.ledger.proofs.Changes.{put-ok}
 use Rattle.ledger.proofs.Refusals.{Ledger, routes-ledger}
 use Rattle.rejudge.specs.Rejudging.{rejudgedRoute}
 use Rattle.rejudge.proofs.Rejudgements.{rejudged-ok}
-use Rattle.filter.specs.Calls.{Keeping, registerRows, tableRows, judgeAnswer, keptAnswer, keptRoute, keepRows, keepEffect, rejudgeRows, rejudgeEffect}
+use Rattle.filter.specs.Calls.{Keeping, tableRows, judgeAnswer, keptAnswer, keptRoute, keepRows, keepEffect, rejudgeRows, rejudgeEffect}
 use Rattle.filter.proofs.Judgings.{judge-answers, judged-row}
 use Rattle.filter.proofs.Keepings.{tables-none}
 use Rattle.filter.proofs.KeptRoutes.{kept-ok}

@@ -1,5 +1,5 @@
 -- Demand 1: every call is refused exactly by the first of its rows that is given, and then changes no word. Assumes nothing.
-use Prim.Native.Nat.{ℕ, _≤_}
+use Prim.Native.Nat.{ℕ}
 use mathlib.Core.Path.{_≡_, refl, sym, _∙_}
 use mathlib.Core.Bool.{Bool, true, false, not, cond}
 use mathlib.Core.List.{List, [], _∷_}
@@ -18,7 +18,7 @@ use Rattle.types.specs.declared.Rejudged.the-variants as rejudging
 use Rattle.types.specs.declared.Place.the-variants.{Byte}
 use Rattle.types.specs.declared.Refusal.{Refusal}
 use Rattle.types.specs.declared.Refusal.the-variants.{TableLength, RegisterMalformed, SourceNumber, CustomerZero}
-use Rattle.types.specs.Numbers.{refusalNumber, refusalPlace}
+use Rattle.types.specs.Numbers.{refusalPlace}
 use Rattle.types.specs.Rows.{firstGiven, Effect, unlessRefused, Numbered, Ranged}
 use Rattle.types.proofs.Refusing.{refused-first, first-refuses, accepted-none, none-accepted, numbered}
 use Rattle.register.specs.Register.{lastSource, recordsOf}

@@ -16,7 +16,6 @@ use Rattle.types.specs.Numbers.{groundNumber}
 use Rattle.as_path.specs.Reading.{Content, faulty, grounded, merged, contentOf}
 use Rattle.rules.specs.Records.{Record}
 use Rattle.register.specs.Register.{registerWords, registerOk}
-use Rattle.register.specs.Register as register
 pub use Rattle.register.specs.Calls.{findRecord}
 pub use Rattle.ledger.specs.Calls.{findRoute}
 use Rattle.register.specs.Calls.{fileEffect, withdrawEffect, clearEffect}

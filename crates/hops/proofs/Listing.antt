@@ -1,10 +1,10 @@
 -- The part of a register's words that is the list of a source for a customer. Assumes nothing.
 use Prim.Native.Nat.{ℕ, _+_, _-_, _*_, _≤_, _<_}
-use mathlib.Core.Path.{_≡_, refl, sym, _∙_, ap}
-use mathlib.Core.Bool.{Bool, true, false, cond}
-use mathlib.Core.List.{List, []}
+use mathlib.Core.Path.{_≡_, refl, sym, _∙_}
+use mathlib.Core.Bool.{Bool, true, false}
+use mathlib.Core.List.{List}
 use native.Mathlib.Omega.{arith}
-use lib.ListN.{length, getD, take, drop}
+use lib.ListN.{length, getD, take}
 use Rattle.table.specs.Table.{counters}
 use Rattle.rules.specs.Records.{listOf}
 use Rattle.register.specs.Register.{recordWidth, startWord, countWord, recordsOf, recordAt, positionOf, listed, registerOk}
@@ -12,8 +12,7 @@ use Rattle.register.specs.Calls.{holdsRecord}
 use Rattle.register.proofs.Entries.{list-start, length-is, list-is, list-within}
 use Rattle.register.proofs.Holding.{sound, ordered}
 use Rattle.register.proofs.Looking.{count-is, slot-in}
-use Rattle.hops.specs.declared.Span.{Span}
-use Rattle.hops.specs.Spans.{span, startOf, spanAt, spanOf}
+use Rattle.hops.specs.Spans.{span, startOf, spanOf}
 use Rattle.hops.specs.Laws.{partOf}
 use Rattle.hops.proofs.Sources.{list-none, list-here}
 

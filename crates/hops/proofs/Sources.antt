@@ -1,19 +1,17 @@
 -- The list of one source for a customer, and the lowest source whose list holds a number, by the records' indices. Assumes nothing.
 use Prim.Native.Nat.{ℕ, zero, suc, _≤_, _<_}
-use mathlib.Core.Path.{_≡_, refl, sym, _∙_, ap}
+use mathlib.Core.Path.{_≡_, refl, sym, _∙_}
 use mathlib.Core.Bool.{Bool, true, false, cond, true≢false, _&&_, _||_}
 use mathlib.Core.List.{List, [], _∷_}
 use native.Mathlib.Omega.{arith}
-use borrow.Author.Tests.{eq-eqb, eqb-true, ltb-true, ltb-false, leb-true, lt-ltb}
-use lib.Dec.{eqb, ltb, leb}
-use lib.ListN.{length, getD}
-use Rattle.keyed.specs.Keyed.{samePair, beforePair, ascends, every, holds, rank}
+use borrow.Author.Tests.{eq-eqb, eqb-true, leb-true}
+use lib.Dec.{eqb, leb}
+use lib.ListN.{length}
+use Rattle.keyed.specs.Keyed.{samePair, beforePair, ascends, every, holds}
 use Rattle.keyed.proofs.Orders.{ordered-pairs, before-not-same, before-self, before-test, first, second, both-left, both-right, same-says, same-flip}
 use Rattle.keyed.proofs.Ranks.{from-entry, from-ascends, holds-at}
 use Rattle.keyed.proofs.Finds.{every-at}
-use Rattle.rules.specs.Hops.{lowest}
 use Rattle.rules.specs.Records.{Record, isIn, listOf, lowestSource}
-use Rattle.rules.specs.Laws.{Lowest}
 use Rattle.rules.proofs.Searching.{lowest-is, lowest-only}
 use Rattle.register.specs.Register.{lastSource, recordAt, keyOf, recordOk, positionOf}
 use Rattle.register.specs.Calls.{holdsRecord}

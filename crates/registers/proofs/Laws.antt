@@ -2,15 +2,14 @@
 use Prim.Native.Nat.{ℕ}
 use mathlib.Core.Path.{_≡_, refl, sym, _∙_, ap}
 use mathlib.Core.Bool.{Bool, true, false, cond, true≢false}
-use mathlib.Core.List.{List}
 use Rattle.types.specs.declared.Origin.{Origin}
 use Rattle.types.specs.declared.Hop.the-variants.{NoAttestation, ProviderPlus}
-use Rattle.rules.specs.Records.{Record, attested, listOf, counting, hopOf, hopOver}
+use Rattle.rules.specs.Records.{attested, listOf, hopOf, hopOver}
 use Rattle.register.specs.Register.{recordsOf}
 use Rattle.hops.specs.Spans.{spanOf}
-use Rattle.hops.specs.Laws.{partOf, NamesLowest}
+use Rattle.hops.specs.Laws.{NamesLowest}
 use Rattle.hops.proofs.Laws.{hop-laws}
-use Rattle.registers.specs.Registers.{Registers, hopIn, bothOk, chosen, partIn}
+use Rattle.registers.specs.Registers.{Registers, hopIn, bothOk, chosen}
 use Rattle.registers.specs.Laws.{recordsFor, originIn, RegistersLaws}
 use Rattle.registers.proofs.Choosing.{chosen-counts, chosen-ok}
 

@@ -1,6 +1,5 @@
 // The public register and the overrides together: which of them counts for a number, the hops by it, and the list of one source.
 use hops::Hops;
-use hops::Span;
 use types::AsNumber;
 use types::Hop;
 use types::Origin;

@@ -7,7 +7,7 @@ ghost use Prim.Native.Nat.{_+_, _*_, _≤_, _<_, _^_, min};
 ghost use lib.ListN.{length, take, getD, replicate};
 ghost use lib.Seq.{sets};
 ghost use Rattle.commands.specs.Performing.{tablesOf};
-ghost use Rattle.replies.specs.Texts.{usedWords, withoutZeros, sizedText, shownText, sizedIn, effectText, snapshotText, lookupText, replyText, mostReply};
+ghost use Rattle.replies.specs.Texts.{withoutZeros, sizedText, shownText, sizedIn, effectText, snapshotText, lookupText, replyText, mostReply};
 ghost use Rattle.commands.specs.Commands.{mostLent, mostOutput};
 ghost use Rattle.snapshot.specs.Calls.{writeEffect};
 ghost use Rattle.registers.specs.Registers.{lent};

@@ -1,10 +1,10 @@
 -- The laws of overrides, and of the registers that an Invalid names. Assumes nothing.
-use Prim.Native.Nat.{ℕ, zero, suc, _+_, _-_, _≤_, _<_}
+use Prim.Native.Nat.{ℕ, zero, suc, _+_, _-_, _≤_}
 use mathlib.Core.Path.{_≡_, refl, sym, _∙_, ap}
 use mathlib.Core.List.{List, [], _∷_, _++_}
 use mathlib.Core.Bool.{Bool, true, false, cond, true≢false, _||_, _&&_}
 use native.Mathlib.Omega.{arith}
-use borrow.Author.Tests.{leb-true, eqb-true, eqb-false, ne-eqb}
+use borrow.Author.Tests.{leb-true, eqb-true, ne-eqb}
 use lib.Dec.{eqb, leb, ltb}
 use lib.ListN.{length}
 use lib.Signed.{leZ}
@@ -23,7 +23,7 @@ use Rattle.types.specs.Rows.{firstGiven}
 use Rattle.types.proofs.Clashes.{clash}
 use Rattle.as_path.specs.Reading.{mostNumbers, Content, faulty, grounded, merged, contentOf}
 use Rattle.rules.specs.Hops.{HopFunction, isPlus, isNotPlus, isUnattested, originOf, asAt, up, down, lowest, highest, climb, descend}
-use Rattle.rules.specs.Records.{Record, isIn, attested, united, listOf, lowestSource, counting, hopOf, hopOver}
+use Rattle.rules.specs.Records.{Record, isIn, attested, united, listOf, lowestSource, hopOf, hopOver}
 use Rattle.rules.specs.Verdicts.{lowestNotPlus, lowestUnattested, highestNotPlus, rampUp, rampDown, gapOf, upCause, downCause, upstream, downstream, judged}
 use Rattle.rules.specs.Judging.{argumentRows, answerTo, unlessGiven, judgedRoute}
 use Rattle.rules.specs.Laws.{Lowest, Highest}

@@ -5,16 +5,15 @@ use mathlib.Core.List.{List}
 use mathlib.Core.Bool.{Bool, true, false, cond, true≢false}
 use native.Mathlib.Omega.{arith}
 use lib.ListN.{length}
-use Rattle.types.specs.declared.Origin.{Origin}
 use Rattle.types.specs.declared.Origins.{Origins}
 use Rattle.types.specs.declared.Origins.the-variants.{Two}
 use Rattle.types.specs.declared.Hop.the-variants.{NoAttestation, ProviderPlus, NotProviderPlus}
 use Rattle.types.specs.declared.Cause.the-variants.{ByHops}
-use Rattle.rules.specs.Hops.{HopFunction, isNotPlus, originOf, asAt, up, down}
+use Rattle.rules.specs.Hops.{isNotPlus, originOf, asAt, up, down}
 use Rattle.rules.specs.Records.{Record, isIn, attested, united, lowestSource, originFor, counting, hopOf, hopOver}
 use Rattle.rules.specs.Verdicts.{downCause}
 use Rattle.rules.proofs.Searching.{lowest-is, highest-is}
-use Rattle.register.specs.Register.{recordsOf, registerOk}
+use Rattle.register.specs.Register.{recordsOf}
 use Rattle.registers.specs.Registers.{Registers, hopIn, bothOk}
 use Rattle.registers.proofs.Choosing.{overrides-ok}
 use Rattle.verdict.specs.declared.Ramps.{Ramps}

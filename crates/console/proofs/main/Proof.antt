@@ -5,13 +5,6 @@ use Rattle.console.proofs.Serving.{starts}
 use borrow.Author.Needs.{needs}
 use Rattle.console.proofs.main.Statement.{statement}
 use Rattle.console.proofs.main.Tie as tie
-use Rattle.console.proofs.empty_table.Reads as empty-table-reads
-use Rattle.console.proofs.flush.Reads as flush-reads
-use Rattle.console.proofs.no_line.Reads as no-line-reads
-use Rattle.console.proofs.no_output.Reads as no-output-reads
-use Rattle.console.proofs.serve.Reads as serve-reads
-use Rattle.io.proofs.large_buffer.Reads as large-buffer-reads
-use Rattle.protocol.proofs.finish.Reads as finish-reads
 
 large-buffer-requires : tie.Need-large-buffer-requires
 large-buffer-requires c κs = search needs

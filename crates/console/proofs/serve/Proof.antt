@@ -6,7 +6,6 @@ use lib.ListN.{length}
 use Rattle.protocol.specs.Feeding.{Ready}
 use Rattle.console.proofs.serve.Statement.{statement}
 use Rattle.console.proofs.serve.Tie as tie
-use Rattle.console.proofs.serve_some.Reads as serve-some-reads
 
 abbrev Inv-loop : tie.InvT-loop
 Inv-loop input₀ line₀ reg₀ overrides₀ led₀ out₀ s₀ turns₀ input line reg overrides led out s turns = (length input ≡ length input₀) × (length line ≡ length line₀) × (length reg ≡ length reg₀) × (length overrides ≡ length overrides₀) × (length led ≡ length led₀) × (length out ≡ length out₀) × Ready s line reg overrides led out

@@ -7,8 +7,6 @@ use Rattle.console.proofs.Serving.{ready, same-session, rest-is, rest-u
 use borrow.Author.Needs.{needs}
 use Rattle.console.proofs.serve_line.Statement.{statement}
 use Rattle.console.proofs.serve_line.Tie as tie
-use Rattle.console.proofs.with_room.Reads as with-room-reads
-use Rattle.protocol.proofs.feed.Reads as feed-reads
 
 sub-feed : tie.Need-sub-feed
 sub-feed c = search needs

@@ -9,8 +9,6 @@ use Rattle.protocol.specs.Feeding.{sessionIn, Ready}
 use Rattle.console.proofs.Serving.{ready, same-session, rest-used, Taking, takes, takes-on, all-taken}
 use Rattle.console.proofs.serve_piece.Statement.{statement}
 use Rattle.console.proofs.serve_piece.Tie as tie
-use Rattle.console.proofs.serve_line.Reads as serve-line-reads
-use Rattle.console.proofs.written.Reads as written-reads
 
 abbrev Inv-loop : tie.InvT-loop
 Inv-loop piece line₀ reg₀ overrides₀ led₀ out₀ s₀ from₀ line reg overrides led out s from = Taking piece (sessionIn s₀ line₀ reg₀ overrides₀ led₀) (sessionIn s line reg overrides led) from × (length line ≡ length line₀) × (length reg ≡ length reg₀) × (length overrides ≡ length overrides₀) × (length led ≡ length led₀) × (length out ≡ length out₀) × Ready s line reg overrides led out

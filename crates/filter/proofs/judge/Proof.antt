@@ -1,5 +1,5 @@
 -- `filter::judge` meets its contract. Assumes nothing.
-use mathlib.Core.Path.{_≡_, sym, _∙_}
+use mathlib.Core.Path.{sym, _∙_}
 use borrow.Author.Tests.{not-true, not-false}
 use Rattle.registers.specs.Registers.{lent}
 use Rattle.filter.proofs.Judgings.{judge-length, judge-malformed, judge-answers, judged-refused, judged-known}

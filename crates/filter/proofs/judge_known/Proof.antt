@@ -5,12 +5,11 @@ use Rattle.rules.specs.Verdicts.{judged}
 use Rattle.types.specs.declared.Judged.the-variants.{Answered}
 use Rattle.as_path.specs.Reading.{mostNumbers, contentOf}
 use native.Mathlib.Omega.{arith}
-use mathlib.Core.Path.{_≡_, sym, _∙_, ap}
-use lib.ListN.{length, take}
+use mathlib.Core.Path.{sym, _∙_, ap}
 use lib.Seq.{length-take-le}
 use Rattle.types.specs.Numbers.{roleNumber}
 use Rattle.registers.specs.Registers.{lent, hopIn}
-use Rattle.filter.proofs.Judgings.{read-refused, read-ground, PathRead, read-path, some-numbers, in-buffer, path-judged}
+use Rattle.filter.proofs.Judgings.{read-refused, read-ground, read-path, some-numbers, in-buffer, path-judged}
 use borrow.Author.Needs.{needs}
 use Rattle.filter.proofs.judge_known.Statement.{statement}
 use Rattle.filter.proofs.judge_known.Tie as tie

@@ -1,5 +1,5 @@
 -- `filter::keep` meets its contract. Assumes nothing.
-use mathlib.Core.Path.{_≡_, sym, _∙_, ap}
+use mathlib.Core.Path.{sym, _∙_, ap}
 use borrow.Author.Tests.{not-true, not-false}
 use Rattle.filter.specs.Calls.{keeping, keepEffect}
 use Rattle.registers.specs.Registers.{lent, hopIn}

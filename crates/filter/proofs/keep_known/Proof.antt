@@ -1,10 +1,9 @@
 -- `filter::keep_known` meets its contract. Assumes nothing.
 use native.Mathlib.Omega.{arith}
-use mathlib.Core.Path.{_≡_, refl, sym, _∙_, ap}
-use lib.ListN.{length, take, replicate}
+use mathlib.Core.Path.{sym, _∙_, ap}
+use lib.ListN.{replicate}
 use lib.Seq.{length-take-le}
 use lib.Dec.{lit≤}
-use Rattle.types.specs.declared.Answer.{Answer}
 use Rattle.types.specs.Numbers.{roleNumber, verdictOf}
 use Rattle.as_path.specs.Reading.{mostNumbers, contentOf}
 use Rattle.rules.specs.Verdicts.{judged}

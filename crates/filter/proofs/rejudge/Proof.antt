@@ -1,6 +1,6 @@
 -- `filter::rejudge` meets its contract. Assumes nothing.
 use native.Mathlib.Omega.{arith}
-use mathlib.Core.Path.{_≡_, sym, _∙_, ap}
+use mathlib.Core.Path.{sym, _∙_, ap}
 use borrow.Author.Tests.{not-true, not-false}
 use Rattle.registers.specs.Registers.{lent}
 use Rattle.filter.proofs.Rejudgings.{rejudge-register-length, rejudge-ledger-length, rejudge-register-malformed, rejudge-ledger-malformed, few-changed, rejudge-done}

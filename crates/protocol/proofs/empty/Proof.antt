@@ -1,5 +1,5 @@
 -- `protocol::empty` meets its contract. Assumes nothing.
-use mathlib.Core.Path.{refl, sym, ap, _∙_}
+use mathlib.Core.Path.{sym, _∙_}
 use native.Mathlib.Omega.{arith}
 use lib.ListN.{take}
 use Rattle.protocol.proofs.Holding.{lends-zeros, all-cut}
@@ -10,7 +10,6 @@ use Rattle.ledger.specs.Routes.{ledgerWords}
 use borrow.Author.Needs.{needs}
 use Rattle.protocol.proofs.empty.Statement.{statement}
 use Rattle.protocol.proofs.empty.Tie as tie
-use Rattle.protocol.proofs.cut.Reads as cut-reads
 
 returns : tie.Need-returns
 returns c =

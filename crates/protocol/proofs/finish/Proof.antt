@@ -9,7 +9,6 @@ use Rattle.protocol.proofs.Feedings.{no-line, blank-line, not-blank, fi
 use borrow.Author.Needs.{needs}
 use Rattle.protocol.proofs.finish.Statement.{statement}
 use Rattle.protocol.proofs.finish.Tie as tie
-use Rattle.protocol.proofs.end_line.Reads as end-line-reads
 
 returns : tie.Need-returns
 returns c =

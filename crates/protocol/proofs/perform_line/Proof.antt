@@ -8,7 +8,6 @@ use Rattle.commands.proofs.Parsing.{does-nothing}
 use borrow.Author.Needs.{needs}
 use Rattle.protocol.proofs.perform_line.Statement.{statement}
 use Rattle.protocol.proofs.perform_line.Tie as tie
-use Rattle.protocol.proofs.perform.Reads as perform-reads
 
 returns : tie.Need-returns
 returns c =

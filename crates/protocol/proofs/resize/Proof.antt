@@ -1,14 +1,11 @@
 -- `protocol::resize` meets its contract. Assumes nothing.
-use mathlib.Core.Path.{refl, sym, ap, _∙_}
+use mathlib.Core.Path.{sym, ap, _∙_}
 use lib.ListN.{take}
 use Rattle.commands.proofs.Parsing.{other-count, right-count, number-is, no-number, too-many, not-too-many, does, does-nothing}
 use Rattle.commands.specs.Commands.{resize}
 use borrow.Author.Needs.{needs}
 use Rattle.protocol.proofs.resize.Statement.{statement}
 use Rattle.protocol.proofs.resize.Tie as tie
-use Rattle.lines.proofs.number.Reads as number-reads
-use Rattle.commands.proofs.choice.named.Reads as named-reads
-use Rattle.protocol.proofs.resize_named.Reads as resize-named-reads
 
 returns : tie.Need-returns
 returns c =

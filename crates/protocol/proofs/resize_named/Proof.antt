@@ -1,5 +1,5 @@
 -- `protocol::resize_named` meets its contract. Assumes nothing.
-use mathlib.Core.Path.{refl, sym, ap, _∙_}
+use mathlib.Core.Path.{refl, ap}
 use lib.ListN.{take}
 use Rattle.protocol.proofs.Holding.{lends-resized}
 use Rattle.protocol.proofs.Performing.{performs, lends-same}
@@ -7,7 +7,6 @@ use Rattle.commands.specs.Commands.{resize}
 use borrow.Author.Needs.{needs}
 use Rattle.protocol.proofs.resize_named.Statement.{statement}
 use Rattle.protocol.proofs.resize_named.Tie as tie
-use Rattle.protocol.proofs.cut.Reads as cut-reads
 
 enum-told : tie.Need-enum-told
 enum-told c = search needs

@@ -6,16 +6,6 @@ use Rattle.replies.specs.Texts.{replyText, mostReply}
 use borrow.Author.Needs.{needs}
 use Rattle.replies.proofs.put.Statement.{statement}
 use Rattle.replies.proofs.put.Tie as tie
-use Rattle.answers.proofs.put_cleared.Reads as put-cleared-reads
-use Rattle.answers.proofs.put_filed.Reads as put-filed-reads
-use Rattle.answers.proofs.put_judged.Reads as put-judged-reads
-use Rattle.answers.proofs.put_rejudged.Reads as put-rejudged-reads
-use Rattle.answers.proofs.put_removal.Reads as put-removal-reads
-use Rattle.answers.proofs.put_restored.Reads as put-restored-reads
-use Rattle.replies.proofs.put_all.Reads as put-all-reads
-use Rattle.replies.proofs.put_shown.Reads as put-shown-reads
-use Rattle.replies.proofs.put_snapshot.Reads as put-snapshot-reads
-use Rattle.text.proofs.put.Reads as put-reads
 
 enum-told : tie.Need-enum-told
 enum-told c = search needs

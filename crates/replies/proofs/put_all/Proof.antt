@@ -6,8 +6,6 @@ use Rattle.replies.specs.Texts.{sizedIn, mostReply}
 use borrow.Author.Needs.{needs}
 use Rattle.replies.proofs.put_all.Statement.{statement}
 use Rattle.replies.proofs.put_all.Tie as tie
-use Rattle.replies.proofs.put_sized.Reads as put-sized-reads
-use Rattle.text.proofs.put.Reads as put-reads
 
 enum-told : tie.Need-enum-told
 enum-told c = search needs

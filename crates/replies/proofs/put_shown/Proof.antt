@@ -11,9 +11,6 @@ use Rattle.replies.specs.Texts.{shownText, mostReply}
 use borrow.Author.Needs.{needs}
 use Rattle.replies.proofs.put_shown.Statement.{statement}
 use Rattle.replies.proofs.put_shown.Tie as tie
-use Rattle.replies.proofs.put_spaced.Reads as put-spaced-reads
-use Rattle.replies.proofs.used.Reads as used-reads
-use Rattle.text.proofs.put.Reads as put-reads
 
 enum-told : tie.Need-enum-told
 enum-told c = search needs

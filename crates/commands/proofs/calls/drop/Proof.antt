@@ -1,13 +1,11 @@
 -- `commands::calls::drop` meets its contract. Assumes nothing.
-use mathlib.Core.Path.{refl, sym, ap, _∙_}
+use mathlib.Core.Path.{sym, _∙_}
 use Rattle.commands.proofs.Parsing.{other-count, right-count, number-is, no-number, does, does-nothing}
 use Rattle.commands.specs.declared.Reply.the-variants as reply
 use Rattle.commands.specs.Performing.{result}
 use borrow.Author.Needs.{needs}
 use Rattle.commands.proofs.calls.drop.Statement.{statement}
 use Rattle.commands.proofs.calls.drop.Tie as tie
-use Rattle.filter.proofs.drop.Reads as drop-reads
-use Rattle.lines.proofs.number.Reads as number-reads
 
 returns : tie.Need-returns
 returns c =

@@ -1,12 +1,11 @@
 -- `commands::calls::rejudge` meets its contract. Assumes nothing.
-use mathlib.Core.Path.{refl, sym, ap, _∙_}
+use mathlib.Core.Path.{sym, _∙_}
 use Rattle.commands.proofs.Parsing.{other-count, right-count, does, does-nothing}
 use Rattle.commands.specs.declared.Reply.the-variants as reply
 use Rattle.commands.specs.Performing.{result}
 use borrow.Author.Needs.{needs}
 use Rattle.commands.proofs.calls.rejudge.Statement.{statement}
 use Rattle.commands.proofs.calls.rejudge.Tie as tie
-use Rattle.filter.proofs.rejudge.Reads as rejudge-reads
 
 returns : tie.Need-returns
 returns c =

@@ -1,12 +1,10 @@
 -- `commands::calls::withdraw` meets its contract. Assumes nothing.
-use mathlib.Core.Path.{refl, sym, ap, _∙_}
+use mathlib.Core.Path.{sym, _∙_}
 use Rattle.commands.proofs.Parsing.{other-count, right-count, number-is, no-number, replied, does, does-nothing}
 use Rattle.commands.specs.declared.Reply.the-variants as reply
 use borrow.Author.Needs.{needs}
 use Rattle.commands.proofs.calls.withdraw.Statement.{statement}
 use Rattle.commands.proofs.calls.withdraw.Tie as tie
-use Rattle.filter.proofs.withdraw.Reads as withdraw-reads
-use Rattle.lines.proofs.number.Reads as number-reads
 
 returns : tie.Need-returns
 returns c =

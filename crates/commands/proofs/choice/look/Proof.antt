@@ -5,10 +5,6 @@ use Rattle.commands.proofs.Choosing.{is-poke, is-words, is-show}
 use borrow.Author.Needs.{needs}
 use Rattle.commands.proofs.choice.look.Statement.{statement}
 use Rattle.commands.proofs.choice.look.Tie as tie
-use Rattle.lines.proofs.is_word.Reads as is-word-reads
-use Rattle.commands.proofs.choice.poke.Reads as poke-reads
-use Rattle.commands.proofs.choice.show.Reads as show-reads
-use Rattle.commands.proofs.choice.words.Reads as words-reads
 
 slice-aggregate-is-word : tie.Need-slice-aggregate-is-word
 slice-aggregate-is-word c = search needs

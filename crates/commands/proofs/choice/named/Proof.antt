@@ -5,7 +5,6 @@ use Rattle.commands.proofs.Choosing.{names-register, names-overrides, n
 use borrow.Author.Needs.{needs}
 use Rattle.commands.proofs.choice.named.Statement.{statement}
 use Rattle.commands.proofs.choice.named.Tie as tie
-use Rattle.lines.proofs.is_word.Reads as is-word-reads
 
 slice-aggregate-is-word : tie.Need-slice-aggregate-is-word
 slice-aggregate-is-word c = search needs

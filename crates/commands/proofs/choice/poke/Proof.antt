@@ -1,15 +1,11 @@
 -- `commands::choice::poke` meets its contract. Assumes nothing.
 use mathlib.Core.Path.{refl, sym, ap, _∙_}
 use Rattle.commands.proofs.Parsing.{other-count, right-count, number-is, no-number, does, does-nothing}
-use Rattle.commands.specs.declared.Reply.the-variants as reply
 use Rattle.commands.specs.Performing.{result}
 use Rattle.commands.specs.Commands.{poke}
 use borrow.Author.Needs.{needs}
 use Rattle.commands.proofs.choice.poke.Statement.{statement}
 use Rattle.commands.proofs.choice.poke.Tie as tie
-use Rattle.lines.proofs.number.Reads as number-reads
-use Rattle.commands.proofs.choice.named.Reads as named-reads
-use Rattle.commands.proofs.tables.poke.Reads as poke-reads
 
 returns : tie.Need-returns
 returns c =

@@ -5,11 +5,6 @@ use Rattle.commands.proofs.Choosing.{is-keep, is-drop, is-rejudge, is-s
 use borrow.Author.Needs.{needs}
 use Rattle.commands.proofs.choice.route.Statement.{statement}
 use Rattle.commands.proofs.choice.route.Tie as tie
-use Rattle.lines.proofs.is_word.Reads as is-word-reads
-use Rattle.commands.proofs.calls.drop.Reads as drop-reads
-use Rattle.commands.proofs.calls.keep.Reads as keep-reads
-use Rattle.commands.proofs.calls.rejudge.Reads as rejudge-reads
-use Rattle.commands.proofs.choice.snapshot.Reads as snapshot-reads
 
 slice-aggregate-is-word : tie.Need-slice-aggregate-is-word
 slice-aggregate-is-word c = search needs

@@ -5,12 +5,6 @@ use Rattle.commands.proofs.Choosing.{is-file, is-withdraw, is-clear, is
 use borrow.Author.Needs.{needs}
 use Rattle.commands.proofs.choice.run.Statement.{statement}
 use Rattle.commands.proofs.choice.run.Tie as tie
-use Rattle.lines.proofs.is_word.Reads as is-word-reads
-use Rattle.commands.proofs.calls.clear.Reads as clear-reads
-use Rattle.commands.proofs.calls.file.Reads as file-reads
-use Rattle.commands.proofs.calls.judge.Reads as judge-reads
-use Rattle.commands.proofs.calls.withdraw.Reads as withdraw-reads
-use Rattle.commands.proofs.choice.route.Reads as route-reads
 
 slice-aggregate-is-word : tie.Need-slice-aggregate-is-word
 slice-aggregate-is-word c = search needs
