@@ -114,7 +114,7 @@ fn keep_answer(
     ensures { λ r. ⌜ effect r (now (led .exit)) ≡ storedEffect (now (led .entry))
         (routeFor (number .0) (roleNumber role) (neighbour .0) (verdictOf answer) (now (path .entry))) answer ⌝ }
 {
-    match ledger::store(led, number, role, neighbour, answer.verdict(), path) {
+    match storing::store(led, number, role, neighbour, answer.verdict(), path) {
         Kept::Done => Judged::Answered(answer),
         Kept::Refused(r) => Judged::Refused(r),
     }
@@ -185,7 +185,7 @@ pub fn keep<'a>(
 pub fn drop(led: &mut [u32], number: RouteNumber) -> Removal
     ensures { λ r. ⌜ effect r (now (led .exit)) ≡ dropEffect (now (led .entry)) (number .0) ⌝ }
 {
-    ledger::drop(led, number)
+    storing::drop(led, number)
 }
 
 // Writes the verdict and places of every route without a ground anew, and answers how many routes changed.
@@ -281,7 +281,7 @@ pub fn lookup<'a>(
 pub fn file(reg: &mut [u32], source: u32, customer: AsNumber, providers: &[u32]) -> Filed
     ensures { λ r. ⌜ effect r (now (reg .exit)) ≡ fileEffect (now (reg .entry)) source (customer .0) (now (providers .entry)) ⌝ }
 {
-    register::file(reg, source, customer, providers)
+    filing::file(reg, source, customer, providers)
 }
 
 // Takes the list of one pair of source and customer out of the register.
@@ -289,7 +289,7 @@ pub fn file(reg: &mut [u32], source: u32, customer: AsNumber, providers: &[u32])
 pub fn withdraw(reg: &mut [u32], source: u32, customer: AsNumber) -> Removal
     ensures { λ r. ⌜ effect r (now (reg .exit)) ≡ withdrawEffect (now (reg .entry)) source (customer .0) ⌝ }
 {
-    register::withdraw(reg, source, customer)
+    filing::withdraw(reg, source, customer)
 }
 
 // Takes all lists of a source out of the register, and answers how many went.
@@ -297,5 +297,5 @@ pub fn withdraw(reg: &mut [u32], source: u32, customer: AsNumber) -> Removal
 pub fn clear(reg: &mut [u32], source: u32) -> Cleared
     ensures { λ r. ⌜ effect r (now (reg .exit)) ≡ clearEffect (now (reg .entry)) source ⌝ }
 {
-    register::clear(reg, source)
+    filing::clear(reg, source)
 }

@@ -1,12 +1,8 @@
-// The ledger of kept routes: its check, its look-up, a route stored, and Drop.
-use halves::Key;
-use halves::Range;
+// The ledger of kept routes: its check, and one route read and stamped.
 use types::AsNumber;
 use types::Refusal;
-use types::Removal;
 use types::Role;
 use types::RoleRead;
-use types::RouteNumber;
 use types::Verdict;
 ghost use mathlib.Core.Path.{_≡_};
 ghost use mathlib.Core.Bool.{true, _&&_};
@@ -17,26 +13,24 @@ ghost use Rattle.table.specs.Table.{Sound};
 ghost use Rattle.keyed.specs.Keyed.{ascends, every};
 ghost use Rattle.types.specs.Numbers.{roleNumber};
 ghost use Rattle.types.specs.Rows.{effect};
-ghost use Rattle.ledger.specs.Routes.{ledgerWords, mostRoutes, routeHead, routeTail, routesOf, routeAt, keyOf, positionOf, pathWords};
+ghost use Rattle.ledger.specs.Routes.{mostRoutes, routeHead, routeTail, routesOf, routeAt, keyOf, pathWords};
 ghost use Rattle.ledger.specs.Routes.{noZero, noRuns, pathOk, routeOk, isBehind, ledgerOk};
-ghost use Rattle.ledger.specs.Calls.{holdsRoute, routeFor, storeEffect, dropEffect, stamped, changeEffect};
-ghost use Rattle.ledger.specs.Helpers.{PathFrom, RouteIn, mostSteps};
+ghost use Rattle.ledger.specs.Calls.{stamped, changeEffect};
+ghost use Rattle.ledger.specs.Helpers.{PathFrom, RouteIn};
 
-const MOST_ROUTES: usize = 512;
+pub const MOST_ROUTES: usize = 512;
 
-const MOST_PATH_WORDS: usize = 8192;
+pub const MOST_PATH_WORDS: usize = 8192;
 
 // A route's slot: head words, start and count of its path, tail words.
-const HEAD: usize = 7;
+pub const HEAD: usize = 7;
 
-const TAIL: usize = 0;
+pub const TAIL: usize = 0;
 
 pub const WIDTH: usize = HEAD + table::SPAN + TAIL;
 
 // The words of a ledger.
 pub const WORDS: usize = table::COUNTERS + MOST_ROUTES * WIDTH + MOST_PATH_WORDS;
-
-const NO_TAIL: [u32; TAIL] = [0u32; TAIL];
 
 // The words of a slot, counted from its first, which is the route's number.
 const ROLE: usize = 1;
@@ -189,41 +183,6 @@ pub fn is_ledger(led: &[u32]) -> bool
     are_routes(led)
 }
 
-// ---- look-up
-
-// The position of a route, by halves: at most ten routes are looked at. No role is below 0, so the number alone decides.
-fn search(led: &[u32], number: RouteNumber) -> Range
-    requires { ⌜ ledgerOk (now led) ≡ true ⌝ }
-    ensures { λ r. ⌜ (r .low ≡ positionOf (number .0) (routesOf (now (led .entry)))) × (r .steps ≤ mostSteps) ⌝ }
-{
-    let key = Key {
-        first: number.0,
-        second: 0,
-    };
-    halves::search(led, WIDTH, 0, key)
-}
-
-// Where a route stands, or would stand: how many routes come before it.
-fn find(led: &[u32], number: RouteNumber) -> usize
-    requires { ⌜ ledgerOk (now led) ≡ true ⌝ }
-    ensures { λ r. ⌜ (r ≡ positionOf (number .0) (routesOf (now (led .entry)))) × (r ≤ length (routesOf (now (led .entry)))) ⌝ }
-{
-    let found = search(led, number);
-    found.low
-}
-
-// Whether the route at a position that `find` answered is the one looked for.
-fn is_at(led: &[u32], position: usize, number: RouteNumber) -> bool
-    requires { ⌜ (ledgerOk (now led) ≡ true) × (position ≡ positionOf (number .0) (routesOf (now led))) ⌝ }
-    ensures { λ r. ⌜ r ≡ holdsRoute (number .0) (routesOf (now (led .entry))) ⌝ }
-{
-    let n = number.0;
-    if position < table::word(led, 0) {
-        return led[table::COUNTERS + position * WIDTH] == n;
-    }
-    false
-}
-
 // ---- one route
 
 // How many routes there are.
@@ -289,66 +248,8 @@ pub fn stamp(led: &mut [u32], i: usize, v: Verdict) -> bool
     !same
 }
 
-// ---- the calls
-
 // What storing a route comes to.
 pub enum Kept {
     Done,
     Refused(Refusal),
-}
-
-// A new route goes in at its position, if its number is free and there is room for it. Rows 18, 20.
-pub fn store(
-    led: &mut [u32],
-    number: RouteNumber,
-    role: Role,
-    neighbour: AsNumber,
-    verdict: Verdict,
-    path: &[u32],
-) -> Kept
-    requires { ⌜ (length (now led) ≡ ledgerWords) × (ledgerOk (now led) ≡ true) ⌝ }
-    ensures { λ r. ⌜ effect r (now (led .exit))
-        ≡ storeEffect (now (led .entry)) (routeFor (number .0) (roleNumber role) (neighbour .0) verdict (now (path .entry))) ⌝ }
-{
-    let position = find(led, number);
-    if is_at(led, position, number) {
-        return Kept::Refused(Refusal::RouteTaken);
-    }
-    if MOST_ROUTES <= table::word(led, 0) {
-        return Kept::Refused(Refusal::RoutesFull);
-    }
-    if MOST_PATH_WORDS - table::word(led, 1) < path.len() {
-        return Kept::Refused(Refusal::RoutesFull);
-    }
-    let n = number.0;
-    let m = neighbour.0;
-    let head = [
-        n,
-        role.number(),
-        m,
-        verdict.ground(),
-        verdict.number(),
-        verdict.place_a(),
-        verdict.place_b(),
-    ];
-    table::insert(led, HEAD, TAIL, position, &head, path, &NO_TAIL);
-    Kept::Done
-}
-
-// Drop: the route under a number goes out; no other changes. Rows 1, 3, 19.
-pub fn drop(led: &mut [u32], number: RouteNumber) -> Removal
-    ensures { λ r. ⌜ effect r (now (led .exit)) ≡ dropEffect (now (led .entry)) (number .0) ⌝ }
-{
-    if led.len() != WORDS {
-        return Removal::Refused(Refusal::TableLength);
-    }
-    if !is_ledger(led) {
-        return Removal::Refused(Refusal::RoutesMalformed);
-    }
-    let position = find(led, number);
-    if !is_at(led, position, number) {
-        return Removal::Refused(Refusal::NoRoute);
-    }
-    table::remove(led, HEAD, TAIL, position);
-    Removal::Done
 }

@@ -1,38 +1,33 @@
-// The register of provider records: its check, its look-up, and File, Withdraw and Clear.
+// The register of provider records: its check and its look-up.
 use halves::Key;
 use halves::Range;
 use types::AsNumber;
-use types::Cleared;
-use types::Filed;
-use types::Refusal;
-use types::Removal;
 ghost use mathlib.Core.Path.{_≡_};
 ghost use mathlib.Core.Bool.{true, false, _&&_};
 ghost use Prim.Native.Nat.{_≤_, _<_};
 ghost use lib.ListN.{length, getD};
 ghost use Rattle.table.specs.Table.{Sound};
-ghost use Rattle.types.specs.Rows.{effect};
 ghost use Rattle.keyed.specs.Keyed.{samePair, beforePair, ascends, every};
 ghost use Rattle.register.specs.Register.{recordHead, recordTail, mostListed, recordsOf, recordAt, keyOf, recordOk};
 ghost use Rattle.register.specs.Register.{registerOk, positionOf};
-ghost use Rattle.register.specs.Helpers.{mostSteps, Passed};
-ghost use Rattle.register.specs.Calls.{holdsRecord, fileEffect, withdrawEffect, clearEffect};
+ghost use Rattle.register.specs.Helpers.{mostSteps};
+ghost use Rattle.register.specs.Calls.{holdsRecord};
 
 // ---- limits
 
 pub const MOST_RECORDS: usize = 1024;
 
 // The numbers in all lists together.
-const MOST_LISTED: usize = 8192;
+pub const MOST_LISTED: usize = 8192;
 
 pub const LAST_SOURCE: u32 = 7;
 
 // ---- layout
 
 // A record's slot: customer, source, where its list starts among the bodies, and how many numbers it has. The first two are its head.
-const HEAD: usize = 2;
+pub const HEAD: usize = 2;
 
-const TAIL: usize = 0;
+pub const TAIL: usize = 0;
 
 pub const WIDTH: usize = HEAD + table::SPAN + TAIL;
 
@@ -44,9 +39,6 @@ pub const COUNT: usize = HEAD + 1;
 
 // The words of a register: two counts, and room for as many records and numbers as there may be.
 pub const WORDS: usize = table::COUNTERS + MOST_RECORDS * WIDTH + MOST_LISTED;
-
-// The tail of a slot.
-const NO_TAIL: [u32; TAIL] = [0u32; TAIL];
 
 // ---- the check
 
@@ -164,109 +156,4 @@ pub fn is_at(reg: &[u32], position: usize, customer: AsNumber, source: u32) -> b
         }
     }
     false
-}
-
-// ---- the calls
-
-// A new record goes in at its position, if there is room for it.
-fn add(reg: &mut [u32], position: usize, source: u32, customer: AsNumber, list: &[u32]) -> Filed
-    requires { ⌜ Passed (now reg) position source (customer .0) (now list) × (holdsRecord (customer .0) source (recordsOf (now reg)) ≡ false) ⌝ }
-    ensures { λ r. ⌜ effect r (now (reg .exit)) ≡ fileEffect (now (reg .entry)) source (customer .0) (now (list .entry)) ⌝ }
-{
-    if MOST_RECORDS <= table::word(reg, 0) {
-        return Filed::Refused(Refusal::RegisterFull);
-    }
-    if MOST_LISTED - table::word(reg, 1) < list.len() {
-        return Filed::Refused(Refusal::RegisterFull);
-    }
-    let c = customer.0;
-    let head = [c, source];
-    table::insert(reg, HEAD, TAIL, position, &head, list, &NO_TAIL);
-    Filed::New
-}
-
-// A list takes the place of the one that stands under its pair, if there is room for it.
-fn replace(reg: &mut [u32], position: usize, source: u32, customer: AsNumber, list: &[u32]) -> Filed
-    requires { ⌜ Passed (now reg) position source (customer .0) (now list) × (holdsRecord (customer .0) source (recordsOf (now reg)) ≡ true) ⌝ }
-    ensures { λ r. ⌜ effect r (now (reg .exit)) ≡ fileEffect (now (reg .entry)) source (customer .0) (now (list .entry)) ⌝ }
-{
-    let others = table::word(reg, 1) - table::word(reg, table::COUNTERS + position * WIDTH + COUNT);
-    if MOST_LISTED - others < list.len() {
-        return Filed::Refused(Refusal::RegisterFull);
-    }
-    let c = customer.0;
-    let head = [c, source];
-    table::remove(reg, HEAD, TAIL, position);
-    table::insert(reg, HEAD, TAIL, position, &head, list, &NO_TAIL);
-    Filed::Replaced
-}
-
-// File: a list goes in under the pair of its source and customer, in the place of the one that is there; no other list changes.
-// Answers whether it is new or replaced another. Rows 1, 2, 4, 5, 6, 8.
-pub fn file(reg: &mut [u32], source: u32, customer: AsNumber, list: &[u32]) -> Filed
-    ensures { λ r. ⌜ effect r (now (reg .exit)) ≡ fileEffect (now (reg .entry)) source (customer .0) (now (list .entry)) ⌝ }
-{
-    if reg.len() != WORDS {
-        return Filed::Refused(Refusal::TableLength);
-    }
-    if !is_register(reg) {
-        return Filed::Refused(Refusal::RegisterMalformed);
-    }
-    if LAST_SOURCE < source {
-        return Filed::Refused(Refusal::SourceNumber);
-    }
-    let c = customer.0;
-    if c == 0 {
-        return Filed::Refused(Refusal::CustomerZero);
-    }
-    if !providers::is_list(customer, list) {
-        return Filed::Refused(Refusal::ProviderList);
-    }
-    let position = find(reg, customer, source);
-    if is_at(reg, position, customer, source) {
-        return replace(reg, position, source, customer, list);
-    }
-    add(reg, position, source, customer, list)
-}
-
-// Withdraw: the list of one source and customer goes out; no other changes. Rows 1, 2, 4, 5, 7.
-pub fn withdraw(reg: &mut [u32], source: u32, customer: AsNumber) -> Removal
-    ensures { λ r. ⌜ effect r (now (reg .exit)) ≡ withdrawEffect (now (reg .entry)) source (customer .0) ⌝ }
-{
-    if reg.len() != WORDS {
-        return Removal::Refused(Refusal::TableLength);
-    }
-    if !is_register(reg) {
-        return Removal::Refused(Refusal::RegisterMalformed);
-    }
-    if LAST_SOURCE < source {
-        return Removal::Refused(Refusal::SourceNumber);
-    }
-    let c = customer.0;
-    if c == 0 {
-        return Removal::Refused(Refusal::CustomerZero);
-    }
-    let position = find(reg, customer, source);
-    if !is_at(reg, position, customer, source) {
-        return Removal::Refused(Refusal::NoRecord);
-    }
-    table::remove(reg, HEAD, TAIL, position);
-    Removal::Done
-}
-
-// Clear: every list of one source goes out; no other changes. Answers how many records went, zero included. Rows 1, 2, 4.
-pub fn clear(reg: &mut [u32], source: u32) -> Cleared
-    ensures { λ r. ⌜ effect r (now (reg .exit)) ≡ clearEffect (now (reg .entry)) source ⌝ }
-{
-    if reg.len() != WORDS {
-        return Cleared::Refused(Refusal::TableLength);
-    }
-    if !is_register(reg) {
-        return Cleared::Refused(Refusal::RegisterMalformed);
-    }
-    if LAST_SOURCE < source {
-        return Cleared::Refused(Refusal::SourceNumber);
-    }
-    let gone = table::clear(reg, HEAD, TAIL, SOURCE, source);
-    Cleared::Gone(gone as u32)
 }

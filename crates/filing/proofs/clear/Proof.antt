@@ -4,11 +4,11 @@ use mathlib.Core.Path.{_≡_, sym, _∙_}
 use borrow.Author.Tests.{not-true, not-false}
 use Rattle.table.specs.Table.{decode}
 use Rattle.table.proofs.Staying.{went}
 use Rattle.register.specs.Register.{recordHead, recordTail, sourceWord}
 use Rattle.register.proofs.Filing.{clear-length, clear-malformed, clear-source, clear-may, gone-few, clear-done}
 use borrow.Author.Needs.{needs}
-use Rattle.register.proofs.clear.Statement.{statement}
-use Rattle.register.proofs.clear.Tie as tie
+use Rattle.filing.proofs.clear.Statement.{statement}
+use Rattle.filing.proofs.clear.Tie as tie
 
 returns : tie.Need-returns
 returns c = sym (clear-length (c .before .before .args .reg .now) (c .before .before .args .source) (c .if1 .taken))

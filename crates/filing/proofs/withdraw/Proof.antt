@@ -1,10 +1,10 @@
 -- `register::withdraw` meets its contract. Assumes nothing.
 use mathlib.Core.Path.{_≡_, sym, _∙_}
 use borrow.Author.Tests.{not-true, not-false}
 use Rattle.register.proofs.Filing.{withdraw-length, withdraw-malformed, withdraw-source, withdraw-customer, withdraw-none, withdraw-goes, withdraw-done}
 use borrow.Author.Needs.{needs}
-use Rattle.register.proofs.withdraw.Statement.{statement}
-use Rattle.register.proofs.withdraw.Tie as tie
+use Rattle.filing.proofs.withdraw.Statement.{statement}
+use Rattle.filing.proofs.withdraw.Tie as tie
 
 returns : tie.Need-returns
 returns c = let a = c .before .before .args in

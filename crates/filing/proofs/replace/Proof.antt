@@ -1,10 +1,10 @@
 -- `register::replace` meets its contract. Assumes nothing.
 use native.Mathlib.Omega.{arith}
 use mathlib.Core.Path.{_≡_, sym, _∙_}
 use Rattle.register.proofs.Filing.{body-word, few, little, position-under, old-slot, old-word, old-within, full-over, old-goes, over-fits, over-done}
 use borrow.Author.Needs.{needs}
-use Rattle.register.proofs.replace.Statement.{statement}
-use Rattle.register.proofs.replace.Tie as tie
+use Rattle.filing.proofs.replace.Statement.{statement}
+use Rattle.filing.proofs.replace.Tie as tie
 
 word-requires : tie.Need-word-requires
 word-requires c κs = search needs

@@ -1,10 +1,10 @@
 -- `register::file` meets its contract. Assumes nothing.
 use mathlib.Core.Path.{_≡_, sym, _∙_}
 use borrow.Author.Tests.{not-true, not-false}
 use Rattle.register.proofs.Filing.{file-length, file-malformed, file-source, file-customer, file-list}
 use borrow.Author.Needs.{needs}
-use Rattle.register.proofs.file.Statement.{statement}
-use Rattle.register.proofs.file.Tie as tie
+use Rattle.filing.proofs.file.Statement.{statement}
+use Rattle.filing.proofs.file.Tie as tie
 
 returns : tie.Need-returns
 returns c = let a = c .before .before .before .args in

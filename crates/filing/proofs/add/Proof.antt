@@ -1,10 +1,10 @@
 -- `register::add` meets its contract. Assumes nothing.
 use native.Mathlib.Omega.{arith}
 use mathlib.Core.Path.{_≡_, sym, _∙_}
 use Rattle.register.proofs.Filing.{count-word, body-word, little, full-records, full-lists, new-fits, new-done}
 use borrow.Author.Needs.{needs}
-use Rattle.register.proofs.add.Statement.{statement}
-use Rattle.register.proofs.add.Tie as tie
+use Rattle.filing.proofs.add.Statement.{statement}
+use Rattle.filing.proofs.add.Tie as tie
 
 word-requires : tie.Need-word-requires
 word-requires c κs = search needs

@@ -1,9 +1,9 @@
 -- `ledger::find` meets its contract. Assumes nothing.
 use borrow.Author.Needs.{needs}
 use native.Mathlib.Omega.{arith}
 use Rattle.ledger.proofs.Looking.{begins}
-use Rattle.ledger.proofs.find.Statement.{statement}
-use Rattle.ledger.proofs.find.Tie as tie
+use Rattle.storing.proofs.find.Statement.{statement}
+use Rattle.storing.proofs.find.Tie as tie
 
 search-requires : tie.Need-search-requires
 search-requires c κs = search needs

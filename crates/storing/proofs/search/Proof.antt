@@ -1,11 +1,11 @@
 -- `ledger::search` meets its contract. Assumes nothing.
 use native.Mathlib.Omega.{arith}
 use Rattle.halves.proofs.Searches.{searchable}
 use Rattle.ledger.specs.Routes.{routeHead, routeTail}
 use Rattle.ledger.proofs.Holding.{sound}
 use Rattle.ledger.proofs.Looking.{finds}
-use Rattle.ledger.proofs.search.Statement.{statement}
-use Rattle.ledger.proofs.search.Tie as tie
+use Rattle.storing.proofs.search.Statement.{statement}
+use Rattle.storing.proofs.search.Tie as tie
 
 search-requires : tie.Need-search-requires
 search-requires c κs = searchable routeHead routeTail _ (sound _ (c .before .pre)) (omega arith)

@@ -1,11 +1,11 @@
 -- `ledger::store` meets its contract. Assumes nothing.
 use mathlib.Core.Path.{sym, _∙_}
 use Rattle.ledger.specs.Calls.{routeFor}
 use Rattle.types.specs.Numbers.{roleNumber}
 use Rattle.ledger.proofs.Storing.{entry-is, store-taken, paths-short, full-routes, full-paths, storable, store-fits, store-done}
 use borrow.Author.Needs.{needs}
-use Rattle.ledger.proofs.store.Statement.{statement}
-use Rattle.ledger.proofs.store.Tie as tie
+use Rattle.storing.proofs.store.Statement.{statement}
+use Rattle.storing.proofs.store.Tie as tie
 
 find-requires : tie.Need-find-requires
 find-requires c κs = search needs

@@ -1,10 +1,10 @@
 -- `ledger::drop` meets its contract. Assumes nothing.
 use mathlib.Core.Path.{sym, _∙_}
 use borrow.Author.Tests.{not-true, not-false}
 use Rattle.ledger.proofs.Storing.{drop-length, drop-malformed, drop-none, drop-goes, drop-done}
 use borrow.Author.Needs.{needs}
-use Rattle.ledger.proofs.drop.Statement.{statement}
-use Rattle.ledger.proofs.drop.Tie as tie
+use Rattle.storing.proofs.drop.Statement.{statement}
+use Rattle.storing.proofs.drop.Tie as tie
 
 returns : tie.Need-returns
 returns c = sym (drop-length _ _ (c .if1 .taken))

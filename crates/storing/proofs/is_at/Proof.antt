@@ -1,9 +1,9 @@
 -- `ledger::is_at` meets its contract. Assumes nothing.
 use native.Mathlib.Omega.{arith}
 use Rattle.ledger.proofs.Looking.{head-within, past, there-in, there}
 use borrow.Author.Needs.{needs}
-use Rattle.ledger.proofs.is_at.Statement.{statement}
-use Rattle.ledger.proofs.is_at.Tie as tie
+use Rattle.storing.proofs.is_at.Statement.{statement}
+use Rattle.storing.proofs.is_at.Tie as tie
 
 word-requires : tie.Need-word-requires
 word-requires c κs = omega (arith, head-within (c .before .args .led .now) (c .before .pre .0))
