@@ -354,7 +354,7 @@ pub extern "C" fn aspa_read(file: &[u8], register: &mut [u32], ledger: &mut [u32
     ensures { λ r. ⌜ toldTables r (now (register .exit)) (now (ledger .exit))
         ≡ readingTold (readEffect (now (file .entry)) (now (register .entry)) (now (ledger .entry))) ⌝ }
 {
-    match snapshot::read(file, register, ledger) {
+    match restoring::read(file, register, ledger) {
         Restored::Done => 0,
         Restored::Refused(r) => r.number(),
     }

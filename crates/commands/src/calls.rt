@@ -344,7 +344,7 @@ pub fn read(line: &[u8], n: usize, reg: &mut [u32], overrides: &mut [u32], led: 
     let Bytes::Read(k) = lines::bytes(line, 1, &mut file) else {
         return Reply::Error;
     };
-    let restored = snapshot::read(&file[..k], reg, led);
+    let restored = restoring::read(&file[..k], reg, led);
     Reply::Restored(restored)
 }
 

@@ -1,4 +1,4 @@
--- `register::add` meets its contract. Assumes nothing.
+-- `filing::add` meets its contract. Assumes nothing.
 use native.Mathlib.Omega.{arith}
 use mathlib.Core.Path.{_≡_, sym, _∙_}
 use Rattle.register.proofs.Filing.{count-word, body-word, little, full-records, full-lists, new-fits, new-done}

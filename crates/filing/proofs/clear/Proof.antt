@@ -1,4 +1,4 @@
--- `register::clear` meets its contract. Assumes nothing.
+-- `filing::clear` meets its contract. Assumes nothing.
 use native.Mathlib.Omega.{arith}
 use mathlib.Core.Path.{_≡_, sym, _∙_}
 use borrow.Author.Tests.{not-true, not-false}

@@ -1,4 +1,4 @@
--- `register::file` meets its contract. Assumes nothing.
+-- `filing::file` meets its contract. Assumes nothing.
 use mathlib.Core.Path.{_≡_, sym, _∙_}
 use borrow.Author.Tests.{not-true, not-false}
 use Rattle.register.proofs.Filing.{file-length, file-malformed, file-source, file-customer, file-list}

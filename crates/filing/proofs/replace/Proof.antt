@@ -1,4 +1,4 @@
--- `register::replace` meets its contract. Assumes nothing.
+-- `filing::replace` meets its contract. Assumes nothing.
 use native.Mathlib.Omega.{arith}
 use mathlib.Core.Path.{_≡_, sym, _∙_}
 use Rattle.register.proofs.Filing.{body-word, few, little, position-under, old-slot, old-word, old-within, full-over, old-goes, over-fits, over-done}

@@ -1,4 +1,4 @@
--- `register::withdraw` meets its contract. Assumes nothing.
+-- `filing::withdraw` meets its contract. Assumes nothing.
 use mathlib.Core.Path.{_≡_, sym, _∙_}
 use borrow.Author.Tests.{not-true, not-false}
 use Rattle.register.proofs.Filing.{withdraw-length, withdraw-malformed, withdraw-source, withdraw-customer, withdraw-none, withdraw-goes, withdraw-done}

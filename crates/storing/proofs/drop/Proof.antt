@@ -1,4 +1,4 @@
--- `ledger::drop` meets its contract. Assumes nothing.
+-- `storing::drop` meets its contract. Assumes nothing.
 use mathlib.Core.Path.{sym, _∙_}
 use borrow.Author.Tests.{not-true, not-false}
 use Rattle.ledger.proofs.Storing.{drop-length, drop-malformed, drop-none, drop-goes, drop-done}

@@ -1,4 +1,4 @@
--- `ledger::find` meets its contract. Assumes nothing.
+-- `storing::find` meets its contract. Assumes nothing.
 use borrow.Author.Needs.{needs}
 use native.Mathlib.Omega.{arith}
 use Rattle.ledger.proofs.Looking.{begins}

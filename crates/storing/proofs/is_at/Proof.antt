@@ -1,4 +1,4 @@
--- `ledger::is_at` meets its contract. Assumes nothing.
+-- `storing::is_at` meets its contract. Assumes nothing.
 use native.Mathlib.Omega.{arith}
 use Rattle.ledger.proofs.Looking.{head-within, past, there-in, there}
 use borrow.Author.Needs.{needs}

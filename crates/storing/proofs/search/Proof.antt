@@ -1,4 +1,4 @@
--- `ledger::search` meets its contract. Assumes nothing.
+-- `storing::search` meets its contract. Assumes nothing.
 use native.Mathlib.Omega.{arith}
 use Rattle.halves.proofs.Searches.{searchable}
 use Rattle.ledger.specs.Routes.{routeHead, routeTail}

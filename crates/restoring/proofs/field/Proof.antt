@@ -1,9 +1,9 @@
--- `snapshot::field` meets its contract. Assumes nothing.
+-- `restoring::field` meets its contract. Assumes nothing.
 use mathlib.Core.Path.{_∙_}
 use Rattle.snapshot.proofs.Copying.{field-at}
 use borrow.Author.Needs.{needs}
-use Rattle.snapshot.proofs.field.Statement.{statement}
-use Rattle.snapshot.proofs.field.Tie as tie
+use Rattle.restoring.proofs.field.Statement.{statement}
+use Rattle.restoring.proofs.field.Tie as tie
 
 mul-word-at : tie.Need-mul-word-at
 mul-word-at c = search needs

@@ -1,9 +1,9 @@
--- `snapshot::load` meets its contract. Assumes nothing.
+-- `restoring::load` meets its contract. Assumes nothing.
 use Rattle.snapshot.proofs.Accepting.{told, denied}
 use Rattle.snapshot.proofs.Reading.{register-wrong, ledger-wrong, loaded}
 use borrow.Author.Needs.{needs}
-use Rattle.snapshot.proofs.load.Statement.{statement}
-use Rattle.snapshot.proofs.load.Tie as tie
+use Rattle.restoring.proofs.load.Statement.{statement}
+use Rattle.restoring.proofs.load.Tie as tie
 
 no-register-requires : tie.Need-no-register-requires
 no-register-requires c κs = search needs

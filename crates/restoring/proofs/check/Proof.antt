@@ -1,14 +1,14 @@
--- `snapshot::check` meets its contract. Assumes nothing.
+-- `restoring::check` meets its contract. Assumes nothing.
 use mathlib.Core.Path.{_≡_, sym, _∙_}
 use native.Mathlib.Omega.{arith}
 use lib.ListN.{length}
 use borrow.Author.Tests.{eq-eqb, ne-eqb, lt-ltb, le-ltb}
 use Rattle.types.specs.Rows.{firstGiven}
 use Rattle.snapshot.specs.Snapshot.{contentsBytes, edition, lengthIn}
 use Rattle.snapshot.proofs.Accepting.{told, denied}
 use borrow.Author.Needs.{needs}
-use Rattle.snapshot.proofs.check.Statement.{statement}
-use Rattle.snapshot.proofs.check.Tie as tie
+use Rattle.restoring.proofs.check.Statement.{statement}
+use Rattle.restoring.proofs.check.Tie as tie
 
 returns : tie.Need-returns
 unfolding firstGiven

@@ -1,9 +1,9 @@
--- `snapshot::is_length` meets its contract. Assumes nothing.
+-- `restoring::is_length` meets its contract. Assumes nothing.
 use borrow.Author.Tests.{lt-leb, le-leb, eq-eqb, ne-eqb}
 use borrow.Author.Needs.{needs}
 use Rattle.snapshot.specs.Snapshot.{lengthOk}
-use Rattle.snapshot.proofs.is_length.Statement.{statement}
-use Rattle.snapshot.proofs.is_length.Tie as tie
+use Rattle.restoring.proofs.is_length.Statement.{statement}
+use Rattle.restoring.proofs.is_length.Tie as tie
 
 returns : tie.Need-returns
 unfolding lengthOk

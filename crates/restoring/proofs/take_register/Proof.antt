@@ -1,17 +1,17 @@
--- `snapshot::take_register` meets its contract. Assumes nothing.
+-- `restoring::take_register` meets its contract. Assumes nothing.
 use mathlib.Core.Path.{ap, _∙_}
 use mathlib.Core.Bool.{_&&_}
 use native.Mathlib.Omega.{arith}
 use lib.Dec.{eqb}
 use lib.ListN.{length}
 use Rattle.register.specs.Register.{recordWidth, registerOk}
 use Rattle.snapshot.specs.Snapshot.{usedBytes}
 use Rattle.snapshot.proofs.Accepting.{cut}
 use Rattle.snapshot.proofs.Parts.{register-long}
 use Rattle.snapshot.proofs.Reading.{first-fits, register-unpacked}
 use borrow.Author.Needs.{needs}
-use Rattle.snapshot.proofs.take_register.Statement.{statement}
-use Rattle.snapshot.proofs.take_register.Tie as tie
+use Rattle.restoring.proofs.take_register.Statement.{statement}
+use Rattle.restoring.proofs.take_register.Tie as tie
 
 field-requires : tie.Need-field-requires
 field-requires c κs = (cut (c .before .before .args .file .now) (c .before .before .pre .0) .long, search needs)

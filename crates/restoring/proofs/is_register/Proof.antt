@@ -1,10 +1,10 @@
--- `snapshot::is_register` meets its contract. Assumes nothing.
+-- `restoring::is_register` meets its contract. Assumes nothing.
 use native.Mathlib.Omega.{arith}
 use Rattle.snapshot.proofs.Accepting.{told, denied}
 use Rattle.snapshot.proofs.Padding.{register-filled}
 use borrow.Author.Needs.{needs}
-use Rattle.snapshot.proofs.is_register.Statement.{statement}
-use Rattle.snapshot.proofs.is_register.Tie as tie
+use Rattle.restoring.proofs.is_register.Statement.{statement}
+use Rattle.restoring.proofs.is_register.Tie as tie
 
 is-register-requires : tie.Need-is-register-requires
 is-register-requires c κs = search needs

@@ -1,7 +1,7 @@
--- `snapshot::word_at` meets its contract. Assumes nothing.
+-- `restoring::word_at` meets its contract. Assumes nothing.
 use borrow.Author.Needs.{needs}
-use Rattle.snapshot.proofs.word_at.Statement.{statement}
-use Rattle.snapshot.proofs.word_at.Tie as tie
+use Rattle.restoring.proofs.word_at.Statement.{statement}
+use Rattle.restoring.proofs.word_at.Tie as tie
 
 shared-slice-read-wide : tie.Need-shared-slice-read-wide
 shared-slice-read-wide c = search needs

@@ -1,9 +1,9 @@
--- `snapshot::read` meets its contract. Assumes nothing.
+-- `restoring::read` meets its contract. Assumes nothing.
 use mathlib.Core.Path.{sym, _∙_}
 use Rattle.snapshot.proofs.Reading.{register-length-wrong, ledger-length-wrong, contents-refused, loadable}
 use borrow.Author.Needs.{needs}
-use Rattle.snapshot.proofs.read.Statement.{statement}
-use Rattle.snapshot.proofs.read.Tie as tie
+use Rattle.restoring.proofs.read.Statement.{statement}
+use Rattle.restoring.proofs.read.Tie as tie
 
 returns : tie.Need-returns
 returns c = register-length-wrong _ _ _ (c .if1 .taken)

@@ -1,14 +1,14 @@
--- `snapshot::are_contents` meets its contract. Assumes nothing.
+-- `restoring::are_contents` meets its contract. Assumes nothing.
 use Prim.Native.Nat.{_+_}
 use mathlib.Core.Path.{sym, ap, _∙_}
 use borrow.Author.Tests.{eq-eqb, ne-eqb}
 use Rattle.register.specs.Register.{registerWords}
 use Rattle.ledger.specs.Routes.{ledgerWords}
 use Rattle.snapshot.specs.Snapshot.{contentsBytes, lengthOk, contentsOk}
 use Rattle.snapshot.proofs.Accepting.{told, denied}
 use borrow.Author.Needs.{needs}
-use Rattle.snapshot.proofs.are_contents.Statement.{statement}
-use Rattle.snapshot.proofs.are_contents.Tie as tie
+use Rattle.restoring.proofs.are_contents.Statement.{statement}
+use Rattle.restoring.proofs.are_contents.Tie as tie
 
 field-requires : tie.Need-field-requires
 field-requires c κs = search needs

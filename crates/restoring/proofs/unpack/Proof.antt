@@ -1,11 +1,11 @@
--- `snapshot::unpack` meets its contract. Assumes nothing.
+-- `restoring::unpack` meets its contract. Assumes nothing.
 use Prim.Native.Nat.{_-_}
 use native.Mathlib.Omega.{arith}
 use lib.ListN.{length}
 use Rattle.snapshot.proofs.Copying.{Unpacking, unpack-begins, unpacks-on, unpack-ends}
 use borrow.Author.Needs.{needs}
-use Rattle.snapshot.proofs.unpack.Statement.{statement}
-use Rattle.snapshot.proofs.unpack.Tie as tie
+use Rattle.restoring.proofs.unpack.Statement.{statement}
+use Rattle.restoring.proofs.unpack.Tie as tie
 
 abbrev Inv-loop : tie.InvT-loop
 Inv-loop bytes into₀ at i₀ n₀ into i n = Unpacking bytes into₀ into at i n

@@ -1,10 +1,10 @@
--- `snapshot::is_ledger` meets its contract. Assumes nothing.
+-- `restoring::is_ledger` meets its contract. Assumes nothing.
 use native.Mathlib.Omega.{arith}
 use Rattle.snapshot.proofs.Accepting.{told, denied}
 use Rattle.snapshot.proofs.Padding.{ledger-filled}
 use borrow.Author.Needs.{needs}
-use Rattle.snapshot.proofs.is_ledger.Statement.{statement}
-use Rattle.snapshot.proofs.is_ledger.Tie as tie
+use Rattle.restoring.proofs.is_ledger.Statement.{statement}
+use Rattle.restoring.proofs.is_ledger.Tie as tie
 
 is-ledger-requires : tie.Need-is-ledger-requires
 is-ledger-requires c κs = search needs

@@ -1,17 +1,17 @@
--- `snapshot::take_ledger` meets its contract. Assumes nothing.
+-- `restoring::take_ledger` meets its contract. Assumes nothing.
 use mathlib.Core.Path.{ap, _∙_}
 use mathlib.Core.Bool.{_&&_}
 use native.Mathlib.Omega.{arith}
 use lib.Dec.{eqb}
 use lib.ListN.{length}
 use Rattle.ledger.specs.Routes.{routeWidth, ledgerOk}
 use Rattle.snapshot.specs.Snapshot.{usedBytes}
 use Rattle.snapshot.proofs.Accepting.{cut}
 use Rattle.snapshot.proofs.Parts.{ledger-long}
 use Rattle.snapshot.proofs.Reading.{second-fits, ledger-unpacked}
 use borrow.Author.Needs.{needs}
-use Rattle.snapshot.proofs.take_ledger.Statement.{statement}
-use Rattle.snapshot.proofs.take_ledger.Tie as tie
+use Rattle.restoring.proofs.take_ledger.Statement.{statement}
+use Rattle.restoring.proofs.take_ledger.Tie as tie
 
 field-requires : tie.Need-field-requires
 field-requires c κs = (cut (c .before .before .args .file .now) (c .before .before .pre .0) .long, search needs)
