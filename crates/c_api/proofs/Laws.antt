@@ -2,34 +2,21 @@
 use Prim.Native.Nat.{ℕ, _-_, _≤_}
 use mathlib.Core.Path.{_≡_, refl, sym, _∙_, ap}
 use mathlib.Core.Bool.{Bool, true, false}
-use mathlib.Core.List.{List, [], _∷_}
+use mathlib.Core.List.{List}
 use mathlib.Core.Option.{Option, none, some}
 use native.Mathlib.Omega.{arith}
 use borrow.Author.Tests.{not-false, eqb-true}
 use lib.Dec.{eqb}
 use Rattle.types.specs.declared.Origin.{Origin}
 use Rattle.types.specs.declared.Origin.the-variants.{Public, Overrides}
-use Rattle.types.specs.declared.Hop.{Hop}
-use Rattle.types.specs.declared.Hop.the-variants.{NoAttestation, ProviderPlus, NotProviderPlus}
-use Rattle.types.specs.declared.Hopped.{Hopped}
-use Rattle.types.specs.declared.Hopped.the-variants as hopped
-use Rattle.types.specs.declared.Verdict.{Verdict}
-use Rattle.types.specs.declared.Verdict.the-variants.{Valid, Invalid, Unknown}
-use Rattle.types.specs.declared.Fault.{Fault}
-use Rattle.types.specs.declared.Fault.the-variants.{CutShort, UnknownType, Confederation, NoNumbers, ZeroNumber}
 use Rattle.types.specs.declared.Refusal.{Refusal}
-use Rattle.types.specs.declared.Refusal.the-variants as refusal
-use Rattle.types.specs.declared.Filed.{Filed}
-use Rattle.types.specs.declared.Filed.the-variants as filed
 use Rattle.types.specs.declared.Cleared.{Cleared}
 use Rattle.types.specs.declared.Cleared.the-variants as cleared
-use Rattle.types.specs.declared.Judged.{Judged}
-use Rattle.types.specs.declared.Judged.the-variants as judged
 use Rattle.types.specs.declared.Rejudged.{Rejudged}
 use Rattle.types.specs.declared.Rejudged.the-variants as rejudged
 use Rattle.types.specs.declared.Written.{Written}
 use Rattle.types.specs.declared.Written.the-variants as written
-use Rattle.types.specs.Numbers.{verdictNumber, originNumber, verdictOf, faultNumber, refusalNumber}
+use Rattle.types.specs.Numbers.{originNumber}
 use Rattle.types.specs.Rows.{firstGiven, Effect, effect, unlessRefused}
 use Rattle.types.proofs.Refusing.{accepted-none, row-passed}
 use Rattle.register.specs.Register as register
@@ -46,73 +33,13 @@ use Rattle.filter.proofs.Tables.{rejudge-accepts}
 use Rattle.filter.proofs.Answers.{rejudge-accepted}
 use Rattle.filter.proofs.Rejudgings.{few-changed}
 use Rattle.snapshot.specs.Calls.{writeEffect}
-use Rattle.c_api.specs.Answers.{noVerdict, noHop, notFiled, noCount, noBytes, filedTold, clearedTold, rejudgedTold, judgedTold, hopWords, hoppedTold, partTold, writtenTold}
-use Rattle.c_api.specs.Laws.{Marks, RefusalLaws, registerOf, listAt, LeadsToList}
+use Rattle.told.specs.Answers.{noCount, noBytes, clearedTold, rejudgedTold, partTold, writtenTold}
+use Rattle.told.specs.Marks.{Marks}
+use Rattle.told.proofs.Marks.{refused, file-marks, gone-marks, changed-marks, judge-marks, hop-marks, bytes-marks}
+use Rattle.c_api.specs.Laws.{RefusalLaws, registerOf, listAt, LeadsToList}
 use Rattle.c_api.proofs.Tellings.{some-bytes}
 
--- ---- the word of a refusal, and any other
-
-fault-some : (f : Fault) → faultNumber f ≡ 0 → ⊥
-fault-some CutShort e = omega arith
-fault-some UnknownType e = omega arith
-fault-some Confederation e = omega arith
-fault-some NoNumbers e = omega arith
-fault-some ZeroNumber e = omega arith
-
--- The number of a refusal is not 0.
-number-some : (r : Refusal) → refusalNumber r ≡ 0 → ⊥
-number-some refusal.TableLength e = omega arith
-number-some refusal.RegisterMalformed e = omega arith
-number-some refusal.RoutesMalformed e = omega arith
-number-some refusal.SourceNumber e = omega arith
-number-some refusal.CustomerZero e = omega arith
-number-some refusal.ProviderList e = omega arith
-number-some refusal.NoRecord e = omega arith
-number-some refusal.RegisterFull e = omega arith
-number-some refusal.RoleNumber e = omega arith
-number-some refusal.NeighbourZero e = omega arith
-number-some refusal.AttributeLength e = omega arith
-number-some (refusal.Attribute f p) e = fault-some f e
-number-some refusal.PathLength e = omega arith
-number-some refusal.RouteTaken e = omega arith
-number-some refusal.NoRoute e = omega arith
-number-some refusal.RoutesFull e = omega arith
-number-some refusal.OutputLength e = omega arith
-number-some refusal.Edition e = omega arith
-number-some refusal.Contents e = omega arith
-number-some refusal.SnapshotLength e = omega arith
-
--- Only the first word counts.
-refused : {word : ℕ} (r : Refusal) → Marks word (refusalNumber r) (word ∷ [])
-refused r = (λ e. number-some r, λ h. refl)
-
-answered : {word x : ℕ} → (x ≡ word → ⊥) → Marks word 0 (x ∷ [])
-answered h = (λ e. absurd (h e), λ z. absurd (z refl))
-
--- ---- the calls
-
-file-marks : (f : Filed) → Marks notFiled (filedTold f .result) (filedTold f .words)
-file-marks filed.New = answered (λ e. omega arith)
-file-marks filed.Replaced = answered (λ e. omega arith)
-file-marks (filed.Refused r) = refused r
-
-no-verdict : (v : Verdict) → verdictNumber v ≡ noVerdict → ⊥
-no-verdict Valid e = omega arith
-no-verdict (Invalid c) e = omega arith
-no-verdict (Unknown a b) e = omega arith
-
-judge-marks : (j : Judged) → Marks noVerdict (judgedTold j .result) (judgedTold j .words)
-judge-marks (judged.Answered a) = answered (no-verdict (verdictOf a))
-judge-marks (judged.Refused r) = refused r
-
-no-hop : (h : Hop) → Marks noHop 0 (hopWords h)
-no-hop NoAttestation = answered (λ e. omega arith)
-no-hop (ProviderPlus o s) = answered (λ e. omega arith)
-no-hop (NotProviderPlus o) = answered (λ e. omega arith)
-
-hop-marks : (h : Hopped) → Marks noHop (hoppedTold h .result) (hoppedTold h .words)
-hop-marks (hopped.Answered h) = no-hop h
-hop-marks (hopped.Refused r) = refused r
+-- ---- the word of a refusal
 
 -- No more records go than the register has.
 gone-few : (reg : List ℕ) (source : ℕ) → firstGiven (clearRows reg source) ≡ none → countRecords source (recordsOf reg) ≤ mostRecords
@@ -131,7 +58,7 @@ clear-marks reg source = go (firstGiven (clearRows reg source)) refl
     go : (o : Option Refusal) → firstGiven (clearRows reg source) ≡ o
         → Marks noCount (clearedTold (unlessRefused o cleared.Refused reg done .answer) .result) (clearedTold (unlessRefused o cleared.Refused reg done .answer) .words)
     go (some r) e = refused r
-    go none e = answered (λ z. omega (arith, z, gone-few reg source e))
+    go none e = gone-marks (gone-few reg source e)
 
 rejudge-marks : (reg : Registers) (led : List ℕ)
     → Marks noCount (rejudgedTold (rejudgeEffect reg led .answer) .result) (rejudgedTold (rejudgeEffect reg led .answer) .words)
@@ -147,7 +74,7 @@ rejudge-marks reg led = go (rejudgeEffect reg led .answer) refl
         counted e = cc
 
     go : (a : Rejudged) → rejudgeEffect reg led .answer ≡ a → Marks noCount (rejudgedTold a .result) (rejudgedTold a .words)
-    go (rejudged.Changed n) e = answered (λ z. omega (arith, z, few-routes e))
+    go (rejudged.Changed n) e = changed-marks (few-routes e)
     go (rejudged.Refused r) e = refused r
 
 write-marks : (reg led output : List ℕ)
@@ -155,7 +82,7 @@ write-marks : (reg led output : List ℕ)
 write-marks reg led output = go (writeEffect reg led output .answer) refl
   where
     go : (a : Written) → writeEffect reg led output .answer ≡ a → Marks noBytes (writtenTold a .result) (writtenTold a .words)
-    go (written.Bytes n) e = answered (λ z. omega (arith, z, some-bytes reg led output n e))
+    go (written.Bytes n) e = bytes-marks (some-bytes reg led output n e)
     go (written.Refused r) e = refused r
 
 pub refusal-laws : RefusalLaws

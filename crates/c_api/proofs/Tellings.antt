@@ -1,40 +1,31 @@
--- A call's answer, matched and told in words. Assumes nothing.
-use Prim.Native.Nat.{ℕ, _-_, _≤_, _<_}
-use mathlib.Core.Path.{_≡_, refl, sym, _∙_, ap}
-use mathlib.Core.List.{List, [], _∷_}
+-- A call's answer, told in words. Assumes nothing.
+use Prim.Native.Nat.{ℕ, _≤_, _<_}
+use mathlib.Core.Path.{_≡_, refl, _∙_, ap}
+use mathlib.Core.List.{List}
 use mathlib.Core.Option.{some}
 use native.Mathlib.Omega.{arith}
-use borrow.Author.Tests.{ne-eqb}
-use lib.IntN.{ℤ}
-use Rattle.types.specs.declared.Origin.{Origin}
-use Rattle.types.specs.declared.Hop.{Hop}
-use Rattle.types.specs.declared.Hop.the-variants.{ProviderPlus}
 use Rattle.types.specs.declared.Place.{Place}
 use Rattle.types.specs.declared.Place.the-variants.{Nowhere, Byte}
 use Rattle.types.specs.declared.Refusal.{Refusal}
 use Rattle.types.specs.declared.Judged.{Judged}
 use Rattle.types.specs.declared.Judged.the-variants.{Answered, Refused}
+use Rattle.types.specs.declared.Written.{Written}
 use Rattle.types.specs.declared.Written.the-variants as written
 use Rattle.types.specs.declared.Restored.{Restored}
-use Rattle.types.specs.Numbers.{originNumber, refusalPlace}
+use Rattle.types.specs.Numbers.{refusalPlace}
 use Rattle.types.specs.Rows.{Effect, effect}
 use Rattle.rules.specs.Judging.{mostBytes, refusalIn}
-use Rattle.registers.specs.declared.Part.{Part}
 use Rattle.registers.specs.Registers.{Registers}
 use Rattle.filter.specs.Calls.{Keeping, judgeAnswer, keepEffect}
 use Rattle.filter.proofs.Places.{place-within, judge-placed, keep-placed}
 use Rattle.snapshot.specs.Calls.{writeEffect, reading, Reading}
 use Rattle.snapshot.proofs.Laws.{snapshot-laws}
-use Rattle.c_api.specs.Answers.{toldRoute, toldTables, placeWord, telling, hopWords, partTold, restoredTold, readingTold}
-use Rattle.c_api.specs.Helpers.{placeIn}
+use Rattle.told.specs.Answers.{toldTables, placeWord, telling, restoredTold, readingTold}
+use Rattle.told.specs.Helpers.{placeIn, bytesIn}
 
--- The answer a is what the step s answers, and it matched v: so what is told of v is told of s.
-pub tells : {A X : Type 0} (tell : A → X) {a v : A} {s : Effect A} {ws : List ℕ} {x : X} → effect a ws ≡ s → a ≡ v → x ≡ tell v → effect x ws ≡ telling tell s
-tells tell {ws = ws} e matched t = ap (λ y. effect y ws) (t ∙ ap tell (sym matched)) ∙ ap (telling tell) e
-
--- What is told of a judging, part by part.
-pub routed : {r r′ : ℕ} {ws ws′ : List ℕ} {g g′ : ℤ} → r ≡ r′ → ws ≡ ws′ → g ≡ g′ → toldRoute r ws g ≡ toldRoute r′ ws′ g′
-routed p q h = λ i. toldRoute (p i) (q i) (h i)
+-- The answer a is what the step s answers: so what is told of a is told of s.
+pub tells : {A X : Type 0} (tell : A → X) {a : A} {s : Effect A} {ws : List ℕ} {x : X} → effect a ws ≡ s → x ≡ tell a → effect x ws ≡ telling tell s
+tells tell {ws = ws} e t = ap (λ y. effect y ws) t ∙ ap (telling tell) e
 
 -- A place that is told is below the most bytes, if every place of a refusal is.
 place-below : (j : Judged) → ((r : Refusal) → refusalIn j ≡ some r → (p : ℕ) → refusalPlace r ≡ Byte p → p < mostBytes) → placeIn j < mostBytes
@@ -58,25 +49,23 @@ keep-below reg led k =
 -- ---- Write and Read
 
 -- As `tells`, of a call that changes two tables.
-pub tells-reading : {a v : Restored} {e : Reading} {reg led : List ℕ} {x : ℕ} → reading a reg led ≡ e → a ≡ v → x ≡ restoredTold v
+pub tells-reading : {a : Restored} {e : Reading} {reg led : List ℕ} {x : ℕ} → reading a reg led ≡ e → x ≡ restoredTold a
     → toldTables x reg led ≡ readingTold e
-tells-reading {reg = reg} {led = led} e matched t = ap (λ y. toldTables y reg led) (t ∙ ap restoredTold (sym matched)) ∙ ap readingTold e
+tells-reading {reg = reg} {led = led} e t = ap (λ y. toldTables y reg led) t ∙ ap readingTold e
 
 module _ (reg led output : List ℕ) (n : ℕ) (h : writeEffect reg led output .answer ≡ written.Bytes n) where
-  -- A word holds the length that Write answers.
-  pub few-bytes : n ≤ 100388
+  -- The length that Write answers is no more than that of full tables.
+  few-bytes : n ≤ 100388
   few-bytes = let w = snapshot-laws .write .accepted-formed reg led output n h in omega (arith, w .1, snapshot-laws .write .most reg led (w .0))
 
   -- It is not 0.
   pub some-bytes : 36 ≤ n
   some-bytes = let w = snapshot-laws .write .accepted-formed reg led output n h in omega (arith, w .1, snapshot-laws .write .least reg led (w .0))
 
--- ---- Hop and the look-up
-
--- A Provider+, told.
-pub plus-told : {h : Hop} {o : Origin} {s n : ℕ} → h ≡ ProviderPlus o s → n ≡ originNumber o → 1 ∷ n ∷ s ∷ [] ≡ hopWords h
-plus-told e q = rw (e, q)
-
--- A part that is not empty, told.
-pub part-told : (p : Part) {n : ℕ} → (p .from ≡ p .to → ⊥) → n ≡ originNumber (p .origin) → n ∷ p .from ∷ ((p .to - p .from) ∷ []) ≡ partTold p
-part-told p h q = rw (ne-eqb (p .from) (p .to) h, q)
+-- A word holds it.
+pub write-below : (reg led output : List ℕ) → bytesIn (writeEffect reg led output .answer) < 4294967296
+write-below reg led output = go (writeEffect reg led output .answer) refl
+  where
+    go : (a : Written) → writeEffect reg led output .answer ≡ a → bytesIn a < 4294967296
+    go (written.Bytes n) e = let h = few-bytes reg led output n e in omega (arith, h)
+    go (written.Refused r) e = omega arith

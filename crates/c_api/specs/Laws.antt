@@ -4,7 +4,6 @@ use Prim.Native.Nat.{ℕ}
 use mathlib.Core.Path.{_≡_}
 use mathlib.Core.Bool.{cond}
 use mathlib.Core.List.{List, []}
-use mathlib.Core.Logic.{_↔_}
 use lib.Dec.{eqb}
 use lib.ListN.{getD, take, drop}
 use Rattle.types.specs.declared.Origin.the-variants.{Public, Overrides}
@@ -16,11 +15,8 @@ use Rattle.types.specs.Numbers.{originNumber}
 use Rattle.registers.specs.Registers.{Registers}
 use Rattle.filter.specs.Calls.{rejudgeEffect, lookupPart, lookupList}
 use Rattle.snapshot.specs.Calls.{writeEffect}
-use Rattle.c_api.specs.Answers.{noVerdict, noHop, notFiled, noCount, noBytes, filedTold, clearedTold, rejudgedTold, judgedTold, hoppedTold, partTold, writtenTold}
-
--- The first word is this one exactly when the result is not 0.
-abbrev pub Marks : ℕ → ℕ → List ℕ → Type 0
-Marks word result words = (getD words 0 0 ≡ word) ↔ (result ≡ 0 → ⊥)
+use Rattle.told.specs.Answers.{noVerdict, noHop, notFiled, noCount, noBytes, filedTold, clearedTold, rejudgedTold, judgedTold, hoppedTold, partTold, writtenTold}
+use Rattle.told.specs.Marks.{Marks}
 
 pub record RefusalLaws : Type 0 where
   -- File, whatever it answers.

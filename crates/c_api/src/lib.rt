@@ -1,125 +1,19 @@
-// The calls for C: tables as a pointer and a length, the refusal's number as the result (0: not refused), the answer in words.
-use registers::Part;
-use types::Answer;
+// The calls for C: tables as a pointer and a length, the answer as crate `told` tells it.
+use told::ANSWER_WORDS;
+use told::HOP_WORDS;
+use told::PART_WORDS;
 use types::AsNumber;
-use types::Cleared;
-use types::Filed;
-use types::Hop;
-use types::Hopped;
-use types::Judged;
-use types::Place;
-use types::Refusal;
-use types::Rejudged;
-use types::Removal;
-use types::Restored;
 use types::RouteNumber;
-use types::Verdict;
-use types::Written;
-ghost use Prim.Native.Nat.{_≤_, _<_};
 ghost use mathlib.Core.Path.{_≡_};
-ghost use mathlib.Core.List.{[], _∷_};
-ghost use Rattle.types.specs.Numbers.{refusalNumber, refusalPlace};
 ghost use Rattle.types.specs.Rows.{effect};
-ghost use Rattle.rules.specs.Judging.{mostBytes};
 ghost use Rattle.register.specs.Calls.{fileEffect, withdrawEffect, clearEffect};
 ghost use Rattle.ledger.specs.Calls.{dropEffect};
-ghost use Rattle.register.specs.Register.{registerWords};
 ghost use Rattle.registers.specs.Registers.{lent};
 ghost use Rattle.filter.specs.Calls.{judgeAnswer, keeping, keepEffect, rejudgeEffect, hopAnswer, lookupPart};
 ghost use Rattle.snapshot.specs.Calls.{writeEffect, readEffect};
-ghost use Rattle.c_api.specs.Answers.{told, toldRoute, toldTables, telling, placeWord, verdictWords};
-ghost use Rattle.c_api.specs.Answers.{filedTold, removalTold, clearedTold, rejudgedTold, judgedTold, writtenTold, readingTold};
-ghost use Rattle.c_api.specs.Answers.{hopWords, hoppedTold, partTold};
-ghost use Rattle.c_api.specs.Helpers.{placeIn};
-
-// The words of an answer to Judge or Keep: verdict, ground, place a, place b, whether a gap is given, the place of a refusal, the registers of the
-// hops at a and at b.
-pub const ANSWER_WORDS: usize = 8;
-
-// Of an answer to Hop: the hop, its register, its source.
-pub const HOP_WORDS: usize = 3;
-
-// Of a look-up: the register, where the list starts there, how many numbers it has.
-pub const PART_WORDS: usize = 3;
-
-// What a refused call writes, which no answer has: in place of a verdict,
-const NO_VERDICT: u32 = 3;
-
-// of a hop,
-const NO_HOP: u32 = 3;
-
-// of new or replaced,
-const NOT_FILED: u32 = 2;
-
-// of a count,
-const NO_COUNT: u32 = 4294967295;
-
-// and of a file's length: whoever takes it for one nevertheless goes past no end.
-const NO_BYTES: u32 = 0;
-
-// In place of a source where a hop names none.
-const NO_SOURCE: u32 = 8;
-
-// The place of a refusal, 0 if it has none. Every place is below the most bytes of an attribute, so the word holds it.
-fn place_word(r: Refusal) -> u32
-    requires { ⌜ placeWord (refusalPlace r) < mostBytes ⌝ }
-    ensures { λ p. ⌜ p ≡ placeWord (refusalPlace r) ⌝ }
-{
-    match r.place() {
-        Place::Nowhere => 0,
-        Place::Byte(p) => p as u32,
-    }
-}
-
-// The words of a verdict.
-fn verdict_words(v: Verdict, given: u32, out: &mut [u32; ANSWER_WORDS])
-    ensures { λ _. ⌜ now (out .exit) ≡ verdictWords v given ⌝ }
-{
-    *out = [
-        v.number(),
-        v.ground(),
-        v.place_a(),
-        v.place_b(),
-        given,
-        0,
-        v.origin_a(),
-        v.origin_b(),
-    ];
-}
-
-// A judging's answer, told in words.
-fn tell(j: Judged, out: &mut [u32; ANSWER_WORDS], gap: &mut i32) -> u32
-    requires { ⌜ placeIn j < mostBytes ⌝ }
-    ensures { λ r. ⌜ toldRoute r (now (out .exit)) (now (gap .exit)) ≡ judgedTold j ⌝ }
-{
-    match j {
-        Judged::Answered(a) => match a {
-            Answer::Plain(v) => {
-                *gap = 0;
-                verdict_words(v, 0, out);
-                0
-            }
-            Answer::WithGap(v, g) => {
-                *gap = g;
-                verdict_words(v, 1, out);
-                0
-            }
-        },
-        Judged::Refused(r) => {
-            *gap = 0;
-            *out = [NO_VERDICT, 0, 0, 0, 0, place_word(r), 0, 0];
-            r.number()
-        }
-    }
-}
-
-// A refusal, with the word that stands for no answer.
-fn refused(r: Refusal, word: u32, out: &mut [u32; 1]) -> u32
-    ensures { λ n. ⌜ told n (now (out .exit)) ≡ told (refusalNumber r) (word ∷ []) ⌝ }
-{
-    *out = [word];
-    r.number()
-}
+ghost use Rattle.told.specs.Answers.{told, toldRoute, toldTables, telling};
+ghost use Rattle.told.specs.Answers.{filedTold, removalTold, clearedTold, rejudgedTold, judgedTold, writtenTold, readingTold};
+ghost use Rattle.told.specs.Answers.{hoppedTold, partTold};
 
 // File: out[0] is 0 for new, 1 for replaced, NOT_FILED on a refusal. Rows 1, 2, 4, 5, 6, 8.
 #[no_mangle]
@@ -133,17 +27,10 @@ pub extern "C" fn aspa_file(
     ensures { λ r. ⌜ effect (told r (now (out .exit))) (now (register .exit))
         ≡ telling filedTold (fileEffect (now (register .entry)) source customer (now (providers .entry))) ⌝ }
 {
-    match filter::file(register, source, AsNumber(customer), providers) {
-        Filed::New => {
-            *out = [0];
-            0
-        }
-        Filed::Replaced => {
-            *out = [1];
-            0
-        }
-        Filed::Refused(r) => refused(r, NOT_FILED, out),
-    }
+    told::tell_filed(
+        filter::file(register, source, AsNumber(customer), providers),
+        out,
+    )
 }
 
 // Withdraw. Rows 1, 2, 4, 5, 7.
@@ -151,10 +38,7 @@ pub extern "C" fn aspa_file(
 pub extern "C" fn aspa_withdraw(register: &mut [u32], source: u32, customer: u32) -> u32
     ensures { λ r. ⌜ effect r (now (register .exit)) ≡ telling removalTold (withdrawEffect (now (register .entry)) source customer) ⌝ }
 {
-    match filter::withdraw(register, source, AsNumber(customer)) {
-        Removal::Done => 0,
-        Removal::Refused(r) => r.number(),
-    }
+    told::tell_removal(filter::withdraw(register, source, AsNumber(customer)))
 }
 
 // Clear: out[0] is how many records went, NO_COUNT on a refusal. Rows 1, 2, 4.
@@ -163,13 +47,7 @@ pub extern "C" fn aspa_clear(register: &mut [u32], source: u32, out: &mut [u32; 
     ensures { λ r. ⌜ effect (told r (now (out .exit))) (now (register .exit))
         ≡ telling clearedTold (clearEffect (now (register .entry)) source) ⌝ }
 {
-    match filter::clear(register, source) {
-        Cleared::Gone(n) => {
-            *out = [n];
-            0
-        }
-        Cleared::Refused(r) => refused(r, NO_COUNT, out),
-    }
+    told::tell_cleared(filter::clear(register, source), out)
 }
 
 // Judge: the answer's words in out, the gap beside them; NO_VERDICT and the place on a refusal. Rows 1, 2, 9, 10, 11, 12 to 16, 17.
@@ -186,7 +64,7 @@ pub extern "C" fn aspa_judge<'a>(
     ensures { λ r. ⌜ toldRoute r (now (out .exit)) (now (gap .exit))
         ≡ judgedTold (judgeAnswer (lent (now (public .entry)) (now (overrides .entry))) role neighbour (now (attribute .entry))) ⌝ }
 {
-    tell(
+    told::tell(
         filter::judge(public, overrides, role, AsNumber(neighbour), attribute),
         out,
         gap,
@@ -210,7 +88,7 @@ pub extern "C" fn aspa_keep<'a>(
         ≡ telling judgedTold (keepEffect (lent (now (public .entry)) (now (overrides .entry))) (now (ledger .entry))
         (keeping number role neighbour (now (attribute .entry)))) ⌝ }
 {
-    tell(
+    told::tell(
         filter::keep(
             public,
             overrides,
@@ -230,10 +108,7 @@ pub extern "C" fn aspa_keep<'a>(
 pub extern "C" fn aspa_drop(ledger: &mut [u32], number: u32) -> u32
     ensures { λ r. ⌜ effect r (now (ledger .exit)) ≡ telling removalTold (dropEffect (now (ledger .entry)) number) ⌝ }
 {
-    match filter::drop(ledger, RouteNumber(number)) {
-        Removal::Done => 0,
-        Removal::Refused(r) => r.number(),
-    }
+    told::tell_removal(filter::drop(ledger, RouteNumber(number)))
 }
 
 // Re-judge: out[0] is how many routes changed, NO_COUNT on a refusal. Rows 1, 2, 3.
@@ -247,30 +122,7 @@ pub extern "C" fn aspa_rejudge<'a>(
     ensures { λ r. ⌜ effect (told r (now (out .exit))) (now (ledger .exit))
         ≡ telling rejudgedTold (rejudgeEffect (lent (now (public .entry)) (now (overrides .entry))) (now (ledger .entry))) ⌝ }
 {
-    match filter::rejudge(public, overrides, ledger) {
-        Rejudged::Changed(n) => {
-            *out = [n];
-            0
-        }
-        Rejudged::Refused(r) => refused(r, NO_COUNT, out),
-    }
-}
-
-// The words of a hop.
-fn hop_words(hop: Hop, out: &mut [u32; HOP_WORDS])
-    ensures { λ _. ⌜ now (out .exit) ≡ hopWords hop ⌝ }
-{
-    match hop {
-        Hop::NoAttestation => {
-            *out = [0, 0, NO_SOURCE];
-        }
-        Hop::ProviderPlus(o, source) => {
-            *out = [1, o.number(), source];
-        }
-        Hop::NotProviderPlus(o) => {
-            *out = [2, o.number(), NO_SOURCE];
-        }
-    }
+    told::tell_rejudged(filter::rejudge(public, overrides, ledger), out)
 }
 
 // Hop: out is the hop, the number of its register and its source; NO_HOP on a refusal. Rows 1, 2.
@@ -284,31 +136,10 @@ pub extern "C" fn aspa_hop<'a>(
 ) -> u32
     ensures { λ r. ⌜ told r (now (out .exit)) ≡ hoppedTold (hopAnswer (lent (now (public .entry)) (now (overrides .entry))) x y) ⌝ }
 {
-    match filter::hop(public, overrides, AsNumber(x), AsNumber(y)) {
-        Hopped::Answered(h) => {
-            hop_words(h, out);
-            0
-        }
-        Hopped::Refused(r) => {
-            *out = [NO_HOP, 0, NO_SOURCE];
-            r.number()
-        }
-    }
-}
-
-// The words of a part; all 0 where it is empty.
-fn part_words(part: Part, out: &mut [u32; PART_WORDS])
-    requires { ⌜ (part .from ≤ part .to) × (part .to ≤ registerWords) ⌝ }
-    ensures { λ _. ⌜ now (out .exit) ≡ partTold part ⌝ }
-{
-    let origin = part.origin;
-    let from = part.from;
-    let to = part.to;
-    if from == to {
-        *out = [0, 0, 0];
-    } else {
-        *out = [origin.number(), from as u32, (to - from) as u32];
-    }
+    told::tell_hopped(
+        filter::hop(public, overrides, AsNumber(x), AsNumber(y)),
+        out,
+    )
 }
 
 // Look-up: out is the number of the register that the source's list for the customer stands in, where it starts there and how many numbers it has;
@@ -323,8 +154,10 @@ pub extern "C" fn aspa_lookup<'a>(
 )
     ensures { λ _. ⌜ now (out .exit) ≡ partTold (lookupPart (lent (now (public .entry)) (now (overrides .entry))) source customer) ⌝ }
 {
-    let part = filter::find_list(public, overrides, source, AsNumber(customer));
-    part_words(part, out);
+    told::part_words(
+        filter::find_list(public, overrides, source, AsNumber(customer)),
+        out,
+    );
 }
 
 // Write: the file of the register and the ledger goes to the start of the output. out[0] is its length in bytes, NO_BYTES on a refusal. Rows 1, 2, 3, 21.
@@ -338,14 +171,7 @@ pub extern "C" fn aspa_write(
     ensures { λ r. ⌜ effect (told r (now (out .exit))) (now (output .exit))
         ≡ telling writtenTold (writeEffect (now (register .entry)) (now (ledger .entry)) (now (output .entry))) ⌝ }
 {
-    match snapshot::write(register, ledger, output) {
-        Written::Bytes(n) => {
-            let bytes = n as u32;
-            *out = [bytes];
-            0
-        }
-        Written::Refused(r) => refused(r, NO_BYTES, out),
-    }
+    told::tell_written(snapshot::write(register, ledger, output), out)
 }
 
 // Read: both tables get the words of the file. Rows 1, 24 of a file under 20 bytes, 22, 23, 24, 2, 3.
@@ -354,8 +180,5 @@ pub extern "C" fn aspa_read(file: &[u8], register: &mut [u32], ledger: &mut [u32
     ensures { λ r. ⌜ toldTables r (now (register .exit)) (now (ledger .exit))
         ≡ readingTold (readEffect (now (file .entry)) (now (register .entry)) (now (ledger .entry))) ⌝ }
 {
-    match restoring::read(file, register, ledger) {
-        Restored::Done => 0,
-        Restored::Refused(r) => r.number(),
-    }
+    told::tell_restored(restoring::read(file, register, ledger))
 }

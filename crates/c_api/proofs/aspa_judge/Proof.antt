@@ -1,6 +1,6 @@
 -- `c_api::aspa_judge` meets its contract. Assumes nothing.
 use mathlib.Core.Path.{_∙_, ap}
-use Rattle.c_api.specs.Answers.{judgedTold}
+use Rattle.told.specs.Answers.{judgedTold}
 use Rattle.c_api.proofs.Tellings.{judge-below}
 use borrow.Author.Needs.{needs}
 use Rattle.c_api.proofs.aspa_judge.Statement.{statement}

@@ -1,6 +1,6 @@
 -- `c_api::aspa_keep` meets its contract. Assumes nothing.
-use mathlib.Core.Path.{refl, ap}
-use Rattle.c_api.specs.Answers.{judgedTold}
+use mathlib.Core.Path.{ap}
+use Rattle.told.specs.Answers.{judgedTold}
 use Rattle.c_api.proofs.Tellings.{tells, keep-below}
 use borrow.Author.Needs.{needs}
 use Rattle.c_api.proofs.aspa_keep.Statement.{statement}
@@ -17,7 +17,7 @@ same-length c = search needs
 
 returns : tie.Need-returns
 returns c = let t = c .tell .ensures in let e = c .before .before .before .before .before .keep .ensures in
-    tells judgedTold e refl t
+    tells judgedTold e t
 
 pub aspa-keep-spec : {M : Type 1} → statement M
 aspa-keep-spec = tie.close (tie.spec keep-requires tell-requires same-length returns)

@@ -1,13 +1,13 @@
--- `c_api::tell` meets its contract. Assumes nothing.
+-- `told::tell` meets its contract. Assumes nothing.
 use mir.ValLaws.{toZ-ofZ}
 use mir.Syntax.{w32}
 use mathlib.Core.Path.{refl, ap}
 use mathlib.Core.List.{[], _∷_}
-use Rattle.c_api.proofs.Tellings.{routed}
-use Rattle.c_api.specs.Answers.{noVerdict}
+use Rattle.told.proofs.Tellings.{routed}
+use Rattle.told.specs.Answers.{noVerdict}
 use borrow.Author.Needs.{needs}
-use Rattle.c_api.proofs.tell.Statement.{statement}
-use Rattle.c_api.proofs.tell.Tie as tie
+use Rattle.told.proofs.tell.Statement.{statement}
+use Rattle.told.proofs.tell.Tie as tie
 
 enum-known-j : tie.Need-enum-known-j
 enum-known-j c = search needs

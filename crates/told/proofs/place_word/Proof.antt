@@ -1,10 +1,10 @@
--- `c_api::place_word` meets its contract. Assumes nothing.
+-- `told::place_word` meets its contract. Assumes nothing.
 use mathlib.Core.Path.{sym, _∙_, ap}
-use Rattle.c_api.specs.Answers.{placeWord}
+use Rattle.told.specs.Answers.{placeWord}
 use native.Mathlib.Omega.{arith}
 use borrow.Author.Needs.{needs}
-use Rattle.c_api.proofs.place_word.Statement.{statement}
-use Rattle.c_api.proofs.place_word.Tie as tie
+use Rattle.told.proofs.place_word.Statement.{statement}
+use Rattle.told.proofs.place_word.Tie as tie
 
 place-requires : tie.Need-place-requires
 place-requires c κs = search needs

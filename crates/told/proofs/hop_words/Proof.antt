@@ -1,11 +1,11 @@
--- `c_api::hop_words` meets its contract. Assumes nothing.
+-- `told::hop_words` meets its contract. Assumes nothing.
 use mathlib.Core.List.{[], _∷_}
 use mathlib.Core.Path.{ap}
 use borrow.Author.Needs.{needs}
-use Rattle.c_api.specs.Answers.{noSource}
-use Rattle.c_api.proofs.Tellings.{plus-told}
-use Rattle.c_api.proofs.hop_words.Statement.{statement}
-use Rattle.c_api.proofs.hop_words.Tie as tie
+use Rattle.told.specs.Answers.{noSource}
+use Rattle.told.proofs.Tellings.{plus-told}
+use Rattle.told.proofs.hop_words.Statement.{statement}
+use Rattle.told.proofs.hop_words.Tie as tie
 
 enum-told : tie.Need-enum-told
 enum-told c = search needs

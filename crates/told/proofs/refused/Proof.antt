@@ -1,7 +1,7 @@
--- `c_api::refused` meets its contract. Assumes nothing.
+-- `told::refused` meets its contract. Assumes nothing.
 use borrow.Author.Needs.{needs}
-use Rattle.c_api.proofs.refused.Statement.{statement}
-use Rattle.c_api.proofs.refused.Tie as tie
+use Rattle.told.proofs.refused.Statement.{statement}
+use Rattle.told.proofs.refused.Tie as tie
 
 number-requires : tie.Need-number-requires
 number-requires c κs = search needs

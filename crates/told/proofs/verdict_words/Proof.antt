@@ -1,8 +1,8 @@
--- `c_api::verdict_words` meets its contract. Assumes nothing.
+-- `told::verdict_words` meets its contract. Assumes nothing.
 use mathlib.Core.List.{[], _∷_}
 use borrow.Author.Needs.{needs}
-use Rattle.c_api.proofs.verdict_words.Statement.{statement}
-use Rattle.c_api.proofs.verdict_words.Tie as tie
+use Rattle.told.proofs.verdict_words.Statement.{statement}
+use Rattle.told.proofs.verdict_words.Tie as tie
 
 number-requires : tie.Need-number-requires
 number-requires c κs = search needs

@@ -1,9 +1,9 @@
--- `c_api::part_words` meets its contract. Assumes nothing.
+-- `told::part_words` meets its contract. Assumes nothing.
 use borrow.Author.Needs.{needs}
 use borrow.Author.Tests.{eq-eqb}
-use Rattle.c_api.proofs.Tellings.{part-told}
-use Rattle.c_api.proofs.part_words.Statement.{statement}
-use Rattle.c_api.proofs.part_words.Tie as tie
+use Rattle.told.proofs.Tellings.{part-told}
+use Rattle.told.proofs.part_words.Statement.{statement}
+use Rattle.told.proofs.part_words.Tie as tie
 
 number-requires : tie.Need-number-requires
 number-requires c κs = search needs

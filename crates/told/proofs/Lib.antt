@@ -1,0 +1,2 @@
+pub mod Tellings
+pub mod Marks
