@@ -6,8 +6,9 @@ use mathlib.Core.List.{List}
 use Rattle.text.specs.Ascii.{ascii}
 use Rattle.text.specs.Bytes.{sameBytes}
 use Rattle.types.specs.declared.Origin.the-variants as origin
-use Rattle.commands.specs.declared.Named.the-variants.{Register, Overrides, Ledger, Neither}
-use Rattle.commands.specs.Commands.{is, namedBy, fileCommand, withdrawCommand, clearCommand, judgeCommand, keepCommand, dropCommand, rejudgeCommand, hopCommand, lookupCommand, readCommand, writeCommand, showCommand, pokeCommand, resizeCommand, wordsCommand, emptyCommand, lookCommand, askCommand, overridesCommand, snapshotCommand, routeCommand, lentCommand, commandOf}
+use Rattle.calls.specs.declared.Named.the-variants.{Register, Overrides, Ledger, Neither}
+use Rattle.calls.specs.Commands.{namedBy, fileCommand, withdrawCommand, clearCommand, judgeCommand, keepCommand, dropCommand, rejudgeCommand, hopCommand, lookupCommand, readCommand, writeCommand, showCommand, pokeCommand, resizeCommand, wordsCommand, emptyCommand}
+use Rattle.commands.specs.Commands.{is, lookCommand, askCommand, overridesCommand, snapshotCommand, routeCommand, lentCommand, commandOf}
 
 module _ (word : List ℕ) where
   pub names-register : sameBytes word (ascii "register") ≡ true → Register ≡ namedBy word

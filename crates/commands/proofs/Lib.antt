@@ -1,4 +1,3 @@
-pub mod Parsing
 pub mod Choosing
 pub mod Setting
 pub mod ReadingBack

@@ -1,17 +1,17 @@
 -- What `write` prints is read back. Assumes nothing.
-use Prim.Native.Nat.{ℕ, _+_, _/_, _%_, _<_}
+use Prim.Native.Nat.{ℕ, _+_, _/_, _%_}
 use mathlib.Core.Path.{_≡_, refl, ap, _∙_}
 use mathlib.Core.Bool.{Bool, true, false, cond}
 use mathlib.Core.List.{List, [], _∷_, _++_}
 use native.Mathlib.Omega.{arith}
 use lib.Dec.{ltb, eqb}
-use lib.ListN.{length}
 use borrow.Author.Tests.{ne-eqb}
 use Rattle.text.specs.Ascii.{ascii}
-use Rattle.text.specs.Bytes.{allBytes, sameBytes, hexDigit, hexText}
+use Rattle.text.specs.Bytes.{sameBytes, hexDigit, hexText}
 use Rattle.text.proofs.HexTexts.{hex-laws}
 use Rattle.lines.specs.Words.{split, wordsOf}
-use Rattle.commands.specs.Commands.{read, ofWords, withBytes, commandOf, lentCommand, routeCommand, snapshotCommand}
+use Rattle.calls.specs.Commands.{read, ofWords, withBytes}
+use Rattle.commands.specs.Commands.{commandOf, lentCommand, routeCommand, snapshotCommand}
 use Rattle.commands.specs.Laws.{ReadsBack}
 
 -- A digit is no space.

@@ -5,8 +5,8 @@ use mathlib.Core.List.{List}
 use borrow.Author.Tests.{lt-ltb, le-ltb}
 use lib.ListN.{length, set}
 use lib.Seq.{set-out}
-use Rattle.commands.specs.declared.Reply.the-variants.{Done, Error}
-use Rattle.commands.specs.Performing.{pokeReply}
+use Rattle.calls.specs.declared.Reply.the-variants.{Done, Error}
+use Rattle.calls.specs.Performing.{pokeReply}
 
 pub pokes : (table : List ℕ) (index : ℕ) → index < length table → Done ≡ pokeReply table index
 pokes table index h = rw (lt-ltb index (length table) h) refl

@@ -7,7 +7,8 @@ use lib.ListN.{length}
 use Rattle.text.specs.Ascii.{ascii}
 use Rattle.text.specs.Bytes.{allBytes, hexText}
 use Rattle.lines.specs.Words.{wordsOf}
-use Rattle.commands.specs.Commands.{read, commandOf}
+use Rattle.calls.specs.Commands.{read}
+use Rattle.commands.specs.Commands.{commandOf}
 
 -- A line of `read` and bytes as `write` prints them asks for a reading of those bytes.
 abbrev pub ReadsBack : Type 0

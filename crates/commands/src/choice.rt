@@ -1,17 +1,16 @@
 // The command of a line of n words, found by its first word, on the tables as they are lent.
-use crate::Named;
-use crate::Reply;
-use crate::calls;
 use crate::tables;
+use calls::Named;
+use calls::Reply;
 use text::Number;
 use types::Origin;
 ghost use mathlib.Core.Path.{_≡_};
 ghost use Prim.Native.Nat.{_≤_};
 ghost use lib.ListN.{length};
 ghost use Rattle.lines.specs.Words.{wordsOf, wordAt};
-ghost use Rattle.commands.specs.Commands.{mostLine, namedBy, showCommand, pokeCommand, wordsCommand};
+ghost use Rattle.calls.specs.Commands.{mostLine, namedBy, showCommand, pokeCommand, wordsCommand};
 ghost use Rattle.commands.specs.Commands.{lookCommand, askCommand, overridesCommand, snapshotCommand, routeCommand, lentCommand};
-ghost use Rattle.commands.specs.Performing.{result, performedOn};
+ghost use Rattle.calls.specs.Performing.{result, performedOn};
 
 pub fn named(line: &[u8], k: usize) -> Named
     ensures { λ r. ⌜ r ≡ namedBy (wordAt (now (line .entry)) k) ⌝ }

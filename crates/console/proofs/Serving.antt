@@ -6,12 +6,12 @@ use native.Mathlib.Omega.{arith}
 use borrow.Author.Tests.{ne-eqb}
 use lib.ListN.{length, take, drop, length-drop, drop-of-length-le, replicate}
 use lib.Seq.{take-all, drop-drop}
-use Rattle.commands.specs.Commands.{mostLine}
+use Rattle.calls.specs.Commands.{mostLine}
 use Rattle.register.specs.Register.{registerWords}
 use Rattle.ledger.specs.Routes.{ledgerWords}
 use Rattle.protocol.specs.declared.State.{State}
 use Rattle.protocol.specs.declared.Lent.{Lent}
-use Rattle.commands.specs.Commands.{mostLent}
+use Rattle.calls.specs.Commands.{mostLent}
 use Rattle.protocol.specs.Feeding.{Session, fed, fedBytes, HeldAll, lentTables, lineIn, mostText, Ready}
 use Rattle.protocol.specs.Sessions.{fedAll}
 use Rattle.protocol.proofs.Feedings.{some-used}

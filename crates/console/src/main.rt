@@ -7,7 +7,7 @@ ghost use mathlib.Core.Path.{_≡_};
 ghost use mathlib.Core.Bool.{true};
 ghost use Prim.Native.Nat.{_+_, _≤_, _<_};
 ghost use lib.ListN.{length, drop, replicate};
-ghost use Rattle.commands.specs.Commands.{mostLine, mostLent};
+ghost use Rattle.calls.specs.Commands.{mostLine, mostLent};
 ghost use Rattle.protocol.specs.Feeding.{fed, fedBytes, sessionIn, mostText, Ready};
 ghost use Rattle.protocol.specs.Sessions.{fedAll};
 
@@ -174,16 +174,16 @@ fn serve(
 }
 
 // Arrays are made in functions of their own, so that no proof has to look at their elements.
-fn no_line() -> [u8; commands::MOST_LINE]
+fn no_line() -> [u8; calls::MOST_LINE]
     ensures { λ r. ⌜ mostLine ≡ length r ⌝ }
 {
-    [0; commands::MOST_LINE]
+    [0; calls::MOST_LINE]
 }
 
-fn empty_table() -> [u32; commands::MOST_LENT]
+fn empty_table() -> [u32; calls::MOST_LENT]
     ensures { λ r. ⌜ r ≡ replicate mostLent 0 ⌝ }
 {
-    [0; commands::MOST_LENT]
+    [0; calls::MOST_LENT]
 }
 
 // Room for the longest answer, that of a snapshot of 131,072 bytes, and for many short ones between two writes.

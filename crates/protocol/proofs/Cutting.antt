@@ -10,7 +10,7 @@ use borrow.Author.Tests.{lt-ltb, le-ltb, ltb-true, ltb-false}
 use lib.Dec.{eqb, ltb, eqb·suc-zero}
 use lib.ListN.{length, drop, length-append, length-drop}
 use lib.Seq.{take-all, drop-length}
-use Rattle.commands.specs.Commands.{mostLine}
+use Rattle.calls.specs.Commands.{mostLine}
 use Rattle.lines.specs.Words.{before, split, ontoFirst}
 use Rattle.lines.proofs.Marks.{split-first, before-taken}
 use Rattle.protocol.specs.Feeding.{answerLine, joined, commandIn, Session, endsLine, fed, fedText, fedBytes, lastText}

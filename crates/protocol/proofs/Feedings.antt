@@ -2,21 +2,21 @@
 use Prim.Native.Nat.{ℕ, _+_, _≤_, _<_}
 use mathlib.Core.Path.{_≡_, refl, sym, ap, _∙_}
 use mathlib.Core.Bool.{Bool, true, false, cond}
-use mathlib.Core.List.{List, [], _∷_, _++_}
-use mathlib.Core.Option.{Option, none, some}
+use mathlib.Core.List.{List, [], _++_}
+use mathlib.Core.Option.{Option, some}
 use native.Mathlib.Omega.{arith}
-use borrow.Author.Tests.{lt-ltb, le-ltb, eq-eqb, ne-eqb, ltb-true, ltb-false}
+use borrow.Author.Tests.{lt-ltb, le-ltb, ne-eqb, ltb-true, ltb-false}
 use lib.Dec.{ltb}
 use lib.ListN.{length, take}
-use lib.Seq.{sets, length-take-le, take-all}
+use lib.Seq.{sets, length-take-le}
 use Rattle.text.specs.Ascii.{ascii}
 use Rattle.lines.specs.Words.{before}
 use Rattle.lines.proofs.Marks.{before-taken}
 use Rattle.answers.proofs.Writing.{writes-on}
 use Rattle.history.specs.Calls.{Tables}
-use Rattle.commands.specs.declared.Reply.{Reply}
-use Rattle.commands.specs.Commands.{Command, mostLine}
-use Rattle.commands.specs.Performing.{Result, after, performed}
+use Rattle.calls.specs.declared.Reply.{Reply}
+use Rattle.calls.specs.Commands.{Command, mostLine}
+use Rattle.calls.specs.Performing.{Result, after, performed}
 use Rattle.replies.specs.Texts.{replyText, mostReply}
 use Rattle.protocol.specs.Feeding.{answerLine, joined, commandIn, Session, grown, fed, fedText, fedBytes, isBlank, finished, lastText, lineIn, mostText}
 use Rattle.protocol.proofs.Joining.{line-is, line-too-long}

@@ -1,15 +1,15 @@
 -- Tables that are lent with some of their words, after a command. Assumes nothing.
 use Prim.Native.Nat.{ℕ, _+_, _-_, _≤_}
-use mathlib.Core.Path.{_≡_, refl, sym, ap, _∙_}
-use mathlib.Core.List.{List, [], _++_, append-nil}
+use mathlib.Core.Path.{_≡_, sym, ap, _∙_}
+use mathlib.Core.List.{List, _++_, append-nil}
 use native.Mathlib.Omega.{arith}
 use lib.ListN.{length, take, drop, replicate, length-replicate, replicate-append-replicate, drop-of-length-le}
 use lib.Seq.{length-take-le, take-at, drop-at}
 use Rattle.runs.specs.Words.{zeroed}
 use Rattle.table.specs.Table.{pad}
 use Rattle.table.proofs.Tables.{length-pad}
-use Rattle.commands.specs.Commands.{mostLent}
-use Rattle.commands.specs.Performing.{resized}
+use Rattle.calls.specs.Commands.{mostLent}
+use Rattle.calls.specs.Performing.{resized}
 use Rattle.protocol.specs.Feeding.{Held}
 
 -- A table is lent with n words, which are xs.

@@ -2,14 +2,15 @@
 use Prim.Native.Nat.{ℕ, _+_, _-_, _≤_, _<_}
 use mathlib.Core.Path.{_≡_, refl, sym, ap, _∙_}
 use mathlib.Core.List.{List, _++_}
-use mathlib.Core.Option.{Option, none, some}
+use mathlib.Core.Option.{none, some}
 use native.Mathlib.Omega.{arith}
 use borrow.Author.Tests.{lt-ltb, le-ltb}
 use lib.ListN.{length, take, drop, length-append}
 use lib.Seq.{sets, sets-eq, length-take-le, take-at}
 use Rattle.protocol.specs.Feeding.{joined, commandIn, lineIn, lineStored}
 use Rattle.lines.specs.Words.{wordsOf}
-use Rattle.commands.specs.Commands.{bad, commandOf, mostLine}
+use Rattle.calls.specs.Commands.{bad, mostLine}
+use Rattle.commands.specs.Commands.{commandOf}
 
 pub line-too-long : (n : ℕ) (line : List ℕ) → mostLine < n → lineIn n line ≡ none
 unfolding lineIn

@@ -7,13 +7,13 @@ use Rattle.register.specs.Register.{registerWords}
 use Rattle.ledger.specs.Routes.{ledgerWords}
 use Rattle.history.specs.Calls.{blank}
 use Rattle.protocol.specs.declared.Lent.{Lent}
-use Rattle.commands.specs.declared.Reply.{Reply}
-use Rattle.commands.specs.declared.Reply.the-variants.{Done}
-use Rattle.commands.specs.Commands.{Command, empty}
-use Rattle.commands.specs.Performing.{tablesOf, result, performed}
+use Rattle.calls.specs.declared.Reply.{Reply}
+use Rattle.calls.specs.declared.Reply.the-variants.{Done}
+use Rattle.calls.specs.Commands.{Command, empty}
+use Rattle.calls.specs.Performing.{tablesOf, result, performed}
 use Rattle.protocol.specs.Feeding.{Held, HeldAll}
 use Rattle.protocol.proofs.Holding.{Lends}
-use Rattle.commands.proofs.Parsing.{does}
+use Rattle.calls.proofs.Parsing.{does}
 
 -- The words that each table is lent with, after a command.
 pub performs :

@@ -15,8 +15,9 @@ use Rattle.protocol.specs.declared.Lent.{Lent}
 use Rattle.protocol.specs.declared.State.{State}
 use Rattle.protocol.specs.declared.Fed.{Fed}
 use Rattle.protocol.specs.declared.Performed.{Performed}
-use Rattle.commands.specs.Commands.{Command, bad, commandOf, mostLent, mostLine}
-use Rattle.commands.specs.Performing.{tablesOf, replyTo, after, result, performed}
+use Rattle.calls.specs.Commands.{Command, bad, mostLent, mostLine}
+use Rattle.commands.specs.Commands.{commandOf}
+use Rattle.calls.specs.Performing.{tablesOf, replyTo, after, result, performed}
 use Rattle.replies.specs.Texts.{replyText, mostReply}
 
 -- ---- one line

@@ -8,7 +8,7 @@ use lib.Dec.{eqb}
 use lib.ListN.{length, drop}
 use Rattle.lines.specs.Words.{split}
 use Rattle.history.specs.Calls.{blank}
-use Rattle.commands.specs.Performing.{after}
+use Rattle.calls.specs.Performing.{after}
 use Rattle.protocol.specs.Feeding.{answerLine, joined, commandIn, Session, fed, fedText, fedBytes, lastText}
 
 -- ---- what is promised: each line answered in its order, and the last too if it is not empty

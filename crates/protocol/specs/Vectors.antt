@@ -31,9 +31,10 @@ use Rattle.ledger.specs.Routes as ledger
 use Rattle.snapshot.specs.Snapshot.{snapshotOf, bytesOf}
 use Rattle.snapshot.specs.Calls.{writeEffect, readEffect}
 use Rattle.history.specs.Calls.{Tables, blank, file, withdraw, clear, keep, drop, rejudge}
-use Rattle.commands.specs.declared.Named.the-variants.{Register, Overrides, Ledger, Neither}
-use Rattle.commands.specs.Commands.{Command, call, judge, hop, lookup, read, write, show, words, poke, resize, empty, bad, namedBy, ofWords, withNumber, withBytes, withNumbers, upTo, fromOne, lookCommand, askCommand, overridesCommand, snapshotCommand, routeCommand, lentCommand, commandOf}
-use Rattle.commands.specs.Performing.{after}
+use Rattle.calls.specs.declared.Named.the-variants.{Register, Overrides, Ledger, Neither}
+use Rattle.calls.specs.Commands.{Command, call, judge, hop, lookup, read, write, show, words, poke, resize, empty, bad, namedBy, ofWords, withNumber, withBytes, withNumbers, upTo, fromOne}
+use Rattle.commands.specs.Commands.{lookCommand, askCommand, overridesCommand, snapshotCommand, routeCommand, lentCommand, commandOf}
+use Rattle.calls.specs.Performing.{after}
 use Rattle.protocol.specs.Feeding.{answerLine}
 
 abbrev command : String → Command

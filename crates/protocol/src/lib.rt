@@ -1,13 +1,14 @@
 // The console's protocol: a line in, a line out, over tables and buffers that the caller lends.
-use commands::Named;
-use commands::Reply;
+use calls::Named;
+use calls::Reply;
 use text::Number;
 ghost use mathlib.Core.Path.{_≡_};
 ghost use Prim.Native.Nat.{_≤_};
 ghost use lib.ListN.{length, take};
 ghost use Rattle.table.specs.Table.{pad};
 ghost use Rattle.lines.specs.Words.{wordsOf};
-ghost use Rattle.commands.specs.Commands.{mostLine, mostLent, resize, resizeCommand, emptyCommand, commandOf};
+ghost use Rattle.calls.specs.Commands.{mostLine, mostLent, resize, resizeCommand, emptyCommand};
+ghost use Rattle.commands.specs.Commands.{commandOf};
 ghost use Rattle.protocol.specs.Feeding.{joined, commandIn, lineIn, lineStored, HeldAll, Ready, buffers, Carried, EndsLine, Feeds, Finishes};
 
 // How many words each table is lent with.
@@ -129,7 +130,7 @@ fn resize(
         };
     };
     let to = length as usize;
-    if commands::MOST_LENT < to {
+    if calls::MOST_LENT < to {
         return Performed {
             lent: s,
             reply: Reply::Error,

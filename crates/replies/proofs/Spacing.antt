@@ -1,13 +1,13 @@
 -- A table's words, written after a number. Assumes nothing.
-use Prim.Native.Nat.{ℕ, suc, _+_, _-_, _*_, _≤_, _<_}
-use mathlib.Core.Path.{_≡_, refl, sym, ap, _∙_}
+use Prim.Native.Nat.{ℕ, _+_, _-_, _*_, _≤_}
+use mathlib.Core.Path.{_≡_, refl, ap}
 use mathlib.Core.List.{List, [], _∷_}
 use native.Mathlib.Omega.{arith}
 use lib.ListN.{length, take, drop, getD, length-drop}
 use lib.Seq.{sets, drop-cons, take-all}
 use Rattle.text.specs.Numbers.{decimalOf}
 use Rattle.answers.specs.Texts.{eachText, spacedText}
-use Rattle.commands.specs.Commands.{mostLent}
+use Rattle.calls.specs.Commands.{mostLent}
 use Rattle.replies.specs.Texts.{mostReply}
 use Rattle.answers.proofs.Writing.{writes-on}
 

@@ -14,11 +14,11 @@ use Rattle.snapshot.specs.Calls.{writeEffect}
 use Rattle.registers.specs.Registers.{Registers}
 use Rattle.filter.specs.Calls.{lookupList}
 use Rattle.history.specs.Calls.{Tables}
-use Rattle.commands.specs.declared.Named.{Named}
-use Rattle.commands.specs.declared.Named.the-variants.{Register, Overrides, Ledger, Neither}
-use Rattle.commands.specs.declared.Reply.{Reply}
-use Rattle.commands.specs.declared.Reply.the-variants.{Done, Error, Filed, Removed, Cleared, Judged, Hopped, Rejudged, Restored, Written, Listed, Shown, Sized}
-use Rattle.commands.specs.Commands.{mostOutput}
+use Rattle.calls.specs.declared.Named.{Named}
+use Rattle.calls.specs.declared.Named.the-variants.{Register, Overrides, Ledger, Neither}
+use Rattle.calls.specs.declared.Reply.{Reply}
+use Rattle.calls.specs.declared.Reply.the-variants.{Done, Error, Filed, Removed, Cleared, Judged, Hopped, Rejudged, Restored, Written, Listed, Shown, Sized}
+use Rattle.calls.specs.Commands.{mostOutput}
 
 -- The words up to the last body, of a table whose slots have so many words; all where the counts lead past the end.
 abbrev pub usedWords : ℕ → List ℕ → List ℕ

@@ -1,21 +1,21 @@
 // A reply as text, from index at of a buffer on.
-use commands::Named;
-use commands::Reply;
+use calls::Named;
+use calls::Reply;
 use types::AsNumber;
 ghost use mathlib.Core.Path.{_≡_};
 ghost use Prim.Native.Nat.{_+_, _*_, _≤_, _<_, _^_, min};
 ghost use lib.ListN.{length, take, getD, replicate};
 ghost use lib.Seq.{sets};
-ghost use Rattle.commands.specs.Performing.{tablesOf};
+ghost use Rattle.calls.specs.Performing.{tablesOf};
 ghost use Rattle.replies.specs.Texts.{withoutZeros, sizedText, shownText, sizedIn, effectText, snapshotText, lookupText, replyText, mostReply};
-ghost use Rattle.commands.specs.Commands.{mostLent, mostOutput};
+ghost use Rattle.calls.specs.Commands.{mostLent, mostOutput};
 ghost use Rattle.snapshot.specs.Calls.{writeEffect};
 ghost use Rattle.registers.specs.Registers.{lent};
 ghost use Rattle.answers.specs.Texts.{spacedText, answerRoom};
 
 // The room that a reply takes at most: a snapshot's length, and two digits for each of its bytes. The words of a table, of eleven bytes each at
 // most, take less.
-pub const MOST_REPLY: usize = 128 + 2 * commands::MOST_OUTPUT;
+pub const MOST_REPLY: usize = 128 + 2 * calls::MOST_OUTPUT;
 
 fn wide(x: u32) -> u64
     ensures { λ r. ⌜ r ≡ x ⌝ }
@@ -157,10 +157,10 @@ fn put_effect(out: &mut [u8], at: usize, output: &mut [u8], reg: &[u32], led: &[
 }
 
 // The array is made in a function of its own, so that no proof has to look at its elements.
-fn no_output() -> [u8; commands::MOST_OUTPUT]
+fn no_output() -> [u8; calls::MOST_OUTPUT]
     ensures { λ r. ⌜ r ≡ replicate mostOutput 0 ⌝ }
 {
-    [0; commands::MOST_OUTPUT]
+    [0; calls::MOST_OUTPUT]
 }
 
 fn put_snapshot(out: &mut [u8], at: usize, capacity: usize, reg: &[u32], led: &[u32]) -> usize
@@ -170,7 +170,7 @@ fn put_snapshot(out: &mut [u8], at: usize, capacity: usize, reg: &[u32], led: &[
         × (r ≤ at + mostReply) ⌝ }
 {
     let mut output = no_output();
-    let n = least(capacity, commands::MOST_OUTPUT);
+    let n = least(capacity, calls::MOST_OUTPUT);
     put_effect(out, at, &mut output[..n], reg, led)
 }
 

@@ -4,7 +4,7 @@ use native.Mathlib.Omega.{arith}
 use lib.ListN.{take}
 use Rattle.protocol.proofs.Holding.{lends-zeros, all-cut}
 use Rattle.protocol.proofs.Performing.{performs, empties}
-use Rattle.commands.proofs.Parsing.{other-count, right-count, does-nothing}
+use Rattle.calls.proofs.Parsing.{other-count, right-count, does-nothing}
 use Rattle.register.specs.Register.{registerWords}
 use Rattle.ledger.specs.Routes.{ledgerWords}
 use borrow.Author.Needs.{needs}

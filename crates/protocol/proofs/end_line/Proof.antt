@@ -2,7 +2,7 @@
 use borrow.Author.Needs.{needs}
 use mathlib.Core.Path.{refl, ap}
 use native.Mathlib.Omega.{arith}
-use Rattle.commands.specs.Performing.{Result}
+use Rattle.calls.specs.Performing.{Result}
 use Rattle.protocol.specs.Feeding.{commandIn, lentTables, lineIn}
 use Rattle.protocol.proofs.Feedings.{answers}
 use Rattle.protocol.proofs.Holding.{lent-length, lent-within}

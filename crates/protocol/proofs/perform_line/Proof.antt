@@ -4,7 +4,7 @@ use native.Mathlib.Omega.{arith}
 use lib.ListN.{take}
 use lib.Seq.{length-take-le}
 use Rattle.protocol.proofs.Joining.{command-too-long, command-is}
-use Rattle.commands.proofs.Parsing.{does-nothing}
+use Rattle.calls.proofs.Parsing.{does-nothing}
 use borrow.Author.Needs.{needs}
 use Rattle.protocol.proofs.perform_line.Statement.{statement}
 use Rattle.protocol.proofs.perform_line.Tie as tie

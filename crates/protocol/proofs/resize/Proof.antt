@@ -1,8 +1,8 @@
 -- `protocol::resize` meets its contract. Assumes nothing.
 use mathlib.Core.Path.{sym, ap, _∙_}
 use lib.ListN.{take}
-use Rattle.commands.proofs.Parsing.{other-count, right-count, number-is, no-number, too-many, not-too-many, does, does-nothing}
-use Rattle.commands.specs.Commands.{resize}
+use Rattle.calls.proofs.Parsing.{other-count, right-count, number-is, no-number, too-many, not-too-many, does, does-nothing}
+use Rattle.calls.specs.Commands.{resize}
 use borrow.Author.Needs.{needs}
 use Rattle.protocol.proofs.resize.Statement.{statement}
 use Rattle.protocol.proofs.resize.Tie as tie

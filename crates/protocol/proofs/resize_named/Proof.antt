@@ -3,7 +3,7 @@ use mathlib.Core.Path.{refl, ap}
 use lib.ListN.{take}
 use Rattle.protocol.proofs.Holding.{lends-resized}
 use Rattle.protocol.proofs.Performing.{performs, lends-same}
-use Rattle.commands.specs.Commands.{resize}
+use Rattle.calls.specs.Commands.{resize}
 use borrow.Author.Needs.{needs}
 use Rattle.protocol.proofs.resize_named.Statement.{statement}
 use Rattle.protocol.proofs.resize_named.Tie as tie

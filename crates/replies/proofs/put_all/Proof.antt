@@ -1,7 +1,7 @@
 -- `replies::put_all` meets its contract. Assumes nothing.
 use native.Mathlib.Omega.{arith}
 use Rattle.answers.proofs.Writing.{matched}
-use Rattle.commands.specs.Performing.{tablesOf}
+use Rattle.calls.specs.Performing.{tablesOf}
 use Rattle.replies.specs.Texts.{sizedIn, mostReply}
 use borrow.Author.Needs.{needs}
 use Rattle.replies.proofs.put_all.Statement.{statement}

@@ -6,7 +6,7 @@ use mathlib.Core.Path.{sym, ap, _∙_}
 use lib.ListN.{length, take}
 use lib.Seq.{sets, length-take-le}
 use Rattle.answers.specs.Texts.{spacedText}
-use Rattle.commands.specs.Performing.{tablesOf}
+use Rattle.calls.specs.Performing.{tablesOf}
 use Rattle.replies.specs.Texts.{shownText, mostReply}
 use borrow.Author.Needs.{needs}
 use Rattle.replies.proofs.put_shown.Statement.{statement}

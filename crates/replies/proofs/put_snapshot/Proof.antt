@@ -1,5 +1,5 @@
 -- `replies::put_snapshot` meets its contract. Assumes nothing.
-use Rattle.commands.specs.Commands.{mostOutput}
+use Rattle.calls.specs.Commands.{mostOutput}
 use Rattle.replies.proofs.Snapshots.{lent-length, lent-room, writes-snapshot}
 use borrow.Author.Needs.{needs}
 use Rattle.replies.proofs.put_snapshot.Statement.{statement}

@@ -1,8 +1,8 @@
 -- `commands::choice::poke` meets its contract. Assumes nothing.
 use mathlib.Core.Path.{refl, sym, ap, _∙_}
-use Rattle.commands.proofs.Parsing.{other-count, right-count, number-is, no-number, does, does-nothing}
-use Rattle.commands.specs.Performing.{result}
-use Rattle.commands.specs.Commands.{poke}
+use Rattle.calls.proofs.Parsing.{other-count, right-count, number-is, no-number, does, does-nothing}
+use Rattle.calls.specs.Performing.{result}
+use Rattle.calls.specs.Commands.{poke}
 use borrow.Author.Needs.{needs}
 use Rattle.commands.proofs.choice.poke.Statement.{statement}
 use Rattle.commands.proofs.choice.poke.Tie as tie

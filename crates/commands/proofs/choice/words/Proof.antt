@@ -1,8 +1,8 @@
 -- `commands::choice::words` meets its contract. Assumes nothing.
 use mathlib.Core.Path.{sym, _∙_}
-use Rattle.commands.proofs.Parsing.{other-count, right-count, does, does-nothing}
-use Rattle.commands.specs.declared.Reply.the-variants as reply
-use Rattle.commands.specs.Performing.{result}
+use Rattle.calls.proofs.Parsing.{other-count, right-count, does, does-nothing}
+use Rattle.calls.specs.declared.Reply.the-variants as reply
+use Rattle.calls.specs.Performing.{result}
 use borrow.Author.Needs.{needs}
 use Rattle.commands.proofs.choice.words.Statement.{statement}
 use Rattle.commands.proofs.choice.words.Tie as tie
