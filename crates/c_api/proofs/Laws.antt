@@ -27,11 +27,11 @@ use Rattle.register.proofs.Looking.{few}
 use Rattle.ledger.specs.Routes.{mostRoutes}
 use Rattle.registers.specs.declared.Part.{Part}
 use Rattle.registers.specs.Registers.{Registers, chosen}
-use Rattle.filter.specs.Calls.{rejudgeEffect, lookupPart, lookupList}
-use Rattle.filter.proofs.Looking.{Cut, cut-is}
-use Rattle.filter.proofs.Tables.{rejudge-accepts}
-use Rattle.filter.proofs.Answers.{rejudge-accepted}
-use Rattle.filter.proofs.Rejudgings.{few-changed}
+use Rattle.effects.specs.Calls.{rejudgeEffect, lookupPart, lookupList}
+use Rattle.effects.proofs.Looking.{Cut, cut-is}
+use Rattle.effects.proofs.Tables.{rejudge-accepts}
+use Rattle.effects.proofs.Answers.{rejudge-accepted}
+use Rattle.effects.proofs.Rejudgings.{few-changed}
 use Rattle.snapshot.specs.Calls.{writeEffect}
 use Rattle.told.specs.Answers.{noCount, noBytes, clearedTold, rejudgedTold, partTold, writtenTold}
 use Rattle.told.specs.Marks.{Marks}

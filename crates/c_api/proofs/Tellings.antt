@@ -16,8 +16,8 @@ use Rattle.types.specs.Numbers.{refusalPlace}
 use Rattle.types.specs.Rows.{Effect, effect}
 use Rattle.rules.specs.Judging.{mostBytes, refusalIn}
 use Rattle.registers.specs.Registers.{Registers}
-use Rattle.filter.specs.Calls.{Keeping, judgeAnswer, keepEffect}
-use Rattle.filter.proofs.Places.{place-within, judge-placed, keep-placed}
+use Rattle.effects.specs.Calls.{Keeping, judgeAnswer, keepEffect}
+use Rattle.effects.proofs.Places.{place-within, judge-placed, keep-placed}
 use Rattle.snapshot.specs.Calls.{writeEffect, reading, Reading}
 use Rattle.snapshot.proofs.Laws.{snapshot-laws}
 use Rattle.told.specs.Answers.{toldTables, placeWord, telling, restoredTold, readingTold}

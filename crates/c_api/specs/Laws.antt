@@ -13,7 +13,7 @@ use Rattle.types.specs.declared.Judged.{Judged}
 use Rattle.register.specs.Calls.{clearEffect}
 use Rattle.types.specs.Numbers.{originNumber}
 use Rattle.registers.specs.Registers.{Registers}
-use Rattle.filter.specs.Calls.{rejudgeEffect, lookupPart, lookupList}
+use Rattle.effects.specs.Calls.{rejudgeEffect, lookupPart, lookupList}
 use Rattle.snapshot.specs.Calls.{writeEffect}
 use Rattle.told.specs.Answers.{noVerdict, noHop, notFiled, noCount, noBytes, filedTold, clearedTold, rejudgedTold, judgedTold, hoppedTold, partTold, writtenTold}
 use Rattle.told.specs.Marks.{Marks}

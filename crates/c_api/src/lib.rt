@@ -9,7 +9,7 @@ ghost use Rattle.types.specs.Rows.{effect};
 ghost use Rattle.register.specs.Calls.{fileEffect, withdrawEffect, clearEffect};
 ghost use Rattle.ledger.specs.Calls.{dropEffect};
 ghost use Rattle.registers.specs.Registers.{lent};
-ghost use Rattle.filter.specs.Calls.{judgeAnswer, keeping, keepEffect, rejudgeEffect, hopAnswer, lookupPart};
+ghost use Rattle.effects.specs.Calls.{judgeAnswer, keeping, keepEffect, rejudgeEffect, hopAnswer, lookupPart};
 ghost use Rattle.snapshot.specs.Calls.{writeEffect, readEffect};
 ghost use Rattle.told.specs.Answers.{told, toldRoute, toldTables, telling};
 ghost use Rattle.told.specs.Answers.{filedTold, removalTold, clearedTold, rejudgedTold, judgedTold, writtenTold, readingTold};

@@ -25,7 +25,7 @@ use Rattle.types.specs.Rows.{Effect, effect}
 use Rattle.register.specs.Calls.{fileEffect}
 use Rattle.registers.specs.Registers.{Registers, lent, chosen}
 use Rattle.history.specs.Calls.{rewritten}
-use Rattle.filter.specs.Calls.{judgeAnswer, keeping, keepEffect}
+use Rattle.effects.specs.Calls.{judgeAnswer, keeping, keepEffect}
 use Rattle.snapshot.specs.Calls.{reading, readEffect}
 use Rattle.calls.specs.declared.Reply.{Reply}
 use Rattle.calls.specs.declared.Reply.the-variants as reply

@@ -9,7 +9,7 @@ use Rattle.text.specs.Numbers.{numberOf, ifNumber}
 use Rattle.text.specs.Bytes.{bytesOf, bytesIn, ifBytes, sameBytes}
 use Rattle.lines.specs.Words.{allNumbers, numbersIn}
 use Rattle.types.specs.declared.Origin.{Origin}
-use Rattle.filter.specs.Calls.{keeping}
+use Rattle.effects.specs.Calls.{keeping}
 use Rattle.history.specs.Calls.{Call, file, withdraw, clear, keep, drop as dropRoute, rejudge}
 use Rattle.calls.specs.declared.Named.{Named}
 use Rattle.calls.specs.declared.Named.the-variants.{Register, Overrides, Ledger, Neither}

@@ -10,7 +10,7 @@ use Rattle.types.specs.declared.Origin.{Origin}
 use Rattle.types.specs.declared.Origin.the-variants as origin
 use Rattle.types.specs.Rows.{Effect}
 use Rattle.registers.specs.Registers.{Registers, lent, chosen}
-use Rattle.filter.specs.Calls.{judgeAnswer, hopAnswer}
+use Rattle.effects.specs.Calls.{judgeAnswer, hopAnswer}
 use Rattle.history.specs.Calls as calls
 use Rattle.history.specs.Calls.{Tables, says, rewritten, withRegister, withLedger, leaves, blank}
 use Rattle.snapshot.specs.Calls.{readEffect}

@@ -1,4 +1,1 @@
-pub mod Calls
 pub mod Helpers
-pub mod Vectors
-pub mod Laws

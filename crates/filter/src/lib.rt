@@ -28,8 +28,9 @@ ghost use Rattle.register.specs.Calls.{fileEffect, withdrawEffect, clearEffect}
 ghost use Rattle.ledger.specs.Routes.{ledgerWords, ledgerOk};
 ghost use Rattle.ledger.specs.Calls.{routeFor, dropEffect};
 ghost use Rattle.registers.specs.Registers.{lent, hopIn, bothOk};
-ghost use Rattle.filter.specs.Calls.{judgeAnswer, keeping, keepEffect, rejudgeEffect, hopAnswer, lookRows, lookupPart, lookupList};
-ghost use Rattle.filter.specs.Helpers.{knownFrom, storedEffect, Ready, passes};
+ghost use Rattle.effects.specs.Calls.{judgeAnswer, keeping, keepEffect, rejudgeEffect, hopAnswer, lookRows, lookupPart, lookupList};
+ghost use Rattle.effects.specs.Helpers.{storedEffect, Ready, passes};
+ghost use Rattle.filter.specs.Helpers.{knownFrom};
 
 // The most bytes of an attribute.
 pub const MOST_BYTES: usize = 4096;
@@ -69,7 +70,7 @@ fn judge_known<'a>(
         (contentOf (roleNumber role) (neighbour .0) (now (attribute .entry))) ⌝ }
 {
     let mut path = [0u32; as_path::MOST_NUMBERS];
-    match as_path::read(role, neighbour, attribute, &mut path) {
+    match reading::read(role, neighbour, attribute, &mut path) {
         Reading::Refused(r) => Judged::Refused(r),
         Reading::OnGround(g) => Judged::Answered(Answer::Plain(Verdict::Invalid(Cause::ByGround(
             g,
@@ -135,7 +136,7 @@ fn keep_known<'a>(
         (keeping (number .0) (roleNumber role) (neighbour .0) (now (attribute .entry))) ⌝ }
 {
     let mut path = [0u32; as_path::MOST_NUMBERS];
-    match as_path::read(role, neighbour, attribute, &mut path) {
+    match reading::read(role, neighbour, attribute, &mut path) {
         Reading::Refused(r) => Judged::Refused(r),
         Reading::OnGround(g) => {
             let answer = Answer::Plain(Verdict::Invalid(Cause::ByGround(g)));

@@ -23,7 +23,7 @@ use Rattle.rules.proofs.Drafting.{each-no}
 use Rattle.rules.proofs.Sequences.{none-read}
 use Rattle.rules.proofs.Edges.{length-then, pairs-content}
 use Rattle.ledger.specs.Routes.{ledgerOf}
-use Rattle.filter.specs.Calls.{keeping}
+use Rattle.effects.specs.Calls.{keeping}
 use Rattle.history.specs.Calls.{Call, keep, blank, callAt, KeptRoute, known, last, said}
 use Rattle.history.specs.Replies.{ModelReply, done, refused, shown}
 use Rattle.history.specs.Model.{Model, holdsKept, putKept, pathNumbers, roomForRoutes, refusal, next, after, replyTo, written}

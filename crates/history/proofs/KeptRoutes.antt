@@ -18,8 +18,8 @@ use Rattle.ledger.specs.Calls.{stamped}
 use Rattle.ledger.proofs.Holding.{rules-by-ground}
 use Rattle.rejudge.specs.Rejudging.{rejudgedRoute}
 use Rattle.registers.specs.Registers.{Registers, hopIn}
-use Rattle.filter.specs.Calls.{Keeping, keptRoute}
-use Rattle.filter.proofs.KeptRoutes.{judged-ground}
+use Rattle.effects.specs.Calls.{Keeping, keptRoute}
+use Rattle.effects.proofs.KeptRoutes.{judged-ground}
 use Rattle.history.specs.Calls.{routeRead, known}
 use Rattle.history.specs.Model.{withVerdict, withWords, judgedKept}
 

@@ -19,7 +19,7 @@ use Rattle.ledger.specs.Calls.{countDiffering}
 use Rattle.snapshot.specs.Snapshot.{bytesOf, wordsIn, field, lengthOk, contentsOk, registerIn, ledgerIn}
 use Rattle.snapshot.specs.Calls.{readEffect}
 use Rattle.snapshot.proofs.Laws.{snapshot-laws}
-use Rattle.filter.specs.Calls.{rejudgeEffect}
+use Rattle.effects.specs.Calls.{rejudgeEffect}
 use Rattle.history.specs.Calls.{Tables, Formed, rejudge, rejudged, says, leaves, blank}
 use Rattle.history.specs.Model.{after}
 use Rattle.history.specs.Starts.{yielded, Accepts, OverridesFormed, routeWith, stale, overridden, NewStarts}

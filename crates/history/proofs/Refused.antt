@@ -28,10 +28,10 @@ use Rattle.registers.specs.Registers.{Registers, chosen, hopIn, bothLong, bothO
 use Rattle.ledger.specs.Calls.{dropRows, dropEffect}
 use Rattle.ledger.proofs.Refusals.{drop-numbers}
 use Rattle.rules.specs.Judging.{refusalIn}
-use Rattle.filter.specs.Calls.{registerRows, keepEffect, rejudgeEffect, hopUnless, hopAnswer, lookRows}
-use Rattle.filter.proofs.Refusals.{judge-reads, keep-reads, judge-numbers, keep-numbers, rejudge-numbers}
-use Rattle.filter.proofs.Lookups.{hop-call-laws}
-use Rattle.filter.proofs.Places.{placed, allOutside, no-place, Placed, judge-placed, keep-placed, place-within}
+use Rattle.effects.specs.Calls.{registerRows, keepEffect, rejudgeEffect, hopUnless, hopAnswer, lookRows}
+use Rattle.effects.proofs.Refusals.{judge-reads, keep-reads, judge-numbers, keep-numbers, rejudge-numbers}
+use Rattle.effects.proofs.Lookups.{hop-call-laws}
+use Rattle.effects.proofs.Places.{placed, allOutside, no-place, Placed, judge-placed, keep-placed, place-within}
 use Rattle.history.specs.Calls.{Call, file, withdraw, clear, keep, drop, rejudge, Tables, says, rewritten, leaves}
 use Rattle.history.specs.Replies.{ModelReply, shownFiled, shownRemoval, shownCleared, shownJudged, shownRejudged, shown}
 use Rattle.history.specs.Refusals.{AnyCall, change, judge, hop, rowsOf, callRows, callNumbers, numbersOf, lookNumbers, inOrder, refusedBy, hopRefusal, refusalOf, leftBy, callAttribute, attributeOf, Demand1}

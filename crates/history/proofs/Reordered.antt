@@ -6,7 +6,7 @@ use native.Mathlib.Omega.{arith}
 use native.Mathlib.Decide.{decLt}
 use lib.Dec.{lit<}
 use Rattle.types.specs.declared.Origin.{Origin}
-use Rattle.filter.specs.Calls.{Keeping}
+use Rattle.effects.specs.Calls.{Keeping}
 use Rattle.history.specs.Calls.{Call, file, clear, keep, drop, rejudge, Scope, scope, callAt, scopeAt}
 use Rattle.history.specs.Reorderings.{Tied, same-pair, clear-first, clear-second, same-route, StepAt, Reordering}
 

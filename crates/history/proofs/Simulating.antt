@@ -51,8 +51,8 @@ use Rattle.ledger.proofs.Changes.{put-ok, without-ok}
 use Rattle.ledger.proofs.Refusals.{Ledger, routes-ledger}
 use Rattle.rejudge.specs.Rejudging.{rejudgedRoute}
 use Rattle.rejudge.proofs.Rejudgements.{rejudged-ok}
-use Rattle.filter.specs.Calls.{Keeping, tableRows, keptRoute, keepRows, keepEffect, rejudgeEffect}
-use Rattle.filter.proofs.KeptRoutes.{kept-ok}
+use Rattle.effects.specs.Calls.{Keeping, tableRows, keptRoute, keepRows, keepEffect, rejudgeEffect}
+use Rattle.effects.proofs.KeptRoutes.{kept-ok}
 use Rattle.history.specs.Calls.{Call, file, withdraw, clear, keep, drop, rejudge, rejudged, Tables, Formed, routeRead, says, rewritten, withRegister, leaves, blank, callAt, tables, said, last, known, findRoute}
 use Rattle.history.specs.Replies.{ModelReply, refused, done, replaced, new, shownFiled, shownRemoval, shownCleared, shownJudged, shownRejudged, shown, accepted}
 use Rattle.history.specs.Model.{Lists, listsOf, withLists, Model, refiled, heldBy, numberOf, holdsKept, putKept, argumentRows, heldRows, roomRows, roomForRoutes, refusal, answer, change, replyUnless, changeUnless, replyTo, next, after, replyAt, final, judgedKept, written}

@@ -48,9 +48,9 @@ use Rattle.ledger.proofs.Holding as ledger-holding
 use Rattle.ledger.proofs.Refusals.{Ledger}
 use Rattle.rejudge.specs.Rejudging.{rejudgedRoute}
 use Rattle.rejudge.proofs.Rejudgements.{some-numbers, rejudged-ok}
-use Rattle.filter.specs.Calls.{Keeping, judgeAnswer, keepEffect, rejudgeEffect, hopAnswer, lookupList}
-use Rattle.filter.proofs.Judgings.{judge-answers}
-use Rattle.filter.proofs.Lookups.{hop-answers, lookup-answers}
+use Rattle.effects.specs.Calls.{Keeping, judgeAnswer, keepEffect, rejudgeEffect, hopAnswer, lookupList}
+use Rattle.effects.proofs.Judgings.{judge-answers}
+use Rattle.effects.proofs.Lookups.{hop-answers, lookup-answers}
 use Rattle.history.specs.Calls.{Call, file, withdraw, clear, keep, drop, rejudge, filed, removed, cleared, kept, rejudged, Scope, of-pair, of-source, of-route, idle, scope, Tables, Formed, tables, says, callAt, scopeAt, said, last, findRecord, findRoute, providersOf, known}
 use Rattle.history.specs.Replies.{ModelReply, new, replaced, done, gone, refused, shownFiled, shownRemoval, shownCleared, shown, forRoom, accepted}
 use Rattle.history.specs.Model.{listsOf, listsIn, numberOf, findKept, refusal, after, replyAt, written}

@@ -23,7 +23,7 @@ use Rattle.registers.specs.Registers.{Registers, lent, chosen}
 use Rattle.ledger.specs.Routes.{ledgerWords, Route, ledgerOk}
 use Rattle.ledger.specs.Routes as ledger
 use Rattle.ledger.specs.Calls.{dropEffect}
-use Rattle.filter.specs.Calls.{pathIn, Keeping, keepEffect, rejudgeEffect}
+use Rattle.effects.specs.Calls.{pathIn, Keeping, keepEffect, rejudgeEffect}
 
 -- The calls that can change a table, with their arguments: any numbers and any bytes. File, Withdraw and Clear work on the register that they name.
 pub data Call : Type 0 where

@@ -22,7 +22,7 @@ use Rattle.registers.specs.Registers.{chosen}
 use Rattle.ledger.specs.Routes.{ledgerWords, Route, routesOf, routeAt, ledgerOk}
 use Rattle.ledger.specs.Routes as ledger
 use Rattle.ledger.specs.Calls.{countDiffering}
-use Rattle.filter.specs.Calls.{Keeping, judgeAnswer, hopAnswer, lookupList}
+use Rattle.effects.specs.Calls.{Keeping, judgeAnswer, hopAnswer, lookupList}
 use Rattle.history.specs.Calls.{Call, keep, rejudge, kept, rejudged, Tables, Formed, tables, callAt, scopeAt, said, last, findRecord, findRoute, providersOf, known}
 use Rattle.history.specs.Replies.{shown, forRoom}
 use Rattle.history.specs.Model.{findKept, listsIn, after, replyAt, final, written}

@@ -17,7 +17,7 @@ use Rattle.registers.specs.Registers.{chosen}
 use Rattle.ledger.specs.Routes.{Route, routesOf}
 use Rattle.ledger.specs.Calls.{routeFor}
 use Rattle.rejudge.specs.Rejudging.{rejudgedRoute}
-use Rattle.filter.specs.Calls.{verdictIn, pathIn}
+use Rattle.effects.specs.Calls.{verdictIn, pathIn}
 use Rattle.history.specs.Calls.{Call, file, withdraw, clear, keep, drop, rejudge, Tables, callAt, said, KeptRoute, routeRead, findRecord, findRoute, providersOf, known}
 use Rattle.history.specs.Replies.{shown, accepted}
 

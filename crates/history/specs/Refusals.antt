@@ -23,7 +23,7 @@ use Rattle.register.specs.Calls.{fileRows, withdrawRows, clearRows}
 use Rattle.registers.specs.Registers.{chosen}
 use Rattle.ledger.specs.Calls.{dropRows}
 use Rattle.rules.specs.Judging.{refusalIn}
-use Rattle.filter.specs.Calls.{registerRows, judgeRowsOver, keepRows, rejudgeRows, judgeAnswer, hopAnswer, lookRows, lookupList}
+use Rattle.effects.specs.Calls.{registerRows, judgeRowsOver, keepRows, rejudgeRows, judgeAnswer, hopAnswer, lookRows, lookupList}
 use Rattle.history.specs.Calls.{Call, file, withdraw, clear, keep, drop, rejudge, Tables, says, leaves}
 use Rattle.history.specs.Replies.{ModelReply, new, replaced, done, gone, refused, shown}
 

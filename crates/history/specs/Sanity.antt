@@ -17,7 +17,7 @@ use Rattle.rules.specs.Vectors.{sequence, plain, pairsThen}
 use Rattle.register.specs.Register.{registerWords, mostProviders, recordsOf}
 use Rattle.registers.specs.Registers.{chosen}
 use Rattle.ledger.specs.Routes.{routesOf}
-use Rattle.filter.specs.Calls.{Keeping, keeping, judgeAnswer, lookupList}
+use Rattle.effects.specs.Calls.{Keeping, keeping, judgeAnswer, lookupList}
 use Rattle.history.specs.Calls.{Call, file, withdraw, clear, keep, drop, rejudge, Tables, Formed, scope, blank, tables, callAt, scopeAt, said, last, KeptRoute, routeRead, findRecord, findRoute, providersOf, known}
 use Rattle.history.specs.Replies.{new, replaced, done, gone, refused, shown, accepted}
 use Rattle.history.specs.Filings.{filedList, keptRouteAt}

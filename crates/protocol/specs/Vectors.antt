@@ -21,7 +21,7 @@ use Rattle.types.specs.declared.Refusal.the-variants.{RegisterMalformed, Regist
 use Rattle.types.specs.declared.Judged.the-variants.{Answered, Refused}
 use Rattle.types.specs.Rows.{firstGiven}
 use Rattle.answers.specs.Texts.{eachText, judgedText, hoppedText, listText, spacedText}
-use Rattle.filter.specs.Calls.{keeping}
+use Rattle.effects.specs.Calls.{keeping}
 use Rattle.table.specs.Table.{bodies, decodeSlots, decode, slotsOk, allZero, wellFormed}
 use Rattle.keyed.specs.Keyed.{ascends, every}
 use Rattle.register.specs.Register.{recordsOf, listed, recordsOk, registerOk}

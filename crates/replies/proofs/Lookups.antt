@@ -7,10 +7,10 @@ use lib.ListN.{length, drop, length-drop}
 use lib.Seq.{length-take-le, sets}
 use Rattle.register.specs.Register.{registerWords}
 use Rattle.registers.specs.Registers.{Registers, chosen}
-use Rattle.filter.specs.Calls.{lookupList, lookupPart}
+use Rattle.effects.specs.Calls.{lookupList, lookupPart}
 use Rattle.answers.specs.Texts.{listText, answerRoom}
 use Rattle.replies.specs.Texts.{lookupText, mostReply}
-use Rattle.filter.proofs.Looking.{cut-small, cut-within, cut-list}
+use Rattle.effects.proofs.Looking.{cut-small, cut-within, cut-list}
 
 -- It is a part of a register.
 pub list-short : (reg : Registers) (source customer : ℕ) → length (lookupList reg source customer) ≤ registerWords

@@ -12,7 +12,7 @@ use Rattle.register.specs.Register as register
 use Rattle.ledger.specs.Routes as ledger
 use Rattle.snapshot.specs.Calls.{writeEffect}
 use Rattle.registers.specs.Registers.{Registers}
-use Rattle.filter.specs.Calls.{lookupList}
+use Rattle.effects.specs.Calls.{lookupList}
 use Rattle.history.specs.Calls.{Tables}
 use Rattle.calls.specs.declared.Named.{Named}
 use Rattle.calls.specs.declared.Named.the-variants.{Register, Overrides, Ledger, Neither}

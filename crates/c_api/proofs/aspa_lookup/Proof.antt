@@ -2,7 +2,7 @@
 use mathlib.Core.Path.{_∙_, ap}
 use borrow.Author.Needs.{needs}
 use Rattle.registers.specs.Registers.{lent}
-use Rattle.filter.proofs.Looking.{cut-is}
+use Rattle.effects.proofs.Looking.{cut-is}
 use Rattle.told.specs.Answers.{partTold}
 use Rattle.c_api.proofs.aspa_lookup.Statement.{statement}
 use Rattle.c_api.proofs.aspa_lookup.Tie as tie

@@ -3,7 +3,7 @@ use mathlib.Core.Path.{sym, _∙_}
 use borrow.Author.Needs.{needs}
 use borrow.Author.Tests.{not-true, not-false}
 use Rattle.registers.specs.Registers.{lent}
-use Rattle.filter.proofs.Looking.{part-none, look-formed, part-found}
+use Rattle.effects.proofs.Looking.{part-none, look-formed, part-found}
 use Rattle.filter.proofs.find_list.Statement.{statement}
 use Rattle.filter.proofs.find_list.Tie as tie
 

@@ -3,7 +3,7 @@ use mathlib.Core.Path.{sym, _∙_}
 use borrow.Author.Needs.{needs}
 use borrow.Author.Tests.{not-true, not-false}
 use Rattle.registers.specs.Registers.{lent}
-use Rattle.filter.proofs.Looking.{hop-length, hop-malformed, hop-answered}
+use Rattle.effects.proofs.Looking.{hop-length, hop-malformed, hop-answered}
 use Rattle.filter.proofs.hop.Statement.{statement}
 use Rattle.filter.proofs.hop.Tie as tie
 

@@ -2,7 +2,8 @@
 use mathlib.Core.Path.{sym, _∙_}
 use borrow.Author.Tests.{not-true, not-false}
 use Rattle.registers.specs.Registers.{lent}
-use Rattle.filter.proofs.Judgings.{judge-length, judge-malformed, judge-answers, judged-refused, judged-known}
+use Rattle.effects.proofs.Judgings.{judge-length, judge-malformed, judge-answers}
+use Rattle.filter.proofs.Knowing.{judged-refused, judged-known}
 use borrow.Author.Needs.{needs}
 use Rattle.filter.proofs.judge.Statement.{statement}
 use Rattle.filter.proofs.judge.Tie as tie

@@ -9,7 +9,7 @@ use mathlib.Core.Path.{sym, _∙_, ap}
 use lib.Seq.{length-take-le}
 use Rattle.types.specs.Numbers.{roleNumber}
 use Rattle.registers.specs.Registers.{lent, hopIn}
-use Rattle.filter.proofs.Judgings.{read-refused, read-ground, read-path, some-numbers, in-buffer, path-judged}
+use Rattle.effects.proofs.Judgings.{read-refused, read-ground, read-path, some-numbers, in-buffer, path-judged}
 use borrow.Author.Needs.{needs}
 use Rattle.filter.proofs.judge_known.Statement.{statement}
 use Rattle.filter.proofs.judge_known.Tie as tie

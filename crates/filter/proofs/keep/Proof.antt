@@ -1,10 +1,10 @@
 -- `filter::keep` meets its contract. Assumes nothing.
 use mathlib.Core.Path.{sym, _∙_, ap}
 use borrow.Author.Tests.{not-true, not-false}
-use Rattle.filter.specs.Calls.{keeping, keepEffect}
+use Rattle.effects.specs.Calls.{keeping, keepEffect}
 use Rattle.registers.specs.Registers.{lent, hopIn}
-use Rattle.filter.proofs.Judgings.{known-role, judged-refused}
-use Rattle.filter.proofs.Keepings.{keep-register-length, keep-ledger-length, keep-register-malformed, keep-ledger-malformed, keep-refused}
+use Rattle.filter.proofs.Knowing.{known-role, judged-refused}
+use Rattle.effects.proofs.Keepings.{keep-register-length, keep-ledger-length, keep-register-malformed, keep-ledger-malformed, keep-refused}
 use borrow.Author.Needs.{needs}
 use Rattle.filter.proofs.keep.Statement.{statement}
 use Rattle.filter.proofs.keep.Tie as tie

@@ -4,7 +4,7 @@ use Rattle.ledger.specs.Routes.{Route}
 use mathlib.Core.Path.{_≡_, _∙_, ap}
 use Rattle.types.specs.Numbers.{roleNumber, verdictOf}
 use Rattle.ledger.specs.Calls.{routeFor, storeEffect}
-use Rattle.filter.proofs.Keepings.{stored-done, stored-refused}
+use Rattle.effects.proofs.Keepings.{stored-done, stored-refused}
 use borrow.Author.Needs.{needs}
 use Rattle.filter.proofs.keep_answer.Statement.{statement}
 use Rattle.filter.proofs.keep_answer.Tie as tie

@@ -8,10 +8,10 @@ use Rattle.types.specs.Numbers.{roleNumber, verdictOf}
 use Rattle.as_path.specs.Reading.{mostNumbers, contentOf}
 use Rattle.rules.specs.Verdicts.{judged}
 use Rattle.ledger.specs.Calls.{routeFor}
-use Rattle.filter.specs.Helpers.{storedEffect}
+use Rattle.effects.specs.Helpers.{storedEffect}
 use Rattle.registers.specs.Registers.{lent, hopIn}
-use Rattle.filter.proofs.Judgings.{read-path, some-numbers, in-buffer}
-use Rattle.filter.proofs.Keepings.{keep-faulty, keep-ground, keep-path}
+use Rattle.effects.proofs.Judgings.{read-path, some-numbers, in-buffer}
+use Rattle.effects.proofs.Keepings.{keep-faulty, keep-ground, keep-path}
 use borrow.Author.Needs.{needs}
 use Rattle.filter.proofs.keep_known.Statement.{statement}
 use Rattle.filter.proofs.keep_known.Tie as tie

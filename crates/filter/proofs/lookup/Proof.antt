@@ -2,7 +2,7 @@
 use native.Mathlib.Omega.{arith}
 use borrow.Author.Needs.{needs}
 use Rattle.registers.specs.Registers.{lent}
-use Rattle.filter.proofs.Looking.{cut-order, cut-small, cut-within, cut-list}
+use Rattle.effects.proofs.Looking.{cut-order, cut-small, cut-within, cut-list}
 use Rattle.filter.proofs.lookup.Statement.{statement}
 use Rattle.filter.proofs.lookup.Tie as tie
 

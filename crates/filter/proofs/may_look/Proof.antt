@@ -3,7 +3,7 @@ use mathlib.Core.Path.{sym, _∙_}
 use borrow.Author.Needs.{needs}
 use borrow.Author.Tests.{not-true, not-false}
 use Rattle.registers.specs.Registers.{lent}
-use Rattle.filter.proofs.Looking.{look-length, look-malformed, look-source, look-customer}
+use Rattle.effects.proofs.Looking.{look-length, look-malformed, look-source, look-customer}
 use Rattle.filter.proofs.may_look.Statement.{statement}
 use Rattle.filter.proofs.may_look.Tie as tie
 

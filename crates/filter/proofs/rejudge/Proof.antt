@@ -3,7 +3,7 @@ use native.Mathlib.Omega.{arith}
 use mathlib.Core.Path.{sym, _∙_, ap}
 use borrow.Author.Tests.{not-true, not-false}
 use Rattle.registers.specs.Registers.{lent}
-use Rattle.filter.proofs.Rejudgings.{rejudge-register-length, rejudge-ledger-length, rejudge-register-malformed, rejudge-ledger-malformed, few-changed, rejudge-done}
+use Rattle.effects.proofs.Rejudgings.{rejudge-register-length, rejudge-ledger-length, rejudge-register-malformed, rejudge-ledger-malformed, few-changed, rejudge-done}
 use borrow.Author.Needs.{needs}
 use Rattle.filter.proofs.rejudge.Statement.{statement}
 use Rattle.filter.proofs.rejudge.Tie as tie

@@ -1,0 +1,13 @@
+pub mod Judgings
+pub mod Keepings
+pub mod Rejudgings
+pub mod KeptRoutes
+pub mod Refusals
+pub mod Tables
+pub mod Answers
+pub mod Places
+pub mod Laws
+pub mod Looking
+pub mod Lookups
+pub mod Gaps
+pub mod Overridden

@@ -1,0 +1,4 @@
+pub mod Calls
+pub mod Helpers
+pub mod Vectors
+pub mod Laws
