@@ -136,7 +136,12 @@ impl Cases {
         }
         #[cfg(feature = "overrides")]
         {
-            for (name, step) in [("half of the records overridden", 2), ("all overridden", 1)] {
+            let shares = [
+                ("8 of the records overridden", MOST_RECORDS / 8),
+                ("half of the records overridden", 2),
+                ("all overridden", 1),
+            ];
+            for (name, step) in shares {
                 tables.push(Tables {
                     name: name.into(),
                     register: tables[0].register.clone(),
