@@ -315,7 +315,7 @@ uint32_t aspa_drop(uint32_t *ledger, size_t ledger_len, uint32_t route);
  * Judges every kept route that has no ground again by both registers, and rewrites its verdict and both places in the
  * ledger. Rows 1, 2, 3.
  *   out[0]: how many routes changed in any of those three words. On a refusal ASPA_NO_COUNT.
- * It takes some 17 KiB of stack, and aspa_read more; every other call takes less than 3 KiB.
+ * It takes some 33 KiB of stack, and aspa_read more; every other call takes less than 3 KiB.
  */
 ASPA_USE_RESULT
 uint32_t aspa_rejudge(const uint32_t *public_register, size_t public_len, const uint32_t *overrides,

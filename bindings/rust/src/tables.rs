@@ -316,7 +316,7 @@ impl Ledger {
     }
 
     /// Judges every kept route without a ground again by both registers as they are now, and answers how many changed in their verdict or
-    /// its places. It takes some 17 KiB of stack, and [`Tables::read`](crate::Tables::read) more; every other call takes less than 3 KiB.
+    /// its places. It takes some 33 KiB of stack, and [`Tables::read`](crate::Tables::read) more; every other call takes less than 3 KiB.
     ///
     /// # Errors
     ///

@@ -221,7 +221,14 @@ pub fn hop<'a>(public: &'a [u32], overrides: &'a [u32], x: AsNumber, y: AsNumber
     if !registers::are_registers(public, overrides) {
         return Hopped::Refused(Refusal::RegisterMalformed);
     }
-    Hopped::Answered(registers::hop_between(public, overrides, &registers::NO_HINTS, x, y))
+    Hopped::Answered(registers::hop_between(
+        public,
+        overrides,
+        &registers::NO_HINTS,
+        &registers::NO_HINTS,
+        x,
+        y,
+    ))
 }
 
 // Rows 1, 2, 4, 5 of a look-up are passed.

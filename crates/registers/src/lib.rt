@@ -57,12 +57,18 @@ pub fn origin_for(overrides: &[u32], x: AsNumber) -> Origin
     Origin::Public
 }
 
-// One look-up in each register, in the public one, with hints for it, only where the overrides have no record of the number.
-fn locate(public: &[u32], overrides: &[u32], hints: &[u32], x: AsNumber) -> Found
+// One look-up in each register, each with hints for it, and in the public one only where the overrides have no record of the number.
+fn locate(
+    public: &[u32],
+    overrides: &[u32],
+    public_hints: &[u32],
+    own_hints: &[u32],
+    x: AsNumber,
+) -> Found
     requires { ⌜ bothOk (lent (now public) (now overrides)) ≡ true ⌝ }
     ensures { λ r. ⌜ r ≡ foundIn (lent (now (public .entry)) (now (overrides .entry))) (x .0) ⌝ }
 {
-    let position = hints::find(overrides, &NO_HINTS, x);
+    let position = hints::find(overrides, own_hints, x);
     if hops::attests(overrides, position, x) {
         return Found {
             origin: Origin::Overrides,
@@ -71,7 +77,7 @@ fn locate(public: &[u32], overrides: &[u32], hints: &[u32], x: AsNumber) -> Foun
     }
     Found {
         origin: Origin::Public,
-        position: hints::find(public, hints, x),
+        position: hints::find(public, public_hints, x),
     }
 }
 
@@ -89,7 +95,8 @@ pub fn choose<'a>(public: &'a [u32], overrides: &'a [u32], origin: Origin) -> &'
 pub fn hops_between<'a>(
     public: &'a [u32],
     overrides: &'a [u32],
-    hints: &[u32],
+    public_hints: &[u32],
+    own_hints: &[u32],
     x: AsNumber,
     y: AsNumber,
     z: AsNumber,
@@ -98,7 +105,7 @@ pub fn hops_between<'a>(
     ensures { λ r. ⌜ (r .y ≡ hopIn (lent (now (public .entry)) (now (overrides .entry))) (x .0) (y .0))
         × (r .z ≡ hopIn (lent (now (public .entry)) (now (overrides .entry))) (x .0) (z .0)) ⌝ }
 {
-    let found = locate(public, overrides, hints, x);
+    let found = locate(public, overrides, public_hints, own_hints, x);
     let origin = found.origin;
     let position = found.position;
     let reg = choose(public, overrides, origin);
@@ -109,14 +116,15 @@ pub fn hops_between<'a>(
 pub fn hop_between<'a>(
     public: &'a [u32],
     overrides: &'a [u32],
-    hints: &[u32],
+    public_hints: &[u32],
+    own_hints: &[u32],
     x: AsNumber,
     y: AsNumber,
 ) -> Hop
     requires { ⌜ bothOk (lent (now public) (now overrides)) ≡ true ⌝ }
     ensures { λ r. ⌜ r ≡ hopIn (lent (now (public .entry)) (now (overrides .entry))) (x .0) (y .0) ⌝ }
 {
-    let found = locate(public, overrides, hints, x);
+    let found = locate(public, overrides, public_hints, own_hints, x);
     let origin = found.origin;
     let position = found.position;
     let reg = choose(public, overrides, origin);
@@ -133,7 +141,7 @@ pub fn find_list<'a>(
     requires { ⌜ bothOk (lent (now public) (now overrides)) ≡ true ⌝ }
     ensures { λ r. ⌜ r ≡ partIn (lent (now (public .entry)) (now (overrides .entry))) source (customer .0) ⌝ }
 {
-    let found = locate(public, overrides, &NO_HINTS, customer);
+    let found = locate(public, overrides, &NO_HINTS, &NO_HINTS, customer);
     let origin = found.origin;
     let reg = choose(public, overrides, origin);
     let span = hops::list_span(reg, source, customer);

@@ -13,7 +13,8 @@ ghost use Rattle.rejudge.specs.Rejudging.{rejudgedRoute, rejudgedEffect}
 fn rejudge_route<'a>(
     public: &'a [u32],
     overrides: &'a [u32],
-    hints: &[u32],
+    public_hints: &[u32],
+    own_hints: &[u32],
     led: &mut [u32],
     i: usize,
 ) -> bool
@@ -25,16 +26,24 @@ fn rejudge_route<'a>(
         return false;
     }
     let role = ledger::role(led, i);
-    let answer = verdict::judge_hinted(public, overrides, hints, role, ledger::path(led, i));
+    let answer = verdict::judge_hinted(
+        public,
+        overrides,
+        public_hints,
+        own_hints,
+        role,
+        ledger::path(led, i),
+    );
     let v = answer.verdict();
     ledger::stamp(led, i, v)
 }
 
-// Every route judged anew, with hints for the public register; answers how many changed.
+// Every route judged anew, with hints for each register; answers how many changed.
 fn rejudge_routes<'a>(
     public: &'a [u32],
     overrides: &'a [u32],
-    hints: &[u32],
+    public_hints: &[u32],
+    own_hints: &[u32],
     led: &mut [u32],
 ) -> usize
     requires { ⌜ (bothOk (lent (now public) (now overrides)) ≡ true) × (length (now led) ≡ ledgerWords) × (ledgerOk (now led) ≡ true) ⌝ }
@@ -44,7 +53,7 @@ fn rejudge_routes<'a>(
     let mut changed: usize = 0;
     let mut i: usize = 0;
     while i < n {
-        let moved = rejudge_route(public, overrides, hints, led, i);
+        let moved = rejudge_route(public, overrides, public_hints, own_hints, led, i);
         i += 1;
         if moved {
             changed += 1;
@@ -53,16 +62,23 @@ fn rejudge_routes<'a>(
     changed
 }
 
-// Answers how many routes changed. Hints are worth their filling when there are more numbers to look up than records. An operator overrides few
-// records, so the overrides are searched without.
+// Answers how many routes changed. Hints are worth their filling when there are more numbers to look up than records.
 pub fn rejudge_all<'a>(public: &'a [u32], overrides: &'a [u32], led: &mut [u32]) -> usize
     requires { ⌜ (bothOk (lent (now public) (now overrides)) ≡ true) × (length (now led) ≡ ledgerWords) × (ledgerOk (now led) ≡ true) ⌝ }
     ensures { λ r. ⌜ effect r (now (led .exit)) ≡ rejudgedEffect (hopIn (lent (now (public .entry)) (now (overrides .entry)))) (now (led .entry)) ⌝ }
 {
     if ledger::path_words(led) <= table::word(public, 0) {
-        return rejudge_routes(public, overrides, &registers::NO_HINTS, led);
+        return rejudge_routes(
+            public,
+            overrides,
+            &registers::NO_HINTS,
+            &registers::NO_HINTS,
+            led,
+        );
     }
-    let mut hints = [0u32; hints::WORDS];
-    hints::fill(public, &mut hints);
-    rejudge_routes(public, overrides, &hints, led)
+    let mut public_hints = [0u32; hints::WORDS];
+    let mut own_hints = [0u32; hints::WORDS];
+    hints::fill(public, &mut public_hints);
+    hints::fill(overrides, &mut own_hints);
+    rejudge_routes(public, overrides, &public_hints, &own_hints, led)
 }

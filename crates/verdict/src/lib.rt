@@ -63,14 +63,20 @@ fn upstream_alone(reg: &[u32], hints: &[u32], path: &[u32]) -> Verdict
 }
 
 // Upstream. Most operators override nothing, and then a number is looked up in one register only.
-fn upstream<'a>(public: &'a [u32], overrides: &'a [u32], hints: &[u32], path: &[u32]) -> Verdict
+fn upstream<'a>(
+    public: &'a [u32],
+    overrides: &'a [u32],
+    public_hints: &[u32],
+    own_hints: &[u32],
+    path: &[u32],
+) -> Verdict
     requires { ⌜ Judgeable (lent (now public) (now overrides)) (now path) ⌝ }
     ensures { λ r. ⌜ r ≡ verdicts.upstream (hopIn (lent (now (public .entry)) (now (overrides .entry)))) (now (path .entry)) ⌝ }
 {
     if table::word(overrides, 0) == 0 {
-        return upstream_alone(public, hints, path);
+        return upstream_alone(public, public_hints, path);
     }
-    over::upstream(public, overrides, hints, path)
+    over::upstream(public, overrides, public_hints, own_hints, path)
 }
 
 // The indices after the hop from AS(i) to AS(i + 1).
@@ -172,14 +178,20 @@ fn ramps_alone(reg: &[u32], hints: &[u32], path: &[u32]) -> Ramps
 }
 
 // All four indices.
-fn find_ramps<'a>(public: &'a [u32], overrides: &'a [u32], hints: &[u32], path: &[u32]) -> Ramps
+fn find_ramps<'a>(
+    public: &'a [u32],
+    overrides: &'a [u32],
+    public_hints: &[u32],
+    own_hints: &[u32],
+    path: &[u32],
+) -> Ramps
     requires { ⌜ Judgeable (lent (now public) (now overrides)) (now path) ⌝ }
     ensures { λ r. ⌜ r ≡ rampsOf (hopIn (lent (now (public .entry)) (now (overrides .entry)))) (now (path .entry)) ⌝ }
 {
     if table::word(overrides, 0) == 0 {
-        return ramps_alone(public, hints, path);
+        return ramps_alone(public, public_hints, path);
     }
-    over::ramps(public, overrides, hints, path)
+    over::ramps(public, overrides, public_hints, own_hints, path)
 }
 
 // The registers of the hops to AS(u) and AS(v), both Not Provider+, where u is at most v: those that count for AS(u - 1) and AS(v + 1).
@@ -197,11 +209,12 @@ fn origins(overrides: &[u32], path: &[u32], u: usize, v: usize) -> Origins
     )
 }
 
-// The answer for a path of 1 number or more, looked up with hints for the public register.
+// The answer for a path of 1 number or more, looked up with hints for each register.
 pub fn judge_hinted<'a>(
     public: &'a [u32],
     overrides: &'a [u32],
-    hints: &[u32],
+    public_hints: &[u32],
+    own_hints: &[u32],
     role: Role,
     path: &[u32],
 ) -> Answer
@@ -209,9 +222,9 @@ pub fn judge_hinted<'a>(
     ensures { λ r. ⌜ r ≡ judged (hopIn (lent (now (public .entry)) (now (overrides .entry)))) (now (path .entry)) (roleNumber role) ⌝ }
 {
     if role.is_upstream() {
-        return Answer::Plain(upstream(public, overrides, hints, path));
+        return Answer::Plain(upstream(public, overrides, public_hints, own_hints, path));
     }
-    let r = find_ramps(public, overrides, hints, path);
+    let r = find_ramps(public, overrides, public_hints, own_hints, path);
     let u = r.u;
     let v = r.v;
     let k = r.k;
@@ -235,5 +248,12 @@ pub fn judge<'a>(public: &'a [u32], overrides: &'a [u32], role: Role, path: &[u3
     requires { ⌜ Judgeable (lent (now public) (now overrides)) (now path) ⌝ }
     ensures { λ r. ⌜ r ≡ judged (hopIn (lent (now (public .entry)) (now (overrides .entry)))) (now (path .entry)) (roleNumber role) ⌝ }
 {
-    judge_hinted(public, overrides, &registers::NO_HINTS, role, path)
+    judge_hinted(
+        public,
+        overrides,
+        &registers::NO_HINTS,
+        &registers::NO_HINTS,
+        role,
+        path,
+    )
 }

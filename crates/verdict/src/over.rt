@@ -11,7 +11,13 @@ ghost use Rattle.verdict.specs.Helpers.{Judgeable};
 ghost use Rattle.verdict.specs.Ramps.{rampsOf};
 
 // Upstream, one look-up for each number but the last.
-pub fn upstream<'a>(public: &'a [u32], overrides: &'a [u32], hints: &[u32], path: &[u32]) -> Verdict
+pub fn upstream<'a>(
+    public: &'a [u32],
+    overrides: &'a [u32],
+    public_hints: &[u32],
+    own_hints: &[u32],
+    path: &[u32],
+) -> Verdict
     requires { ⌜ Judgeable (lent (now public) (now overrides)) (now path) ⌝ }
     ensures { λ r. ⌜ r ≡ verdicts.upstream (hopIn (lent (now (public .entry)) (now (overrides .entry)))) (now (path .entry)) ⌝ }
 {
@@ -22,7 +28,14 @@ pub fn upstream<'a>(public: &'a [u32], overrides: &'a [u32], hints: &[u32], path
         let u = i + 1;
         let x = path[n - i];
         let y = path[n - u];
-        let hop = registers::hop_between(public, overrides, hints, AsNumber(x), AsNumber(y));
+        let hop = registers::hop_between(
+            public,
+            overrides,
+            public_hints,
+            own_hints,
+            AsNumber(x),
+            AsNumber(y),
+        );
         if rules::is_not_plus(hop) {
             let a = u as u32;
             return Verdict::Invalid(Cause::ByHops(a, 0, Origins::One(rules::origin(hop))));
@@ -40,7 +53,13 @@ pub fn upstream<'a>(public: &'a [u32], overrides: &'a [u32], hints: &[u32], path
 }
 
 // All four indices in one pass, with one look-up for each number on the path and one reading of its lists.
-pub fn ramps<'a>(public: &'a [u32], overrides: &'a [u32], hints: &[u32], path: &[u32]) -> Ramps
+pub fn ramps<'a>(
+    public: &'a [u32],
+    overrides: &'a [u32],
+    public_hints: &[u32],
+    own_hints: &[u32],
+    path: &[u32],
+) -> Ramps
     requires { ⌜ Judgeable (lent (now public) (now overrides)) (now path) ⌝ }
     ensures { λ r. ⌜ r ≡ rampsOf (hopIn (lent (now (public .entry)) (now (overrides .entry)))) (now (path .entry)) ⌝ }
 {
@@ -56,7 +75,8 @@ pub fn ramps<'a>(public: &'a [u32], overrides: &'a [u32], hints: &[u32], path: &
     let mut up = registers::hop_between(
         public,
         overrides,
-        hints,
+        public_hints,
+        own_hints,
         AsNumber(origin),
         crate::number_or_zero(path, 2),
     );
@@ -66,7 +86,8 @@ pub fn ramps<'a>(public: &'a [u32], overrides: &'a [u32], hints: &[u32], path: &
         let hops = registers::hops_between(
             public,
             overrides,
-            hints,
+            public_hints,
+            own_hints,
             AsNumber(y),
             AsNumber(x),
             crate::number_or_zero(path, i + 2),

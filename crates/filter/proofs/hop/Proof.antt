@@ -26,13 +26,16 @@ returns-2 c =
 slice-aggregate-hop-between : tie.Need-slice-aggregate-hop-between
 slice-aggregate-hop-between c = search needs
 
+slice-aggregate-hop-between-2 : tie.Need-slice-aggregate-hop-between-2
+slice-aggregate-hop-between-2 c = search needs
+
 hop-between-requires : tie.Need-hop-between-requires
-hop-between-requires c κs = sym (c .before .before .are-registers .ensures) ∙ not-false _ (c .before .if2 .left)
+hop-between-requires c κs = sym (c .before .before .before .are-registers .ensures) ∙ not-false _ (c .before .before .if2 .left)
 
 returns-3 : tie.Need-returns-3
 returns-3 c =
-    let a = c .before .before .before .before .before .before .before .before .args in
-    hop-answered (lent (a .public .now) (a .overrides .now)) (a .x .0) (a .y .0) (sym (c .before .before .before .before .before .are-long .ensures) ∙ not-false _ (c .before .before .before .before .if1 .left)) (sym (c .before .before .before .are-registers .ensures) ∙ not-false _ (c .before .before .if2 .left)) (c .hop-between .ensures)
+    let a = c .before .before .before .before .before .before .before .before .before .args in
+    hop-answered (lent (a .public .now) (a .overrides .now)) (a .x .0) (a .y .0) (sym (c .before .before .before .before .before .before .are-long .ensures) ∙ not-false _ (c .before .before .before .before .before .if1 .left)) (sym (c .before .before .before .before .are-registers .ensures) ∙ not-false _ (c .before .before .before .if2 .left)) (c .hop-between .ensures)
 
 pub hop-spec : {M : Type 1} → statement M
 hop-spec =
@@ -43,5 +46,6 @@ hop-spec =
     are-registers-requires
     returns-2
     slice-aggregate-hop-between
+    slice-aggregate-hop-between-2
     hop-between-requires
     returns-3)

@@ -13,14 +13,14 @@ choose-requires c κs = search needs
 
 hop-from-requires : tie.Need-hop-from-requires
 hop-from-requires c κs =
-    let s = c .before .before .before .before .before in
+    let s = c .before .before .before .before .before .before in
     let reg = lent (s .args .public .now) (s .args .overrides .now) in
     let e = c .before .locate .ensures in
     (words-ok reg _ e (c .choose .ensures) (s .pre), words-position reg _ e (c .choose .ensures))
 
 returns : tie.Need-returns
 returns c =
-    let s = c .before .before .before .before .before .before in
+    let s = c .before .before .before .before .before .before .before in
     let reg = lent (s .args .public .now) (s .args .overrides .now) in
     let e = c .before .before .locate .ensures in
     let w = c .before .choose .ensures in

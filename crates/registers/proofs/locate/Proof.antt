@@ -6,9 +6,6 @@ use Rattle.registers.proofs.Choosing.{public-ok, overrides-ok, found-ov
 use Rattle.registers.proofs.locate.Statement.{statement}
 use Rattle.registers.proofs.locate.Tie as tie
 
-slice-aggregate-find : tie.Need-slice-aggregate-find
-slice-aggregate-find c = search needs
-
 find-requires : tie.Need-find-requires
 find-requires c κs = let s = c .before .before .before .before in overrides-ok (lent (s .args .public .now) (s .args .overrides .now)) (s .pre)
 
@@ -25,4 +22,4 @@ returns-2 : tie.Need-returns-2
 returns-2 c = found-public _ _ _ (sym (c .before .before .attests .ensures) ∙ c .before .if1 .left) (c .find2 .ensures)
 
 pub locate-spec : {M : Type 1} → statement M
-locate-spec = tie.close (tie.spec slice-aggregate-find find-requires attests-requires returns find-requires-2 returns-2)
+locate-spec = tie.close (tie.spec find-requires attests-requires returns find-requires-2 returns-2)

@@ -13,7 +13,7 @@ same-length c = search needs
 
 returns : tie.Need-returns
 returns c =
-    let s = c .before .before .before .before .before .before .before in
+    let s = c .before .before .before .before .before .before .before .before in
     grounded (s .pre .1) (c .before .ground .ensures) (hopIn (lent (s .args .public .now) (s .args .overrides .now))) (c .if1 .taken)
 
 role-requires : tie.Need-role-requires
@@ -25,7 +25,7 @@ path-requires c κs = search needs
 judge-hinted-requires : tie.Need-judge-hinted-requires
 judge-hinted-requires c κs =
     let g = c .before .before .before .before in
-    let s = g .before .before .before .before .before .before .before in
+    let s = g .before .before .before .before .before .before .before .before in
     let m = may-judge (s .pre .1) (g .before .ground .ensures) (g .if1 .left) (c .path .ensures) in
     (s .pre .0, m .0, m .1)
 
@@ -43,7 +43,7 @@ returns-2 c =
     let v = c .before .before .before .before in
     let r = v .before .before .before .before in
     let g = r .before .before in
-    let s = g .before .before .before .before .before .before .before in
+    let s = g .before .before .before .before .before .before .before .before in
     rejudged-route (s .pre .1) (g .before .ground .ensures) (g .if1 .left) (v .before .before .path .ensures)
     (hopIn (lent (s .args .public .now) (s .args .overrides .now))) (r .role .ensures) (v .before .judge-hinted .ensures) (v .verdict .ensures)
     (c .before .before .stamp .ensures)

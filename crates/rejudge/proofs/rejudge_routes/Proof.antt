@@ -8,19 +8,19 @@ use Rattle.rejudge.proofs.rejudge_routes.Statement.{statement}
 use Rattle.rejudge.proofs.rejudge_routes.Tie as tie
 
 abbrev Inv-loop : tie.InvT-loop
-Inv-loop public overrides hints led₀ n changed₀ i₀ led changed i = Turned (hopIn (lent public overrides)) led₀ n led changed i
+Inv-loop public overrides hints own led₀ n changed₀ i₀ led changed i = Turned (hopIn (lent public overrides)) led₀ n led changed i
 
 abbrev μ-loop : tie.MeasureT-loop
-μ-loop public overrides hints led₀ n changed₀ i₀ led changed i = n - i
+μ-loop public overrides hints own led₀ n changed₀ i₀ led changed i = n - i
 
 count-requires : tie.Need-count-requires Inv-loop μ-loop
 count-requires c κs = search needs
 
 loop-holds : tie.Need-loop-holds Inv-loop μ-loop
-loop-holds c = turns _ _ (c .before .before .before .before .before .before .pre .1) (c .before .before .before .before .before .before .pre .2) (c .count .ensures .0)
+loop-holds c = turns _ _ (c .before .before .before .before .before .before .before .pre .1) (c .before .before .before .before .before .before .before .pre .2) (c .count .ensures .0)
 
 rejudge-route-requires : tie.Need-rejudge-route-requires Inv-loop μ-loop
-rejudge-route-requires c κs = (c .before .before .before .before .before .before .before .before .before .pre .0, may-turn (c .before .before .loop .inv) (c .before .loop-test .taken))
+rejudge-route-requires c κs = (c .before .before .before .before .before .before .before .before .before .before .pre .0, may-turn (c .before .before .loop .inv) (c .before .loop-test .taken))
 
 add-i : tie.Need-add-i Inv-loop μ-loop
 add-i c = search needs

@@ -11,15 +11,15 @@ use Rattle.verdict.proofs.find_ramps.Tie as tie
 
 word-requires : tie.Need-word-requires
 word-requires c κs =
-    let s = c .before .before .before .before in
+    let s = c .before .before .before .before .before in
     omega (arith, head-within (s .args .overrides .now) (overrides-ok (lent (s .args .public .now) (s .args .overrides .now)) (s .pre .0)))
 
 ramps-alone-requires : tie.Need-ramps-alone-requires
-ramps-alone-requires c κs = let s = c .before .before .before .before .before .before in (public-ok (lent (s .args .public .now) (s .args .overrides .now)) (s .pre .0), s .pre .1, s .pre .2)
+ramps-alone-requires c κs = let s = c .before .before .before .before .before .before .before in (public-ok (lent (s .args .public .now) (s .args .overrides .now)) (s .pre .0), s .pre .1, s .pre .2)
 
 returns : tie.Need-returns
 returns c =
-    let s = c .before .before .before .before .before .before .before in
+    let s = c .before .before .before .before .before .before .before .before in
     c .ramps-alone .ensures ∙ ap (λ hop. rampsOf hop (s .args .path .now)) (sym (hops-alone (lent (s .args .public .now) (s .args .overrides .now)) (s .pre .0) (c .before .before .word .ensures .0) (c .before .if1 .taken)))
 
 ramps-requires : tie.Need-ramps-requires

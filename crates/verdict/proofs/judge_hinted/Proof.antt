@@ -23,37 +23,37 @@ find-ramps-requires : tie.Need-find-ramps-requires
 find-ramps-requires c κs = search needs
 
 cast-gap : tie.Need-cast-gap
-cast-gap c = omega (arith, bounded _ _ (c .before .before .before .before .before .before .before .pre .1) (c .find-ramps .ensures) .l)
+cast-gap c = omega (arith, bounded _ _ (c .before .before .before .before .before .before .before .before .pre .1) (c .find-ramps .ensures) .l)
 
 cast-gap-2 : tie.Need-cast-gap-2
-cast-gap-2 c = omega (arith, bounded _ _ (c .before .before .before .before .before .before .before .pre .1) (c .find-ramps .ensures) .k)
+cast-gap-2 c = omega (arith, bounded _ _ (c .before .before .before .before .before .before .before .before .pre .1) (c .find-ramps .ensures) .k)
 
 gap-requires : tie.Need-gap-requires
 gap-requires c κs =
-    let b = bounded _ _ (c .before .before .before .before .before .before .before .pre .1) (c .find-ramps .ensures) in
+    let b = bounded _ _ (c .before .before .before .before .before .before .before .before .pre .1) (c .find-ramps .ensures) in
     (omega (arith, b .l), omega (arith, b .k))
 
 origins-requires : tie.Need-origins-requires
 origins-requires c κs =
     let f = c .before .before in
-    let s = f .before .before .before .before .before .before .before in
+    let s = f .before .before .before .before .before .before .before .before in
     may-name (lent (s .args .public .now) (s .args .overrides .now)) (s .args .path .now) (f .find-ramps .ensures) (c .if2 .taken) (s .pre .0) (s .pre .2)
-
-cast-t18 : tie.Need-cast-t18
-cast-t18 c =
-    let f = c .before .before .before in
-    omega (arith, bounded _ _ (f .before .before .before .before .before .before .before .pre .1) (f .find-ramps .ensures) .u)
 
 cast-t19 : tie.Need-cast-t19
 cast-t19 c =
     let f = c .before .before .before in
-    omega (arith, bounded _ _ (f .before .before .before .before .before .before .before .pre .1) (f .find-ramps .ensures) .v)
+    omega (arith, bounded _ _ (f .before .before .before .before .before .before .before .before .pre .1) (f .find-ramps .ensures) .u)
+
+cast-t20 : tie.Need-cast-t20
+cast-t20 c =
+    let f = c .before .before .before in
+    omega (arith, bounded _ _ (f .before .before .before .before .before .before .before .before .pre .1) (f .find-ramps .ensures) .v)
 
 returns-2 : tie.Need-returns-2
 returns-2 c =
     let g = c .before .before in
     let f = g .before in
-    let s = f .before .before .before .before .before .before .before in
+    let s = f .before .before .before .before .before .before .before .before in
     let n = named (lent (s .args .public .now) (s .args .overrides .now)) (s .args .path .now) (f .find-ramps .ensures) (c .before .if2 .taken) (c .origins .ensures) in
     judged-invalid _ _ _ (sym (f .before .before .is-upstream .ensures) ∙ f .before .if1 .left) (f .find-ramps .ensures)
     (toZ-ofZ w32 _ (record { sfits = g .gap .ok }) ∙ g .gap .ensures) (c .before .if2 .taken) n
@@ -61,7 +61,7 @@ returns-2 c =
 add-if3 : tie.Need-add-if3
 add-if3 c =
     let f = c .before .before in
-    omega (arith, bounded _ _ (f .before .before .before .before .before .before .before .pre .1) (f .find-ramps .ensures) .k)
+    omega (arith, bounded _ _ (f .before .before .before .before .before .before .before .before .pre .1) (f .find-ramps .ensures) .k)
 
 returns-3 : tie.Need-returns-3
 returns-3 c =
@@ -70,15 +70,15 @@ returns-3 c =
     judged-valid _ _ _ (sym (f .before .before .is-upstream .ensures) ∙ f .before .if1 .left) (f .find-ramps .ensures)
     (toZ-ofZ w32 _ (record { sfits = g .gap .ok }) ∙ g .gap .ensures) (c .before .if2 .left) (c .if3 .taken)
 
-cast-t15 : tie.Need-cast-t15
-cast-t15 c =
-    let f = c .before .before .before in
-    omega (arith, bounded _ _ (f .before .before .before .before .before .before .before .pre .1) (f .find-ramps .ensures) .k)
-
 cast-t16 : tie.Need-cast-t16
 cast-t16 c =
     let f = c .before .before .before in
-    omega (arith, bounded _ _ (f .before .before .before .before .before .before .before .pre .1) (f .find-ramps .ensures) .l)
+    omega (arith, bounded _ _ (f .before .before .before .before .before .before .before .before .pre .1) (f .find-ramps .ensures) .k)
+
+cast-t17 : tie.Need-cast-t17
+cast-t17 c =
+    let f = c .before .before .before in
+    omega (arith, bounded _ _ (f .before .before .before .before .before .before .before .before .pre .1) (f .find-ramps .ensures) .l)
 
 returns-4 : tie.Need-returns-4
 returns-4 c =
@@ -99,11 +99,11 @@ judge-hinted-spec =
     cast-gap-2
     gap-requires
     origins-requires
-    cast-t18
     cast-t19
+    cast-t20
     returns-2
     add-if3
     returns-3
-    cast-t15
     cast-t16
+    cast-t17
     returns-4)

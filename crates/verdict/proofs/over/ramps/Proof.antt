@@ -8,10 +8,10 @@ use Rattle.verdict.proofs.over.ramps.Statement.{statement}
 use Rattle.verdict.proofs.over.ramps.Tie as tie
 
 abbrev Inv-loop : tie.InvT-loop
-Inv-loop public overrides hints path n r₀ i₀ origin up₀ r i up = Passing (hopIn (lent public overrides)) path r i up
+Inv-loop public overrides hints own path n r₀ i₀ origin up₀ r i up = Passing (hopIn (lent public overrides)) path r i up
 
 abbrev μ-loop : tie.MeasureT-loop
-μ-loop public overrides hints path n r₀ i₀ origin up₀ r i up = n - i
+μ-loop public overrides hints own path n r₀ i₀ origin up₀ r i up = n - i
 
 add-origin : tie.Need-add-origin Inv-loop μ-loop
 add-origin c = search needs
@@ -32,7 +32,7 @@ hop-between-requires : tie.Need-hop-between-requires Inv-loop μ-loop
 hop-between-requires c κs = search needs
 
 loop-holds : tie.Need-loop-holds Inv-loop μ-loop
-loop-holds c = passes _ _ (c .before .before .before .before .before .before .before .pre .1) (c .before .number-or-zero .ensures) (c .hop-between .ensures)
+loop-holds c = passes _ _ (c .before .before .before .before .before .before .before .before .pre .1) (c .before .number-or-zero .ensures) (c .hop-between .ensures)
 
 sub-x : tie.Need-sub-x Inv-loop μ-loop
 sub-x c = search needs
@@ -70,12 +70,12 @@ after-up-requires c κs = search needs
 after-down-requires : tie.Need-after-down-requires Inv-loop μ-loop
 after-down-requires c κs =
     let t = c .before .before .before .before .before in
-    omega (arith, t .loop-test .taken, t .before .before .before .before .before .before .before .before .before .pre .2)
+    omega (arith, t .loop-test .taken, t .before .before .before .before .before .before .before .before .before .before .pre .2)
 
 add-i : tie.Need-add-i Inv-loop μ-loop
 add-i c =
     let t = c .before .before .before .before .before .before in
-    omega (arith, t .loop-test .taken, t .before .before .before .before .before .before .before .before .before .pre .2)
+    omega (arith, t .loop-test .taken, t .before .before .before .before .before .before .before .before .before .before .pre .2)
 
 loop-less : tie.Need-loop-less Inv-loop μ-loop
 loop-less c = search needs

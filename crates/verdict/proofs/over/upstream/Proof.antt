@@ -9,16 +9,16 @@ use Rattle.verdict.proofs.over.upstream.Statement.{statement}
 use Rattle.verdict.proofs.over.upstream.Tie as tie
 
 abbrev Inv-loop : tie.InvT-loop
-Inv-loop public overrides hints path n unattested₀ i₀ unattested i = Rising (hopIn (lent public overrides)) path unattested i
+Inv-loop public overrides hints own path n unattested₀ i₀ unattested i = Rising (hopIn (lent public overrides)) path unattested i
 
 abbrev μ-loop : tie.MeasureT-loop
-μ-loop public overrides hints path n unattested₀ i₀ unattested i = n - i
+μ-loop public overrides hints own path n unattested₀ i₀ unattested i = n - i
 
 add-unattested : tie.Need-add-unattested Inv-loop μ-loop
 add-unattested c = search needs
 
 loop-holds : tie.Need-loop-holds Inv-loop μ-loop
-loop-holds c = rises _ _ (c .before .before .before .before .pre .1)
+loop-holds c = rises _ _ (c .before .before .before .before .before .pre .1)
 
 add-u : tie.Need-add-u Inv-loop μ-loop
 add-u c = search needs
