@@ -1,7 +1,7 @@
 -- `filter::keep_answer` meets its contract. Assumes nothing.
 use Rattle.types.specs.declared.Verdict.{Verdict}
 use Rattle.ledger.specs.Routes.{Route}
-use mathlib.Core.Path.{_≡_, _∙_, ap}
+use mathlib.Core.Path.{_∙_, ap}
 use Rattle.types.specs.Numbers.{roleNumber, verdictOf}
 use Rattle.ledger.specs.Calls.{routeFor, storeEffect}
 use Rattle.effects.proofs.Keepings.{stored-done, stored-refused}

@@ -1,5 +1,5 @@
 -- `filter::know` meets its contract. Assumes nothing.
-use mathlib.Core.Path.{_≡_, sym, _∙_}
+use mathlib.Core.Path.{sym, _∙_}
 use Rattle.filter.proofs.Knowing.{know-none, know-neighbour, know-length, know-role}
 use borrow.Author.Needs.{needs}
 use Rattle.filter.proofs.know.Statement.{statement}

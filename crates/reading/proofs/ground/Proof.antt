@@ -1,7 +1,6 @@
 -- `reading::ground` meets its contract. Assumes nothing.
 use Rattle.as_path.specs.Segments.{numberBytes}
 use Rattle.types.specs.Numbers.{roleNumber}
-use mathlib.Core.Path.{_≡_, sym, _∙_}
 use native.Mathlib.Omega.{arith}
 use Rattle.as_path.proofs.Grounding.{ground-empty, ground-is}
 use borrow.Author.Needs.{needs}

@@ -1,7 +1,7 @@
 -- `reading::is_not_neighbour` meets its contract. Assumes nothing.
 use Rattle.as_path.specs.Segments.{numberBytes}
 use Rattle.types.specs.Numbers.{roleNumber}
-use mathlib.Core.Path.{_≡_, sym, _∙_, ap}
+use mathlib.Core.Path.{sym, _∙_, ap}
 use mathlib.Core.Bool.{not}
 use lib.Dec.{eqb}
 use Rattle.as_path.proofs.Scanning.{number-part}

@@ -1,5 +1,4 @@
 -- `reading::number_at` meets its contract. Assumes nothing.
-use mathlib.Core.Path.{_≡_, sym, _∙_}
 use Rattle.as_path.proofs.Scanning.{four-bytes}
 use borrow.Author.Needs.{needs}
 use Rattle.reading.proofs.number_at.Statement.{statement}

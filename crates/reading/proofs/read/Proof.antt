@@ -1,6 +1,6 @@
 -- `reading::read` meets its contract. Assumes nothing.
 use Rattle.types.specs.Numbers.{roleNumber}
-use mathlib.Core.Path.{_≡_, refl, sym, _∙_}
+use mathlib.Core.Path.{refl, sym, _∙_}
 use Rattle.as_path.proofs.Contents.{content-faulty, content-grounded, content-merged, too-long, short-enough}
 use borrow.Author.Needs.{needs}
 use Rattle.reading.proofs.read.Statement.{statement}

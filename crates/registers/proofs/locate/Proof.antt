@@ -1,6 +1,5 @@
 -- `registers::locate` meets its contract. Assumes nothing.
 use mathlib.Core.Path.{sym, _∙_}
-use borrow.Author.Needs.{needs}
 use Rattle.registers.specs.Registers.{lent}
 use Rattle.registers.proofs.Choosing.{public-ok, overrides-ok, found-overrides, found-public}
 use Rattle.registers.proofs.locate.Statement.{statement}
