@@ -44,31 +44,35 @@ highest-is test i (suc n) one = go (highest-is test i n one) (test (i + n)) refl
             let z : j ≡ i + n = omega (arith, ltb-false j (i + n) l) in
             ap test z ∙ e
 
+-- Of two searches upward of a range, one that more of its indices pass ends no later.
+pub lowest-sooner : {test test' : ℕ → Bool} {i n r s : ℕ} → ((j : ℕ) → i ≤ j → j < i + n → test j ≡ true → test' j ≡ true)
+    → Lowest test i n r → Lowest test' i n s → s ≤ r
+lowest-sooner {r} {s} more x y = go (ltb r s) refl
+  where
+    go : (b : Bool) → ltb r s ≡ b → s ≤ r
+    go true l =
+        let h : r < s = ltb-true r s l in
+        absurd (true≢false (sym (more r (x .low) (omega (arith, y .high)) (x .passes (omega (arith, y .high)))) ∙ y .first r (x .low) h))
+    go false l = ltb-false r s l
+
 -- There is one lowest index.
 pub lowest-only : {test : ℕ → Bool} {i n r s : ℕ} → Lowest test i n r → Lowest test i n s → r ≡ s
-lowest-only {test} {i} {n} x y = omega (arith, before x y, before y x)
+lowest-only x y = omega (arith, lowest-sooner (λ j a b e. e) x y, lowest-sooner (λ j a b e. e) y x)
+
+-- Of two searches downward, one that more indices pass ends no lower.
+pub highest-later : {test test' : ℕ → Bool} {i n r s : ℕ} → 1 ≤ i → ((j : ℕ) → i ≤ j → j < i + n → test j ≡ true → test' j ≡ true)
+    → Highest test i n r → Highest test' i n s → r ≤ s
+highest-later {r} {s} one more x y = go (ltb s r) refl
   where
-    before : {r s : ℕ} → Lowest test i n r → Lowest test i n s → s ≤ r
-    before {r} {s} x y = go (ltb r s) refl
-      where
-        go : (b : Bool) → ltb r s ≡ b → s ≤ r
-        go true l =
-            let h : r < s = ltb-true r s l in
-            absurd (true≢false (sym (x .passes (omega arith)) ∙ y .first r (x .low) h))
-        go false l = ltb-false r s l
+    go : (b : Bool) → ltb s r ≡ b → r ≤ s
+    go true l =
+        let h : s < r = ltb-true s r l in
+        absurd (true≢false (sym (more r (omega (arith, y .low)) (x .high) (x .passes (omega (arith, y .low)))) ∙ y .last r h (x .high)))
+    go false l = ltb-false s r l
 
 -- There is one highest index.
 pub highest-only : {test : ℕ → Bool} {i n r s : ℕ} → 1 ≤ i → Highest test i n r → Highest test i n s → r ≡ s
-highest-only {test} {i} {n} one x y = omega (arith, before x y, before y x)
-  where
-    before : {r s : ℕ} → Highest test i n r → Highest test i n s → r ≤ s
-    before {r} {s} x y = go (ltb s r) refl
-      where
-        go : (b : Bool) → ltb s r ≡ b → r ≤ s
-        go true l =
-            let h : s < r = ltb-true s r l in
-            absurd (true≢false (sym (x .passes (omega arith)) ∙ y .last r h (x .high)))
-        go false l = ltb-false s r l
+highest-only one x y = omega (arith, highest-later one (λ j a b e. e) x y, highest-later one (λ j a b e. e) y x)
 
 -- What a search upward finds depends on the test within its range alone.
 pub lowest-same :
