@@ -1,0 +1,5 @@
+pub mod Blocking
+pub mod Fillings
+pub mod Staying
+pub mod Records
+pub mod Laws
