@@ -2,4 +2,6 @@ pub mod Blocking
 pub mod Fillings
 pub mod Staying
 pub mod Records
+pub mod Putting
+pub mod Filings
 pub mod Laws
