@@ -4,4 +4,5 @@ pub mod Staying
 pub mod Records
 pub mod Putting
 pub mod Filings
+pub mod Calls
 pub mod Laws

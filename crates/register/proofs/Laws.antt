@@ -39,7 +39,7 @@ module _ (ws : List ℕ) (source customer : ℕ) (list : List ℕ) (e : firstGiv
   unfolding fileEffect
   file-words = rw e
 
-  file-records : recordsOf (fileEffect ws source customer list .words) ≡ putRecord (recordFor source customer list) (recordsOf ws)
+  pub file-records : recordsOf (fileEffect ws source customer list .words) ≡ putRecord (recordFor source customer list) (recordsOf ws)
   file-records =
       ap recordsOf file-words
       ∙ read-back (putRecord (recordFor source customer list) (recordsOf ws))
