@@ -165,6 +165,13 @@ impl Tally {
     }
 }
 
+/// By role.
+type Tallies = [Tally; 2];
+
+fn note(tallies: &mut Tallies, admitted: [bool; 2]) {
+    tallies.iter_mut().zip(admitted).for_each(|(tally, admitted)| tally.note(admitted));
+}
+
 /// A path, left end first, each number on which has a set.
 struct Filled<'a> {
     path: &'a [AsNumber],
@@ -206,11 +213,8 @@ impl Filled<'_> {
         }
     }
 
-    /// By each role.
-    fn note(&self, tallies: &mut [Tally; 2]) {
-        for (tally, role) in tallies.iter_mut().zip(ROLES) {
-            tally.note(self.admitted(role));
-        }
+    fn admitted_by_role(&self) -> [bool; 2] {
+        ROLES.map(|role| self.admitted(role))
     }
 }
 
@@ -361,10 +365,10 @@ fn the_cases_are_many() {
     assert_eq!(paths.len(), 4 + 12 + 36 + 108 + 324 + 972);
     let expected = [
         ("unattested", 2_916),
-        ("public", 0),
-        ("overridden", 0),
-        ("overridden, with public records", 0),
-        ("several sources", 0),
+        ("public", 16_370),
+        ("overridden", 2_822),
+        ("overridden, with public records", 4_136),
+        ("several sources", 12_626),
     ];
     assert_eq!(numbers, BTreeMap::from(expected));
 }
@@ -377,10 +381,10 @@ fn outcomes_by_every_filling() {
     let mut counts = [[0; 3]; 2];
     for case in cases() {
         for path in &case.paths {
-            let mut tallies = [Tally::default(); 2];
+            let mut tallies = Tallies::default();
             fill(case.sets, path, &case.unattested, |filled| {
                 fillings += 1;
-                filled.note(&mut tallies);
+                note(&mut tallies, filled.admitted_by_role());
             });
             for (nth, role) in ROLES.into_iter().enumerate() {
                 let by_fillings = tallies[nth].outcome();
@@ -391,7 +395,7 @@ fn outcomes_by_every_filling() {
         }
     }
     assert_eq!(fillings, 97_573_160);
-    assert_eq!(counts, [[0; 3]; 2]);
+    assert_eq!(counts, [[31_869, 362_973, 25_062], [85_104, 285_156, 49_644]]);
 }
 
 /// A record for a number that had none in either register alters no Valid and no Invalid.
@@ -420,9 +424,9 @@ fn first_records() {
         }
     }
     assert_eq!(filings, 2_916 * 15 * 2);
-    assert_eq!(moves, [[0, 0, 0], [0, 0, 0], [0, 0, 0]]);
-    assert_eq!(places, [0, 0, 0]);
-    assert_eq!(gaps, [0, 0, 0]);
+    assert_eq!(moves, [[823_740, 0, 0], [0, 7_358_970, 0], [883_080, 1_363_500, 768_150]]);
+    assert_eq!(places, [0, 1_508_052, 264_172]);
+    assert_eq!(gaps, [185_664, 796_736, 189_264]);
 }
 
 /// What an operator may count on when a number has records, and what not. A 0 in a list counts
@@ -479,19 +483,56 @@ fn laws_for_operators() {
             }
         }
     }
-    assert_eq!(seen, BTreeMap::from([("x", [[0, 0, 0], [0, 0, 0], [0, 0, 0]])]));
+    let expected: [(&str, Moves); 11] = [
+        // Valid stays if a list keeps what it replaces, Invalid if all its numbers were providers.
+        (
+            "keeps what the source held",
+            [[2_156_748, 0, 0], [626_892, 11_291_084, 273_020], [20_058, 0, 933_446]],
+        ),
+        ("known providers", [[1_328_672, 124_108, 3_876], [0, 6_296_687, 0], [0, 81_363, 565_166]]),
+        // Without that neither need stay. Vector N is from a second source.
+        (
+            "drops what the source held",
+            [[707_815, 184_788, 6_149], [142_190, 3_922_781, 65_368], [4_698, 84_230, 301_373]],
+        ),
+        (
+            "others, from a second source",
+            [[601_822, 0, 0], [290_346, 3_366_924, 131_264], [9_584, 0, 265_916]],
+        ),
+        (
+            "others, from the same source",
+            [[971_922, 82_430, 2_814], [478_736, 5_895_112, 207_124], [15_172, 38_002, 420_560]],
+        ),
+        (
+            "first override",
+            [[509_967, 157_930, 5_573], [180_828, 3_233_828, 83_884], [6_004, 70_439, 221_307]],
+        ),
+        // Of a number that is left unattested
+        ("withdrawn, the only one", [[12_848, 0, 12_536], [0, 114_904, 23_530], [0, 0, 12_438]]),
+        ("withdrawn, one of several", [[82_279, 11_041, 282], [0, 490_636, 0], [0, 4_393, 34_857]]),
+        (
+            "withdrawn, the only override",
+            [[3_497, 1_469, 36], [1_104, 28_465, 757], [38, 805, 1_973]],
+        ),
+        // What is hidden counts for nothing.
+        ("first behind an override", [[110_850, 0, 0], [0, 617_220, 0], [0, 0, 51_450]]),
+        ("withdrawn behind an override", [[5_976, 0, 0], [0, 31_791, 0], [0, 0, 2_169]]),
+    ];
+    assert_eq!(seen, BTreeMap::from(expected));
 }
 
-/// Readings that the cases tell from the right one, and two that come to the same.
+/// Readings that the cases tell from the right one, and two that come to the same: u > v for
+/// L - K <= 1, filling by filling, and no empty set while 5 may be in a set.
 #[test]
 fn other_readings() {
     // Attested numbers change too: whatever the registers
-    let free_for_all: Vec<[Tally; 2]> = shapes()
+    let free_for_all: Vec<Tallies> = shapes()
         .iter()
         .map(|shape| {
             let path: Vec<AsNumber> = shape.iter().map(|n| AsNumber(*n as u32)).collect();
-            let mut tallies = [Tally::default(); 2];
-            fill([0; 5], &path, &[1, 2, 3, 4], |filled| filled.note(&mut tallies));
+            let mut tallies = Tallies::default();
+            let each = |filled: &Filled| note(&mut tallies, filled.admitted_by_role());
+            fill([0; 5], &path, &[1, 2, 3, 4], each);
             tallies
         })
         .collect();
@@ -499,27 +540,25 @@ fn other_readings() {
     let mut others: BTreeMap<&str, [usize; 2]> = BTreeMap::new();
     for case in cases() {
         for (path, free_for_all) in case.paths.iter().zip(&free_for_all) {
-            let mut not_empty = [Tally::default(); 2];
-            let mut right = [Tally::default(); 2];
-            let (mut u_and_v, mut v_minus_u) = (Tally::default(), Tally::default());
+            let (mut not_empty, mut v_minus_u) = (Tallies::default(), Tallies::default());
             fill(case.sets, path, &case.unattested, |filled| {
-                filled.note(&mut right);
+                let [upstream, downstream] = filled.admitted_by_role();
+                // No list is empty, so an empty set is one that the filling gave.
                 if path.iter().all(|number| filled.sets[number.0 as usize] != 0) {
-                    filled.note(&mut not_empty);
+                    note(&mut not_empty, [upstream, downstream]);
                 }
                 let (u, v) = (filled.u(), filled.v());
-                u_and_v.note(u > v);
-                v_minus_u.note(v as i32 - u as i32 <= 1);
+                assert_eq!(u > v, downstream, "{path:?} {:?}", filled.sets);
+                note(&mut v_minus_u, [upstream, v as i32 - u as i32 <= 1]);
             });
-            let mut no_choice = [Tally::default(); 2];
             let mut sets = case.sets;
             case.unattested.iter().for_each(|number| sets[*number] = ON_PATHS);
-            Filled { path, sets }.note(&mut no_choice);
+            let mut no_choice = Tallies::default();
+            note(&mut no_choice, Filled { path, sets }.admitted_by_role());
             for (reading, tallies) in [
                 ("attested numbers change too", *free_for_all),
                 ("unattested numbers have no choice", no_choice),
-                ("v - u <= 1", [right[0], v_minus_u]),
-                ("not u <= v", [right[0], u_and_v]),
+                ("v - u <= 1", v_minus_u),
                 ("no empty set", not_empty),
             ] {
                 for (nth, role) in ROLES.into_iter().enumerate() {
@@ -530,5 +569,11 @@ fn other_readings() {
             }
         }
     }
-    assert_eq!(others, BTreeMap::from([("x", [0, 0])]));
+    let expected = [
+        ("attested numbers change too", [388_281, 357_138]),
+        ("unattested numbers have no choice", [25_062, 49_644]),
+        ("v - u <= 1", [0, 165_827]),
+        ("no empty set", [0, 0]),
+    ];
+    assert_eq!(others, BTreeMap::from(expected));
 }

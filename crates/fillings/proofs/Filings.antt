@@ -57,7 +57,7 @@ module _ (p d p' d' : List Record) (c : ℕ)
 -- ---- a record put into one of two registers
 
 module _ (r : Record) (p d : List Record) where
-  abbrev recordsIn : Origin → List Record
+  abbrev pub recordsIn : Origin → List Record
   recordsIn Public = p
   recordsIn Overrides = d
 

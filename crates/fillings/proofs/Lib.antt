@@ -6,3 +6,4 @@ pub mod Putting
 pub mod Filings
 pub mod Calls
 pub mod Laws
+pub mod FilingCalls
