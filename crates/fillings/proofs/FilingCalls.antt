@@ -23,6 +23,22 @@ use Rattle.fillings.specs.Calls.{Lasts, Unattested, AllIn, FilingLaws}
 use Rattle.fillings.proofs.Filings.{recordsIn, hopAfter, all-listed, longer-list, shorter-list, none-new, new-record}
 use Rattle.fillings.proofs.Calls.{lasts}
 
+-- Well-formed registers stay so with other well-formed words in one of them.
+pub rewritten-formed : (reg : Registers) → BothFormed reg → (o : Origin) (ws : List ℕ) → Register ws → BothFormed (rewritten o reg ws)
+rewritten-formed reg w o ws is = both-formed (rewritten o reg ws) (long o) (ok o)
+  where
+    long : (o p : Origin) → length (chosen p (rewritten o reg ws)) ≡ registerWords
+    long Public Public = is .long
+    long Public Overrides = chosen-long reg (w .long) Overrides
+    long Overrides Public = chosen-long reg (w .long) Public
+    long Overrides Overrides = is .long
+
+    ok : (o p : Origin) → registerOk (chosen p (rewritten o reg ws)) ≡ true
+    ok Public Public = is .ok
+    ok Public Overrides = chosen-ok reg (w .ok) Overrides
+    ok Overrides Public = chosen-ok reg (w .ok) Public
+    ok Overrides Overrides = is .ok
+
 module _ (reg : Registers) (o : Origin) (source customer : ℕ) (list : List ℕ) where
   abbrev words : List ℕ
   words = fileEffect (chosen o reg) source customer list .words
@@ -37,24 +53,10 @@ module _ (reg : Registers) (o : Origin) (source customer : ℕ) (list : List ℕ
   overrides = recordsOf (reg .overrides)
 
   -- A filing leaves well-formed registers well formed.
-  formed : BothFormed reg → BothFormed after
-  formed w = both-formed after (λ p. long o p words (is .long)) (λ p. ok o p words (is .ok))
-    where
-      is : Register words
-      is =
-          register-laws .file-formed (chosen o reg) (record { long = chosen-long reg (w .long) o; ok = chosen-ok reg (w .ok) o }) source customer list
-
-      long : (o p : Origin) (ws : List ℕ) → length ws ≡ registerWords → length (chosen p (rewritten o reg ws)) ≡ registerWords
-      long Public Public ws e = e
-      long Public Overrides ws e = chosen-long reg (w .long) Overrides
-      long Overrides Public ws e = chosen-long reg (w .long) Public
-      long Overrides Overrides ws e = e
-
-      ok : (o p : Origin) (ws : List ℕ) → registerOk ws ≡ true → registerOk (chosen p (rewritten o reg ws)) ≡ true
-      ok Public Public ws e = e
-      ok Public Overrides ws e = chosen-ok reg (w .ok) Overrides
-      ok Overrides Public ws e = chosen-ok reg (w .ok) Public
-      ok Overrides Overrides ws e = e
+  pub formed : BothFormed reg → BothFormed after
+  formed w =
+      rewritten-formed reg w o words
+      (register-laws .file-formed (chosen o reg) (record { long = chosen-long reg (w .long) o; ok = chosen-ok reg (w .ok) o }) source customer list)
 
   -- A refused one leaves them as they are, and one that is done puts its record in.
   left : (r : Refusal) → firstGiven (fileRows (chosen o reg) source customer list) ≡ some r → words ≡ chosen o reg
@@ -65,7 +67,7 @@ module _ (reg : Registers) (o : Origin) (source customer : ℕ) (list : List ℕ
   same Public = refl
   same Overrides = refl
 
-  put-in : (o : Origin) (ws : List ℕ) → recordsOf ws ≡ putRecord (recordFor source customer list) (recordsOf (chosen o reg))
+  pub put-in : (o : Origin) (ws : List ℕ) → recordsOf ws ≡ putRecord (recordFor source customer list) (recordsOf (chosen o reg))
       → hopIn (rewritten o reg ws) ≡ hopAfter (recordFor source customer list) public overrides o
   put-in Public ws e = ap (λ rs. hopOver rs overrides) e
   put-in Overrides ws e = ap (λ rs. hopOver public rs) e

@@ -5,5 +5,6 @@ pub mod Records
 pub mod Putting
 pub mod Filings
 pub mod Calls
-pub mod Laws
 pub mod FilingCalls
+pub mod Laws
+pub mod Vectors

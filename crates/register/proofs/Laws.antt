@@ -55,7 +55,7 @@ module _ (ws : List ℕ) (source customer : ℕ) (e : firstGiven (withdrawRows w
   unfolding withdrawEffect
   withdraw-words = rw e
 
-  withdraw-records : recordsOf (withdrawEffect ws source customer .words) ≡ eraseRecord customer source (recordsOf ws)
+  pub withdraw-records : recordsOf (withdrawEffect ws source customer .words) ≡ eraseRecord customer source (recordsOf ws)
   withdraw-records =
       ap recordsOf withdraw-words
       ∙ rest-back ws (samePair (customer, source)) (not-false _ (row-passed _ _ (accepted-none (withdrawRows ws source customer) e 1)))
