@@ -19,8 +19,8 @@ use Rattle.registers.proofs.Choosing.{chosen-long, chosen-ok}
 use Rattle.history.specs.Calls.{Tables, rewritten}
 use Rattle.history.proofs.Origins.{both-formed}
 use Rattle.fillings.specs.Fillings.{Outcome, valid, invalid, Stays}
-use Rattle.fillings.specs.Calls.{Lasts, Unattested, AllIn, FilingLaws}
-use Rattle.fillings.proofs.Filings.{recordsIn, hopAfter, all-listed, longer-list, shorter-list, none-new, new-record}
+use Rattle.fillings.specs.Calls.{Lasts, Unattested, AllIn, LastLaws, FilingLaws}
+use Rattle.fillings.proofs.Filings.{valid-by-lists, invalid-by-lists, recordsIn, hopAfter, all-listed, longer-list, shorter-list, none-new, new-record}
 use Rattle.fillings.proofs.Calls.{lasts}
 
 -- Well-formed registers stay so with other well-formed words in one of them.
@@ -100,6 +100,17 @@ module _ (reg : Registers) (o : Origin) (source customer : ℕ) (list : List ℕ
       let none : attested (counting public overrides customer) customer ≡ false = rw (u .in-overrides) (u .in-public) in
       let both = new-record (recordFor source customer list) public overrides o none in
       (filing-lasts valid (both .0), filing-lasts invalid (both .1))
+
+pub last-laws : LastLaws
+last-laws =
+    record {
+      valid-lasts = λ reg reg' w h.
+          lasts valid reg reg' (λ v. w)
+          (valid-by-lists (recordsOf (reg .public)) (recordsOf (reg .overrides)) (recordsOf (reg' .public)) (recordsOf (reg' .overrides)) h);
+      invalid-lasts = λ reg reg' w h.
+          lasts invalid reg reg' (λ v. w)
+          (invalid-by-lists (recordsOf (reg .public)) (recordsOf (reg .overrides)) (recordsOf (reg' .public)) (recordsOf (reg' .overrides)) h);
+    }
 
 pub filing-laws : FilingLaws
 filing-laws =

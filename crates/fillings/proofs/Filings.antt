@@ -27,32 +27,20 @@ attests p d x = attested (counting p d x) x
 abbrev providers : List Record → List Record → ℕ → List ℕ
 providers p d x = united (counting p d x) x
 
--- Only of the customer c anything else is told.
-module _ (p d p' d' : List Record) (c : ℕ)
-    (same : (x : ℕ) → eqb c x ≡ false → (attests p' d' x ≡ attests p d x) × (providers p' d' x ≡ providers p d x)) where
-  valid-by-lists : AllIn (providers p d c) (providers p' d' c) → Stays valid (hopOver p d) (hopOver p' d')
-  valid-by-lists more = valid-stays (hopOver p d) (hopOver p' d') .1 (λ x y a b n. rw (plus-is p d x y, plus-is p' d' x y) (go x y b (eqb c x) refl))
-    where
-      go : (x y : ℕ) → 1 ≤ y → (t : Bool) → eqb c x ≡ t → isIn y (providers p d x) ≡ true → isIn y (providers p' d' x) ≡ true
-      go x y b true e = subst (λ x. isIn y (providers p d x) ≡ true → isIn y (providers p' d' x) ≡ true) (eqb-true c x e) (more y b)
-      go x y b false e = rw (same x e .1) (λ h. h)
+module _ (p d p' d' : List Record) where
+  pub valid-by-lists : ((x : ℕ) → AllIn (providers p d x) (providers p' d' x)) → Stays valid (hopOver p d) (hopOver p' d')
+  valid-by-lists more = valid-stays (hopOver p d) (hopOver p' d') .1 (λ x y a b n. rw (plus-is p d x y, plus-is p' d' x y) (more x y b))
 
-  invalid-by-lists : (attests p d c ≡ true → attests p' d' c ≡ true) → (attests p d c ≡ true → AllIn (providers p' d' c) (providers p d c))
+  pub invalid-by-lists : ((x : ℕ) → attests p d x ≡ true → (attests p' d' x ≡ true) × AllIn (providers p' d' x) (providers p d x))
       → Stays invalid (hopOver p d) (hopOver p' d')
-  invalid-by-lists still more =
-      invalid-stays (hopOver p d) (hopOver p' d') .1 (λ x y a b n. rw (not-plus-is p d x y, not-plus-is p' d' x y) (go x y b (eqb c x) refl))
+  invalid-by-lists fewer =
+      invalid-stays (hopOver p d) (hopOver p' d') .1
+      (λ x y a b n. rw (not-plus-is p d x y, not-plus-is p' d' x y) (both (attests p d x) _ _ _ (λ h. (fewer x h .0, fewer x h .1 y b))))
     where
-      both : (a i a' i' : Bool) → (a ≡ true → a' ≡ true) → (a ≡ true → i' ≡ true → i ≡ true) → (a && not i) ≡ true → (a' && not i') ≡ true
-      both true true a' i' s g e = absurd (true≢false (sym e))
-      both true false a' i' s g e = rw (s refl, denied i' false (g refl) refl)
-      both false i a' i' s g e = absurd (true≢false (sym e))
-
-      Stay : ℕ → ℕ → Type 0
-      Stay y x = (attests p d x && not (isIn y (providers p d x))) ≡ true → (attests p' d' x && not (isIn y (providers p' d' x))) ≡ true
-
-      go : (x y : ℕ) → 1 ≤ y → (t : Bool) → eqb c x ≡ t → Stay y x
-      go x y b true e = subst (Stay y) (eqb-true c x e) (both (attests p d c) (isIn y (providers p d c)) _ _ still (λ h. more h y b))
-      go x y b false e = rw (same x e .0, same x e .1) (λ h. h)
+      both : (a i a' i' : Bool) → (a ≡ true → (a' ≡ true) × (i' ≡ true → i ≡ true)) → (a && not i) ≡ true → (a' && not i') ≡ true
+      both true true a' i' f e = absurd (true≢false (sym e))
+      both true false a' i' f e = rw (f refl .0, denied i' false (f refl .1) refl)
+      both false i a' i' f e = absurd (true≢false (sym e))
 
 -- ---- a record put into one of two registers
 
@@ -126,10 +114,23 @@ module _ (r : Record) (p d : List Record) where
     after = providers (publicAfter o) (overridesAfter o) (r .customer)
 
     valid-if : AllIn before after → Stays valid (hopOver p d) hopAfter
-    valid-if = valid-by-lists p d (publicAfter o) (overridesAfter o) (r .customer) (others o)
+    valid-if more = valid-by-lists p d (publicAfter o) (overridesAfter o) (λ x. go x (eqb (r .customer) x) refl)
+      where
+        go : (x : ℕ) (b : Bool) → eqb (r .customer) x ≡ b → AllIn (providers p d x) (providers (publicAfter o) (overridesAfter o) x)
+        go x true e = subst (λ x. AllIn (providers p d x) (providers (publicAfter o) (overridesAfter o) x)) (eqb-true (r .customer) x e) more
+        go x false e = λ y b. rw (others o x e .1) (λ h. h)
 
     invalid-if : (attests p d (r .customer) ≡ true → AllIn after before) → Stays invalid (hopOver p d) hopAfter
-    invalid-if = invalid-by-lists p d (publicAfter o) (overridesAfter o) (r .customer) (others o) (still o)
+    invalid-if fewer = invalid-by-lists p d (publicAfter o) (overridesAfter o) (λ x. go x (eqb (r .customer) x) refl)
+      where
+        Fewer : ℕ → Type 0
+        Fewer x =
+            attests p d x ≡ true
+            → (attests (publicAfter o) (overridesAfter o) x ≡ true) × AllIn (providers (publicAfter o) (overridesAfter o) x) (providers p d x)
+
+        go : (x : ℕ) (b : Bool) → eqb (r .customer) x ≡ b → Fewer x
+        go x true e = subst Fewer (eqb-true (r .customer) x e) (λ a. (still o a, fewer a))
+        go x false e = λ a. (others o x e .0 ∙ a, λ y b. rw (others o x e .1) (λ h. h))
 
     pub all-listed : AllIn before (r .providers) → Stays valid (hopOver p d) hopAfter
     all-listed more = valid-if (go (change o))

@@ -1,4 +1,4 @@
--- What the answers of Judge and Keep, and the verdicts of a ledger after a re-judging, say of the fillings ("P7"); which filings leave them.
+-- What the answers of Judge and Keep, and the verdicts of a ledger after a re-judging, say of the fillings ("P7"); which changes leave them.
 use Prim.Native.Nat.{ℕ, _≤_, _<_}
 use mathlib.Core.Path.{_≡_}
 use mathlib.Core.Bool.{true, false}
@@ -57,7 +57,7 @@ pub record CallMeanings : Type 0 where
       → let r = routeAt (routesOf (rejudgeEffect reg led .words)) i in
       r .ground ≡ 0 → (o : Outcome) → (r .verdict ≡ outcomeNumber o) ↔ Means o (hopIn reg) (r .path) (r .role)
 
--- ---- which filings leave an outcome
+-- ---- which changes of the registers leave an outcome
 
 -- From the first registers to the second: every route that Judge answers with the outcome is answered with it still, and so is every stored route
 -- that has it after a re-judging.
@@ -68,20 +68,31 @@ pub record Lasts (o : Outcome) (reg reg' : Registers) : Type 0 where
       → routeAt (routesOf (rejudgeEffect reg led .words)) i .verdict ≡ outcomeNumber o
       → routeAt (routesOf (rejudgeEffect reg' led .words)) i .verdict ≡ outcomeNumber o
 
+-- Every number of the first list but 0, which is on no path, is in the second.
+abbrev pub AllIn : List ℕ → List ℕ → Type 0
+AllIn k l = (y : ℕ) → 1 ≤ y → isIn y k ≡ true → isIn y l ≡ true
+
+-- From any registers to others, whatever was done in between.
+pub record LastLaws : Type 0 where
+  -- Valid lasts if every number still has the providers that it had, by the register that counts for it then.
+  pub valid-lasts : (reg reg' : Registers) → BothFormed reg'
+      → ((x : ℕ) → AllIn (united (recordsFor reg x) x) (united (recordsFor reg' x) x)) → Lasts valid reg reg'
+  -- Invalid lasts if every number that had a record still has one, and no provider that it had not.
+  pub invalid-lasts : (reg reg' : Registers) → BothFormed reg'
+      → ((x : ℕ) → attested (recordsFor reg x) x ≡ true
+      → (attested (recordsFor reg' x) x ≡ true) × AllIn (united (recordsFor reg' x) x) (united (recordsFor reg x) x))
+      → Lasts invalid reg reg'
+
 -- Neither register has a record of x.
 pub record Unattested (reg : Registers) (x : ℕ) : Type 0 where
   pub in-public : attested (recordsOf (reg .public)) x ≡ false
   pub in-overrides : attested (recordsOf (reg .overrides)) x ≡ false
 
--- Every number of the first list but 0, which is on no path, is in the second.
-abbrev pub AllIn : List ℕ → List ℕ → Type 0
-AllIn k l = (y : ℕ) → 1 ≤ y → isIn y k ≡ true → isIn y l ≡ true
-
 -- The registers after a filing into one of them, done or refused.
 abbrev pub afterFiling : Tables → Origin → ℕ → ℕ → List ℕ → Registers
 afterFiling t o source customer list = leaves t (file o source customer list) .registers
 
--- Of any tables and any arguments.
+-- From any tables, with any arguments.
 pub record FilingLaws : Type 0 where
   -- A filing for a number that neither register has a record of, into either and from any source, leaves Valid and Invalid.
   pub new-record : (t : Tables) (o : Origin) (source customer : ℕ) (list : List ℕ) → Unattested (t .registers) customer
