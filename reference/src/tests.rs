@@ -2258,6 +2258,225 @@ fn snapshots_leave_the_overrides_out() {
     );
 }
 
+// Outcomes when records change
+
+/// Routes over register D: role, path, and the answers before a change and after it. Kept ones
+/// show how many of them a re-judging changes.
+fn before_and_after(
+    (change, done): (&str, &str),
+    changed: &str,
+    routes: &[(u32, &[u32], &str, &str)],
+) -> Model {
+    let mut model = with_register_d();
+    let words = |role: &u32, path: &[u32]| format!("{role} {} {}", path[0], in_hex(path));
+    for (nth, (role, path, before, _)) in routes.iter().enumerate() {
+        let route = words(role, path);
+        check(&mut model, &[(&format!("judge {route}"), before)]);
+        check(&mut model, &[(&format!("keep {nth} {route}"), before)]);
+    }
+    check(&mut model, &[(change, done)]);
+    for (role, path, _, after) in routes {
+        check(&mut model, &[(&format!("judge {}", words(role, path)), after)]);
+    }
+    check(&mut model, &[("rejudge", changed), ("rejudge", "changed 0")]);
+    model
+}
+
+/// 60 and 30 have no record in either register.
+#[test]
+fn a_first_record_keeps_valid_and_invalid() {
+    for (letter, side) in [("", "public"), ("d", "drawer")] {
+        // a place moves
+        before_and_after(
+            (&format!("{letter}file 1 60 10"), "new"),
+            "changed 2",
+            &[
+                (1, &[50, 20, 60], "Invalid 3 0 public -", &format!("Invalid 2 0 {side} -")),
+                (
+                    3,
+                    &[50, 20, 60],
+                    "Unknown 1 3 gap 2",
+                    &format!("Invalid 2 2 {side} public gap 2"),
+                ),
+            ],
+        );
+        // a gap moves, which is not kept
+        before_and_after(
+            (&format!("{letter}file 1 60 70"), "new"),
+            "changed 0",
+            &[(3, &[60, 70], "Valid gap 1", "Valid gap 0")],
+        );
+        // only Unknown may become another
+        let e: &[u32] = &[30, 60];
+        before_and_after(
+            (&format!("{letter}file 0 60 30"), "new"),
+            "changed 1",
+            &[(1, e, "Unknown 2 0", "Valid"), (3, e, "Valid gap 1", "Valid gap 0")],
+        );
+        before_and_after(
+            (&format!("{letter}file 0 60 20"), "new"),
+            "changed 1",
+            &[
+                (1, e, "Unknown 2 0", &format!("Invalid 2 0 {side} -")),
+                (3, e, "Valid gap 1", "Valid gap 1"),
+            ],
+        );
+        let g: &[u32] = &[20, 10, 30];
+        before_and_after(
+            (&format!("{letter}file 0 30 10"), "new"),
+            "changed 1",
+            &[(3, g, "Unknown 1 3 gap 2", "Valid gap 0")],
+        );
+        before_and_after(
+            (&format!("{letter}file 0 30 0"), "new"),
+            "changed 1",
+            &[(3, g, "Unknown 1 3 gap 2", &format!("Invalid 2 2 {side} public gap 2"))],
+        );
+    }
+}
+
+#[test]
+fn further_records_of_a_number() {
+    let b: (u32, &[u32]) = (1, &[40, 20, 10]);
+    let c: (u32, &[u32]) = (1, &[50, 20, 10]);
+    let c_before = "Invalid 3 0 public -";
+    // N, and a longer list: Valid stays, Invalid need not
+    for change in [("file 1 20 50", "new"), ("file 0 20 40 50", "replaced")] {
+        before_and_after(
+            change,
+            "changed 1",
+            &[(b.0, b.1, "Valid", "Valid"), (c.0, c.1, c_before, "Valid")],
+        );
+    }
+    // a shorter list: Invalid stays, Valid need not
+    before_and_after(
+        ("file 0 10 30", "replaced"),
+        "changed 2",
+        &[
+            (1, &[20, 10], "Valid", "Invalid 2 0 public -"),
+            (1, &[30, 10], "Valid", "Valid"),
+            (c.0, c.1, c_before, "Invalid 2 0 public -"),
+        ],
+    );
+    // known providers from a second source: both stay
+    before_and_after(
+        ("file 7 10 0 30", "new"),
+        "changed 0",
+        &[(1, &[20, 10], "Valid", "Valid"), (c.0, c.1, c_before, c_before)],
+    );
+    // 0 is no provider, so a list in its place loses none
+    before_and_after(
+        ("file 0 40 50", "replaced"),
+        "changed 1",
+        &[
+            (1, &[20, 10], "Valid", "Valid"),
+            (b.0, b.1, "Valid", "Valid"),
+            (3, &[50, 40, 20, 10], "Valid gap 0", "Valid gap -1"),
+            (3, &[50, 20], "Valid gap 1", "Valid gap 1"),
+            (6, &[80, 70], "Valid gap -1", "Valid gap -1"),
+            (
+                3,
+                &[20, 10, 40],
+                "Invalid 2 2 public public gap 2",
+                "Invalid 2 2 public public gap 2",
+            ),
+            (1, &[50, 40, 20, 10], "Invalid 4 0 public -", "Valid"),
+        ],
+    );
+}
+
+#[test]
+fn an_only_record_withdrawn() {
+    before_and_after(
+        ("withdraw 0 20", "done"),
+        "changed 4",
+        &[
+            (1, &[40, 20, 10], "Valid", "Unknown 3 0"),
+            (1, &[50, 20, 10], "Invalid 3 0 public -", "Unknown 3 0"),
+            (3, &[30, 40, 20, 10], "Valid gap 1", "Unknown 2 4 gap 2"),
+            (3, &[20, 10, 40], "Invalid 2 2 public public gap 2", "Unknown 1 3 gap 2"),
+            (3, &[50, 40, 20, 10], "Valid gap 0", "Valid gap 1"),
+        ],
+    );
+}
+
+#[test]
+fn a_first_override_may_change_any_outcome() {
+    let (a, c): (&[u32], &[u32]) = (&[20, 10], &[50, 20, 10]);
+    let mut model = before_and_after(
+        ("dfile 0 10 30", "new"),
+        "changed 2",
+        &[
+            (1, a, "Valid", "Invalid 2 0 drawer -"),
+            (1, c, "Invalid 3 0 public -", "Invalid 2 0 drawer -"),
+        ],
+    );
+    check(
+        &mut model,
+        &[
+            ("dwithdraw 0 10", "done"),
+            (&format!("judge 1 20 {}", in_hex(a)), "Valid"),
+            (&format!("judge 1 50 {}", in_hex(c)), "Invalid 3 0 public -"),
+            ("rejudge", "changed 2"),
+        ],
+    );
+    before_and_after(
+        ("dfile 0 20 50", "new"),
+        "changed 2",
+        &[
+            (1, &[40, 20, 10], "Valid", "Invalid 3 0 drawer -"),
+            (1, c, "Invalid 3 0 public -", "Valid"),
+        ],
+    );
+}
+
+#[test]
+fn a_number_twice_on_a_path_has_one_list() {
+    let ends: &[u32] = &[60, 10, 60, 10, 60];
+    let other = "Invalid 2 0 public -";
+    let others = "Invalid 2 4 public public gap 4";
+    let (third, thirds) = ("Invalid 3 0 public -", "Invalid 3 3 public public gap 4");
+    before_and_after(
+        ("file 1 60 10", "new"),
+        "changed 0",
+        &[
+            (1, &[10, 60, 10, 60, 10], other, other),
+            (3, &[10, 60, 10, 60, 10], others, others),
+            (1, ends, third, third),
+            (3, ends, thirds, "Invalid 3 3 public public gap 2"),
+        ],
+    );
+    before_and_after(
+        ("file 1 60 20", "new"),
+        "changed 2",
+        &[(1, ends, third, other), (3, ends, thirds, others)],
+    );
+    // 90 has no record either
+    let path: &[u32] = &[60, 90, 60, 90, 60];
+    for (second, upstream, downstream) in [
+        ("file 0 90 60", "Valid", "Valid gap -4"),
+        ("file 0 90 0", "Invalid 3 0 public -", "Invalid 3 3 public public gap 2"),
+    ] {
+        let mut model = before_and_after(
+            ("file 1 60 90", "new"),
+            "changed 2",
+            &[
+                (1, path, "Unknown 2 0", "Unknown 3 0"),
+                (3, path, "Unknown 1 5 gap 4", "Unknown 2 4 gap 2"),
+            ],
+        );
+        check(
+            &mut model,
+            &[
+                (second, "new"),
+                (&format!("judge 1 60 {}", in_hex(path)), upstream),
+                (&format!("judge 3 60 {}", in_hex(path)), downstream),
+                ("rejudge", "changed 2"),
+            ],
+        );
+    }
+}
+
 // The console's errors
 
 #[test]

@@ -1,7 +1,10 @@
 -- The vectors, by computation over records. Assumes nothing.
-use Prim.Native.Nat.{ℕ}
-use mathlib.Core.Path.{_≡_, refl, ap, _∙_}
-use mathlib.Core.Bool.{true}
+use Prim.Native.Nat.{ℕ, zero, suc, _+_, _≤_, _<_}
+use mathlib.Core.Path.{_≡_, refl, sym, ap, _∙_}
+use mathlib.Core.Bool.{Bool, true, false, _||_, true≢false}
+use native.Mathlib.Omega.{arith}
+use borrow.Author.Tests.{eqb-true}
+use lib.Dec.{eqb}
 use mathlib.Core.List.{List, [], _∷_}
 use mathlib.Core.Option.{none}
 use lib.ListN.{getD}
@@ -16,7 +19,7 @@ use Rattle.as_path.specs.Merging.{numbersIn, runsAfter, mergeRuns, mergedPath}
 use Rattle.as_path.specs.Reading.{contentOf}
 use Rattle.table.specs.Table.{decodeSlots, decode, slotsOk, allZero, wellFormed}
 use Rattle.keyed.specs.Keyed.{ascendsFrom, ascends, every, holds, put, without}
-use Rattle.rules.specs.Hops.{HopFunction, lowest, highest, climb, descend}
+use Rattle.rules.specs.Hops.{HopFunction, asAt, lowest, highest, climb, descend}
 use Rattle.rules.specs.Records.{Record, isIn, attested, united, listOf, hopOf, hopOver}
 use Rattle.rules.specs.Verdicts.{upstream, downstream, judged}
 use Rattle.rules.specs.Judging.{judgedRoute}
@@ -32,7 +35,8 @@ use Rattle.effects.specs.Calls.{judgeAnswer}
 use Rattle.effects.specs.Vectors.{packedD, alone, records-none}
 use Rattle.effects.proofs.Judgings.{judge-answers}
 use Rattle.history.specs.Calls.{Call, file, withdraw, leaves}
-use Rattle.fillings.specs.Vectors.{FillingVectors, tablesD, around, OutcomeVectors}
+use Rattle.fillings.specs.Calls.{Unattested, AllIn}
+use Rattle.fillings.specs.Vectors.{sets, lists, FillingVectors, tablesD, around, OutcomeVectors}
 use Rattle.fillings.proofs.Filings.{hopAfter}
 use Rattle.fillings.proofs.FilingCalls.{rewritten-formed, formed, put-in}
 
@@ -49,7 +53,33 @@ filling-vectors =
       attested-stays = refl;
       both-listed = refl;
       one-listed = refl;
+      same-between = record { upward = upward; downward = downward };
+      comes-back = record { no-zero = no-zero; no-runs = no-runs };
     }
+  where
+    upward : (i : ℕ) → 1 ≤ i → i < 2 → sets (lists 60 (7 ∷ 60 ∷ []) ∷ []) (asAt (30 ∷ 60 ∷ []) i) (asAt (30 ∷ 60 ∷ []) (i + 1)) ≡ false
+    upward zero a b = absurd (omega arith)
+    upward (suc zero) a b = refl
+    upward (suc (suc i)) a b = absurd (omega arith)
+
+    downward : (i : ℕ) → 1 ≤ i → i < 2 → sets (lists 60 (7 ∷ 60 ∷ []) ∷ []) (asAt (30 ∷ 60 ∷ []) (i + 1)) (asAt (30 ∷ 60 ∷ []) i) ≡ false
+    downward zero a b = absurd (omega arith)
+    downward (suc zero) a b = refl
+    downward (suc (suc i)) a b = absurd (omega arith)
+
+    path : List ℕ
+    path = 50 ∷ 20 ∷ 50 ∷ []
+
+    no-zero : (i : ℕ) → i < 3 → getD path i 0 ≡ 0 → ⊥
+    no-zero zero a e = omega arith
+    no-zero (suc zero) a e = omega arith
+    no-zero (suc (suc zero)) a e = omega arith
+    no-zero (suc (suc (suc i))) a e = omega arith
+
+    no-runs : (i : ℕ) → i + 1 < 3 → getD path i 0 ≡ getD path (i + 1) 0 → ⊥
+    no-runs zero a e = omega arith
+    no-runs (suc zero) a e = omega arith
+    no-runs (suc (suc i)) a e = omega arith
 
 -- ---- calls
 
@@ -106,10 +136,34 @@ module _ (source customer : ℕ) (e : firstGiven (withdrawRows packedD source cu
       (rewritten-formed (alone packedD) formed-d Public _ (register-laws .withdraw-formed packedD public-d source customer))
       (λ i. hopOver ((withdraw-records packedD source customer e ∙ ap (eraseRecord customer source) records-d) i) (records-none i))
 
+no-record : Unattested (tablesD .registers) 60
+unfolding attested
+no-record = record { in-public = rw records-d; in-overrides = rw records-none }
+
+grows : AllIn (40 ∷ []) (40 ∷ 50 ∷ [])
+unfolding isIn
+grows y b = go (eqb 40 y) (eqb 50 y)
+  where
+    go : (s t : Bool) → (s || false) ≡ true → (s || (t || false)) ≡ true
+    go true t e = refl
+    go false t e = absurd (true≢false (sym e))
+
+from-zero : AllIn (0 ∷ []) (50 ∷ [])
+unfolding isIn
+from-zero y b e = go (eqb 0 y) refl e
+  where
+    go : (s : Bool) → eqb 0 y ≡ s → (s || false) ≡ true → (eqb 50 y || false) ≡ true
+    go true z e = absurd (omega (arith, eqb-true 0 y z))
+    go false z e = absurd (true≢false (sym e))
+
 pub outcome-vectors : OutcomeVectors
 unfolding judgedRoute firstGiven contentOf numberAt numbersAt startsFrom starts segments numbersFault segmentFault faultAmong firstFault hasSet groundOf numbersIn runsAfter mergeRuns mergedPath lowest highest climb descend isIn attested united listOf hopOf hopOver upstream downstream judged bytes decodeSlots decode slotsOk allZero wellFormed ascendsFrom ascends every holds put without recordsOf listed risesFrom rises listOk recordOk roomFor recordsOk registerOk
 outcome-vectors =
     record {
+      no-record = no-record;
+      grows = grows;
+      from-zero = from-zero;
+      has-path = record { passes = refl; read = refl };
       place-moves = filed Public 1 60 (10 ∷ []) refl 1 (50 ∷ 20 ∷ 60 ∷ []) ∙ refl;
       place-moves-too = filed Overrides 1 60 (10 ∷ []) refl 1 (50 ∷ 20 ∷ 60 ∷ []) ∙ refl;
       gap-moves = filed Public 1 60 (70 ∷ []) refl 3 (60 ∷ 70 ∷ []) ∙ refl;

@@ -17,7 +17,8 @@ use Rattle.register.specs.Calls.{recordFor}
 use Rattle.effects.specs.Calls.{judgeAnswer}
 use Rattle.effects.specs.Vectors.{packedD, alone}
 use Rattle.history.specs.Calls.{Call, file, withdraw, Tables, leaves, blank}
-use Rattle.fillings.specs.Fillings.{Filling, unknown, outcome, nobody, filled, admitted}
+use Rattle.fillings.specs.Fillings.{Filling, unknown, outcome, nobody, filled, admitted, SameSets, MergedPath}
+use Rattle.fillings.specs.Calls.{HasPath, Unattested, AllIn}
 
 -- ---- fillings
 
@@ -47,6 +48,11 @@ pub record FillingVectors : Type 0 where
   pub both-listed : admitted (filled hopD (sets (lists 60 (30 ∷ 90 ∷ []) ∷ lists 90 (60 ∷ []) ∷ []))) (30 ∷ 60 ∷ 90 ∷ 60 ∷ []) 1 ≡ true
   pub one-listed : admitted (filled hopD (sets (lists 60 (90 ∷ []) ∷ lists 90 (60 ∷ []) ∷ []))) (30 ∷ 60 ∷ 90 ∷ 60 ∷ []) 1 ≡ false
 
+  -- Two fillings that differ in what is not between neighbours say the same.
+  pub same-between : SameSets (sets (lists 60 (7 ∷ 60 ∷ []) ∷ [])) nobody (30 ∷ 60 ∷ [])
+  -- A number may come back on a path, and only not stand beside itself.
+  pub comes-back : MergedPath (50 ∷ 20 ∷ 50 ∷ [])
+
 -- ---- calls
 
 -- Register D, no overrides and no routes.
@@ -61,6 +67,11 @@ around c role path =
     ∷ []
 
 pub record OutcomeVectors : Type 0 where
+  -- 60 has no record. A list may grow, and {0} gives way to any. A path with a number that comes back is judged.
+  pub no-record : Unattested (tablesD .registers) 60
+  pub grows : AllIn (40 ∷ []) (40 ∷ 50 ∷ [])
+  pub from-zero : AllIn (0 ∷ []) (50 ∷ [])
+  pub has-path : HasPath 1 50 (sequence (50 ∷ 20 ∷ 50 ∷ [])) (50 ∷ 20 ∷ 50 ∷ [])
   -- A record for 60, which had none: the outcome stays, and a place moves, or the gap. An override does the same.
   pub place-moves : around (file Public 1 60 (10 ∷ [])) 1 (50 ∷ 20 ∷ 60 ∷ [])
       ≡ plain (Invalid (ByHops 3 0 (One Public))) ∷ plain (Invalid (ByHops 2 0 (One Public))) ∷ []

@@ -290,6 +290,7 @@ impl<W: FnMut(&str, &str) -> io::Result<()>> Stream<W> {
             let phase = phases.swap_remove(self.random.below(phases.len()));
             phase(self);
         }
+        self.first_records();
     }
 
     // What is there
@@ -1014,6 +1015,50 @@ impl<W: FnMut(&str, &str) -> io::Result<()>> Stream<W> {
         }
         self.say("rejudge");
         self.show(LEDGER);
+    }
+
+    /// Paths judged before and after a number on them, unattested so far, gets a record.
+    fn first_records(&mut self) {
+        self.say("empty");
+        for _ in 0..8 {
+            self.file();
+        }
+        for _ in 0..20 {
+            let mut path = self.path();
+            path.dedup();
+            let listed = |register, number: &u32| !self.providers_in(register, *number).is_empty();
+            let attested = |number: &u32| listed(REGISTER, number) || listed(DRAWER, number);
+            let unattested: Vec<u32> = path.iter().copied().filter(|n| !attested(n)).collect();
+            if unattested.is_empty() {
+                continue;
+            }
+            let (role, attribute) = (self.random.between(1, 6), self.sequences(&path));
+            let route = format!("{role} {} {}", path[0], hex(&attribute));
+            self.say(&format!("judge {route}"));
+            if self.random.percent(30) {
+                let number = self.route();
+                self.say(&format!("keep {number} {route}"));
+            }
+            // with the numbers beside it, with one of them, or any list
+            let customer = self.random.pick(&unattested);
+            let hops = path.windows(2).flat_map(|pair| [(pair[0], pair[1]), (pair[1], pair[0])]);
+            let beside = ascending(hops.filter(|(x, _)| *x == customer).map(|(_, y)| y).collect());
+            let list = match self.random.below(5) {
+                0..=2 if !beside.is_empty() => beside,
+                3 if !beside.is_empty() => vec![self.random.pick(&beside)],
+                _ => self.list(customer),
+            };
+            let (letter, source) = (d(self.register()), self.random.below(8));
+            self.say(&format!("{letter}file {source} {customer}{}", numbers(&list)));
+            self.say(&format!("judge {route}"));
+            // So that some numbers stay unattested
+            if self.random.percent(60) {
+                self.say(&format!("{letter}withdraw {source} {customer}"));
+                self.say(&format!("judge {route}"));
+            } else {
+                self.say("rejudge");
+            }
+        }
     }
 
     /// Up to 1,024 records, then at the limit.
@@ -1822,7 +1867,7 @@ fn vectors() -> Vec<String> {
     for part in [
         overridden_vectors, counting_records, sides, two_registers, rejudged_overrides,
         overrides_at_the_ends, overridden_look_ups, full_overrides, damaged_overrides,
-        words_of_overrides, snapshots_beside_overrides,
+        words_of_overrides, snapshots_beside_overrides, before_and_after,
     ] {
         lines.say("empty");
         part(&mut lines);
@@ -3942,6 +3987,93 @@ fn snapshots_beside_overrides(lines: &mut Lines) {
     lines.all(&["register", "drawer", "rejudge", judge, "dclear 1", judge, "rejudge", "ledger"]);
 }
 
+// Fixed vectors of outcomes when records change
+
+/// Changes of register D, and the routes that they are about: role and path.
+const CHANGES: [(&[&str], &[(u32, &[u32])]); 23] = [
+    // a first record of 60, by either register: places and gaps may move
+    (&["file 1 60 10"], &[(1, &[50, 20, 60]), (3, &[50, 20, 60])]),
+    (&["dfile 1 60 10"], &[(1, &[50, 20, 60]), (3, &[50, 20, 60])]),
+    (&["file 1 60 70"], &[(3, &[60, 70]), (1, &[60, 70])]),
+    (&["dfile 1 60 70"], &[(3, &[60, 70]), (1, &[60, 70])]),
+    // one that makes Unknown Valid or Invalid, upstream and downstream
+    (&["file 0 60 30"], &[(1, &[30, 60]), (3, &[30, 60])]),
+    (&["file 0 60 20"], &[(1, &[30, 60]), (3, &[30, 60])]),
+    (&["dfile 0 60 30"], &[(1, &[30, 60]), (3, &[30, 60])]),
+    (&["dfile 0 60 20"], &[(1, &[30, 60]), (3, &[30, 60])]),
+    (&["file 0 30 10"], &[(3, &[20, 10, 30]), (6, &[20, 10, 30])]),
+    (&["file 0 30 0"], &[(3, &[20, 10, 30]), (6, &[20, 10, 30])]),
+    // N: 20 has a record already
+    (&["file 1 20 50", "withdraw 1 20"], &[(1, &[50, 20, 10]), (1, &[40, 20, 10])]),
+    // the only record withdrawn
+    (
+        &["withdraw 0 20", "file 3 20 40"],
+        &[
+            (1, &[40, 20, 10]),
+            (1, &[50, 20, 10]),
+            (3, &[30, 40, 20, 10]),
+            (3, &[20, 10, 40]),
+            (3, &[50, 40, 20, 10]),
+        ],
+    ),
+    // a longer list, a shorter one, known providers from a second source
+    (&["file 0 20 40 50"], &[(1, &[40, 20, 10]), (1, &[50, 20, 10])]),
+    (&["file 0 10 30"], &[(1, &[20, 10]), (1, &[30, 10]), (1, &[50, 20, 10])]),
+    (&["file 7 10 0 30"], &[(1, &[20, 10]), (1, &[50, 20, 10])]),
+    // a first override hides the public list
+    (&["dfile 0 10 30", "dwithdraw 0 10"], &[(1, &[20, 10]), (1, &[50, 20, 10])]),
+    (&["dfile 0 20 50", "dclear 0"], &[(1, &[40, 20, 10]), (1, &[50, 20, 10])]),
+    // a list in the place of 0
+    (
+        &["file 0 40 50"],
+        &[
+            (1, &[20, 10]),
+            (1, &[40, 20, 10]),
+            (3, &[50, 40, 20, 10]),
+            (3, &[50, 20]),
+            (6, &[80, 70]),
+            (3, &[20, 10, 40]),
+            (1, &[50, 40, 20, 10]),
+        ],
+    ),
+    // numbers that stand on a path more than once
+    (&["file 1 60 10"], &AGAIN),
+    (&["file 1 60 20"], &AGAIN),
+    (&["dfile 1 60 10 90"], &AGAIN),
+    (&["file 1 60 90", "file 0 90 60"], &AGAIN),
+    (&["file 1 60 90", "dfile 0 90 0"], &AGAIN),
+];
+
+const AGAIN: [(u32, &[u32]); 6] = [
+    (1, &[10, 60, 10, 60, 10]),
+    (3, &[10, 60, 10, 60, 10]),
+    (1, &[60, 10, 60, 10, 60]),
+    (3, &[60, 10, 60, 10, 60]),
+    (1, &[60, 90, 60, 90, 60]),
+    (3, &[60, 90, 60, 90, 60]),
+];
+
+/// Routes judged and kept over register D, and judged again after each change.
+fn before_and_after(lines: &mut Lines) {
+    for (changes, routes) in CHANGES {
+        lines.say("empty");
+        lines.all(&REGISTER_D);
+        for (role, path) in routes {
+            lines.judge(*role, path[0], &sequence(path));
+        }
+        for (route, (role, path)) in (1..).zip(routes) {
+            lines.keep(route, *role, path[0], &sequence(path));
+        }
+        for change in changes {
+            lines.say(change);
+            for (role, path) in routes {
+                lines.judge(*role, path[0], &sequence(path));
+            }
+            lines.all(&["rejudge", "ledger"]);
+        }
+    }
+}
+
 /// Lines at the edges of what a command is, not all of them text.
 fn odd_lines() -> Vec<Vec<u8>> {
     let mut lines = Lines(Vec::new());
@@ -4003,6 +4135,7 @@ fn recorded(out: &mut impl Write) -> io::Result<()> {
 mod tests {
     use super::*;
     use reference::{judge, RouteNumber};
+    use std::cell::RefCell;
     use std::collections::{BTreeMap, BTreeSet};
 
     const ROWS: [(&str, &[u32]); 14] = [
@@ -4627,6 +4760,62 @@ mod tests {
                 || kind.starts_with("write [0, 1, 0] written")
         };
         assert!(seen.iter().filter(written).count() > 10);
+    }
+
+    /// Paths judged on both sides of a first record of a number on them.
+    #[test]
+    fn first_records_are_drawn() {
+        // The last judgement, and whether nothing but such a filing came after it
+        let last = RefCell::new((String::new(), String::new(), false));
+        let seen = drawn(|model, line, answer| {
+            let words: Vec<&str> = line.split(' ').collect();
+            let of = |table: &Table<Records>| match table {
+                Table::Held(records) => {
+                    records.keys().any(|(customer, _)| customer.0.to_string() == words[2])
+                }
+                Table::Words(_) => true,
+            };
+            let first = words[0].ends_with("file")
+                && answer == "new"
+                && !of(&model.register)
+                && !of(&model.overrides);
+            console::answer(model, line.as_bytes());
+            let mut last = last.borrow_mut();
+            if words[0] != "judge" {
+                last.2 = first;
+                return vec![];
+            }
+            let (before, before_answer, filed) =
+                std::mem::replace(&mut *last, (line.to_string(), answer.to_string(), false));
+            if !filed || before != line {
+                return vec![];
+            }
+            let outcome = |answer: &str| answer.split(' ').next().unwrap_or("").to_string();
+            let gap = |answer: &str| answer.split(" gap ").nth(1).map(str::to_string);
+            let places = |answer: &str| answer.split(' ').skip(1).take(2).collect::<String>();
+            match (&outcome(&before_answer)[..], &outcome(answer)[..]) {
+                ("Unknown", "Valid") => vec!["Unknown to Valid"],
+                ("Unknown", "Invalid") => vec!["Unknown to Invalid"],
+                ("Unknown", _) => vec!["Unknown"],
+                (before, after) if before != after => vec!["altered"],
+                ("Invalid", _) if places(&before_answer) != places(answer) => vec!["place"],
+                _ if gap(&before_answer) != gap(answer) => vec!["gap"],
+                _ => vec!["the same"],
+            }
+        });
+        check_drawn(
+            &seen,
+            &[
+                ("Unknown to Valid", 3),
+                ("Unknown to Invalid", 3),
+                ("Unknown", 5),
+                ("place", 3),
+                ("gap", 3),
+                ("the same", 20),
+            ],
+        );
+        assert!(!seen.contains_key("altered"));
+        panic!("{seen:?}");
     }
 
     /// How often each call gave each kind of answer.
