@@ -172,21 +172,25 @@ fn note(tallies: &mut Tallies, admitted: [bool; 2]) {
     tallies.iter_mut().zip(admitted).for_each(|(tally, admitted)| tally.note(admitted));
 }
 
-/// A path, left end first, each number on which has a set.
-struct Filled<'a> {
-    path: &'a [AsNumber],
+/// A path each number on which has a set.
+struct Filled {
+    /// AS(1) first.
+    numbers: Vec<usize>,
     sets: Sets,
 }
 
-impl Filled<'_> {
+impl Filled {
+    fn new(path: &[AsNumber], sets: Sets) -> Filled {
+        Filled { numbers: path.iter().rev().map(|number| number.0 as usize).collect(), sets }
+    }
+
     fn n(&self) -> usize {
-        self.path.len()
+        self.numbers.len()
     }
 
     /// Whether hop(AS(from), AS(to)) is Provider+; if it isn't it is Not Provider+.
     fn provider(&self, from: usize, to: usize) -> bool {
-        let number = |i: usize| self.path[self.n() - i].0 as usize;
-        holds(self.sets[number(from)], number(to))
+        holds(self.sets[self.numbers[from - 1]], self.numbers[to - 1])
     }
 
     fn k(&self) -> usize {
@@ -218,12 +222,12 @@ impl Filled<'_> {
     }
 }
 
-/// Every choice of sets for those of the numbers that are on the path; one set for each number,
+/// Every choice of sets for those of `free` that are on the path; one set for each number,
 /// however often it stands there.
-fn fill(sets: Sets, path: &[AsNumber], numbers: &[usize], mut each: impl FnMut(&Filled)) {
-    let stands = |number: &usize| path.contains(&AsNumber(*number as u32));
-    let free: Vec<usize> = numbers.iter().copied().filter(stands).collect();
-    let mut filled = Filled { path, sets };
+fn fill(sets: Sets, path: &[AsNumber], free: &[usize], mut each: impl FnMut(&Filled)) {
+    let mut filled = Filled::new(path, sets);
+    let stands = |number: &usize| filled.numbers.contains(number);
+    let free: Vec<usize> = free.iter().copied().filter(stands).collect();
     for nth in 0..CHOICES.pow(free.len() as u32) {
         let mut digits = nth;
         for number in &free {
@@ -544,7 +548,7 @@ fn other_readings() {
             fill(case.sets, path, &case.unattested, |filled| {
                 let [upstream, downstream] = filled.admitted_by_role();
                 // No list is empty, so an empty set is one that the filling gave.
-                if path.iter().all(|number| filled.sets[number.0 as usize] != 0) {
+                if filled.numbers.iter().all(|number| filled.sets[*number] != 0) {
                     note(&mut not_empty, [upstream, downstream]);
                 }
                 let (u, v) = (filled.u(), filled.v());
@@ -554,7 +558,7 @@ fn other_readings() {
             let mut sets = case.sets;
             case.unattested.iter().for_each(|number| sets[*number] = ON_PATHS);
             let mut no_choice = Tallies::default();
-            note(&mut no_choice, Filled { path, sets }.admitted_by_role());
+            note(&mut no_choice, Filled::new(path, sets).admitted_by_role());
             for (reading, tallies) in [
                 ("attested numbers change too", *free_for_all),
                 ("unattested numbers have no choice", no_choice),

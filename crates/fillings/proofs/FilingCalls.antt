@@ -97,7 +97,8 @@ module _ (reg : Registers) (o : Origin) (source customer : ℕ) (list : List ℕ
 
   new-lasts : Unattested reg customer → Lasts valid reg after × Lasts invalid reg after
   new-lasts u =
-      let none : attested (counting public overrides customer) customer ≡ false = rw (u .in-overrides) (u .in-public) in
+      let none : attested (counting public overrides customer) customer ≡ false
+      = ap (λ b. attested (cond b overrides public) customer) (u .in-overrides) ∙ u .in-public in
       let both = new-record (recordFor source customer list) public overrides o none in
       (filing-lasts valid (both .0), filing-lasts invalid (both .1))
 

@@ -47,7 +47,6 @@ pub record FillingVectors : Type 0 where
   -- 60 stands twice on the path and has one set: what it lists at one place it lists at the other.
   pub both-listed : admitted (filled hopD (sets (lists 60 (30 ∷ 90 ∷ []) ∷ lists 90 (60 ∷ []) ∷ []))) (30 ∷ 60 ∷ 90 ∷ 60 ∷ []) 1 ≡ true
   pub one-listed : admitted (filled hopD (sets (lists 60 (90 ∷ []) ∷ lists 90 (60 ∷ []) ∷ []))) (30 ∷ 60 ∷ 90 ∷ 60 ∷ []) 1 ≡ false
-
   -- Two fillings that differ in what is not between neighbours say the same.
   pub same-between : SameSets (sets (lists 60 (7 ∷ 60 ∷ []) ∷ [])) nobody (30 ∷ 60 ∷ [])
   -- A number may come back on a path, and only not stand beside itself.
