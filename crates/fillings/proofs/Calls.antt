@@ -30,7 +30,7 @@ use Rattle.rules.specs.Verdicts.{judged}
 use Rattle.rules.specs.Judging.{judgeRows, unlessGiven, judgedRoute, refusalIn}
 use Rattle.rules.proofs.Judges.{judged-reads, Judgement, on-ground, on-path, judgement}
 use Rattle.registers.specs.Registers.{Registers, hopIn, BothFormed}
-use Rattle.ledger.specs.Routes.{Route, routesOf, routeAt, routeOk, pathOk, groundOk}
+use Rattle.ledger.specs.Routes.{Route, routesOf, routeAt, routeOk, pathOk}
 use Rattle.ledger.proofs.Holding.{routes-ok, each-ok, rules-by-ground}
 use Rattle.ledger.proofs.Laws.{route-laws}
 use Rattle.rejudge.specs.Rejudging.{rejudgedRoute}

@@ -1,7 +1,7 @@
 -- Which filings leave Valid or Invalid of every route. Assumes nothing.
 use Prim.Native.Nat.{ℕ}
 use mathlib.Core.Path.{_≡_, refl, sym, ap, _∙_, subst}
-use mathlib.Core.Bool.{Bool, true, false, cond}
+use mathlib.Core.Bool.{true, false, cond}
 use mathlib.Core.List.{List}
 use mathlib.Core.Option.{Option, none, some}
 use lib.ListN.{length}
@@ -14,9 +14,9 @@ use Rattle.register.specs.Register.{registerWords, recordsOf, registerOk}
 use Rattle.register.specs.Calls.{recordFor, putRecord, fileRows, fileEffect}
 use Rattle.register.specs.Laws.{Register}
 use Rattle.register.proofs.Laws.{file-records, register-laws}
-use Rattle.registers.specs.Registers.{Registers, lent, chosen, hopIn, BothFormed}
+use Rattle.registers.specs.Registers.{Registers, chosen, hopIn, BothFormed}
 use Rattle.registers.proofs.Choosing.{chosen-long, chosen-ok}
-use Rattle.history.specs.Calls.{Tables, rewritten}
+use Rattle.history.specs.Calls.{rewritten}
 use Rattle.history.proofs.Origins.{both-formed}
 use Rattle.fillings.specs.Fillings.{Outcome, valid, invalid, Stays}
 use Rattle.fillings.specs.Calls.{Lasts, Unattested, AllIn, LastLaws, FilingLaws}

@@ -1,10 +1,9 @@
 -- The outcome of a path is decided by two fillings, everybody and nobody, and every other lies between them. Assumes nothing.
-use Prim.Native.Nat.{ℕ, _+_, _≤_, _<_}
+use Prim.Native.Nat.{ℕ, _+_}
 use mathlib.Core.Path.{_≡_, refl, sym, _∙_, ap}
 use mathlib.Core.List.{List}
 use mathlib.Core.Logic.{_↔_}
 use mathlib.Core.Bool.{Bool, true, false, not, cond, true≢false}
-use lib.ListN.{length}
 use Rattle.types.specs.declared.Origin.the-variants.{Public}
 use Rattle.types.specs.declared.Hop.{Hop}
 use Rattle.types.specs.declared.Hop.the-variants.{NoAttestation, ProviderPlus, NotProviderPlus}

@@ -3,8 +3,8 @@ use Prim.Native.Nat.{ℕ}
 use mathlib.Core.Path.{_≡_, refl, sym, ap, _∙_}
 use mathlib.Core.Bool.{Bool, true, false, cond, _&&_, _||_, true≢false}
 use mathlib.Core.List.{List, [], _∷_, _++_}
-use borrow.Author.Tests.{eqb-true, ne-eqb}
-use lib.Dec.{eqb, ltb}
+use borrow.Author.Tests.{eqb-true}
+use lib.Dec.{eqb}
 use Rattle.keyed.specs.Keyed.{samePair, beforePair, put}
 use Rattle.keyed.proofs.Orders.{ordered-pairs, ordered-ℕ, same-flip, both-left}
 use Rattle.rules.specs.Records.{Record, isIn, attested, united, listOf}

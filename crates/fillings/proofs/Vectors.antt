@@ -10,7 +10,6 @@ use mathlib.Core.Option.{none}
 use lib.ListN.{getD}
 use Rattle.types.specs.declared.Origin.{Origin}
 use Rattle.types.specs.declared.Origin.the-variants.{Public, Overrides}
-use Rattle.types.specs.declared.Judged.{Judged}
 use Rattle.types.specs.Rows.{firstGiven}
 use Rattle.as_path.specs.Segments.{segments, starts, startsFrom, numberAt, numbersAt}
 use Rattle.as_path.specs.Faults.{firstFault, faultAmong, numbersFault, segmentFault}
@@ -20,7 +19,7 @@ use Rattle.as_path.specs.Reading.{contentOf}
 use Rattle.table.specs.Table.{decodeSlots, decode, slotsOk, allZero, wellFormed}
 use Rattle.keyed.specs.Keyed.{ascendsFrom, ascends, every, holds, put, without}
 use Rattle.rules.specs.Hops.{HopFunction, asAt, lowest, highest, climb, descend}
-use Rattle.rules.specs.Records.{Record, isIn, attested, united, listOf, hopOf, hopOver}
+use Rattle.rules.specs.Records.{isIn, attested, united, listOf, hopOf, hopOver}
 use Rattle.rules.specs.Verdicts.{upstream, downstream, judged}
 use Rattle.rules.specs.Judging.{judgedRoute}
 use Rattle.rules.specs.Draft.{each}
