@@ -29,7 +29,7 @@ under-nobody (ProviderPlus o s) = refl
 under-nobody (NotProviderPlus o) = refl
 
 -- Under any it ends a ramp exactly where it is then refused.
-under-any : (h : Hop) (b : Bool) → isNotPlus (filledHop h b) ≡ not (isPlus (filledHop h b))
+pub under-any : (h : Hop) (b : Bool) → isNotPlus (filledHop h b) ≡ not (isPlus (filledHop h b))
 under-any NoAttestation true = refl
 under-any NoAttestation false = refl
 under-any (ProviderPlus o s) b = refl
@@ -131,7 +131,7 @@ read-more hop f g path same i a b = (
 flip-sets : {f g : Filling} {path : List ℕ} → SameSets f g path → SameSets g f path
 flip-sets s = record { upward = λ i a b. sym (s .upward i a b); downward = λ i a b. sym (s .downward i a b) }
 
-either-way : (s t : Bool) → (s ≡ true → t ≡ true) → (t ≡ true → s ≡ true) → s ≡ t
+pub either-way : (s t : Bool) → (s ≡ true → t ≡ true) → (t ≡ true → s ≡ true) → s ≡ t
 either-way true t f g = sym (f refl)
 either-way false t f g = sym (denied t false g refl)
 

@@ -1,6 +1,7 @@
 -- The laws of fillings, and of what stays, gathered. Assumes nothing.
-use Rattle.fillings.specs.Fillings.{FillingLaws, StayLaws}
+use Rattle.fillings.specs.Fillings.{FillingLaws, RecordLaws, StayLaws}
 use Rattle.fillings.proofs.Fillings.{meaning, two-fillings, published, read-between}
+use Rattle.fillings.proofs.Realising.{realised, for-new}
 use Rattle.fillings.proofs.Staying.{valid-stays, invalid-stays, new-hops}
 use Rattle.fillings.proofs.Records.{plus-is, not-plus-is, by-number}
 
@@ -13,6 +14,9 @@ filling-laws =
       read-between = read-between;
       by-number = by-number;
     }
+
+pub record-laws : RecordLaws
+record-laws = record { realised = realised; for-new = for-new }
 
 pub stay-laws : StayLaws
 stay-laws =

@@ -2,6 +2,7 @@ pub mod Blocking
 pub mod Fillings
 pub mod Staying
 pub mod Records
+pub mod Realising
 pub mod Putting
 pub mod Filings
 pub mod Calls

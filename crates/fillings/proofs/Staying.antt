@@ -78,7 +78,7 @@ two-merged x y a b apart = record { no-zero = some-number; no-runs = differ }
 
 -- Neighbours on a merged path are not 0, and differ.
 module _ (path : List ℕ) (m : MergedPath path) where
-  numbered : (i : ℕ) → 1 ≤ i → i ≤ length path → 1 ≤ asAt path i
+  pub numbered : (i : ℕ) → 1 ≤ i → i ≤ length path → 1 ≤ asAt path i
   numbered i a b = let n = m .no-zero (length path - i) (omega arith) in above (asAt path i) n
     where
       above : (x : ℕ) → (x ≡ 0 → ⊥) → 1 ≤ x

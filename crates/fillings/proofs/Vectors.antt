@@ -34,13 +34,14 @@ use Rattle.effects.specs.Calls.{judgeAnswer}
 use Rattle.effects.specs.Vectors.{packedD, alone, records-none}
 use Rattle.effects.proofs.Judgings.{judge-answers}
 use Rattle.history.specs.Calls.{Call, file, withdraw, leaves}
+use Rattle.fillings.specs.Fillings.{those}
 use Rattle.fillings.specs.Calls.{Unattested, AllIn}
 use Rattle.fillings.specs.Vectors.{sets, lists, FillingVectors, tablesD, around, OutcomeVectors}
 use Rattle.fillings.proofs.Filings.{hopAfter}
 use Rattle.fillings.proofs.FilingCalls.{rewritten-formed, formed, put-in}
 
 pub filling-vectors : FillingVectors
-unfolding lowest highest climb descend isIn attested united listOf hopOf hopOver upstream downstream judged each
+unfolding lowest highest climb descend isIn attested united listOf hopOf hopOver upstream downstream judged each those
 filling-vectors =
     record {
       is-unknown = refl;
@@ -52,6 +53,7 @@ filling-vectors =
       attested-stays = refl;
       both-listed = refl;
       one-listed = refl;
+      as-records = refl;
       same-between = record { upward = upward; downward = downward };
       comes-back = record { no-zero = no-zero; no-runs = no-runs };
     }

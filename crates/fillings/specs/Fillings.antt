@@ -1,7 +1,7 @@
 -- What Valid, Invalid and Unknown say of records that are not yet filed ("P7"), for every hop function, path and role.
 use Prim.Native.Nat.{ℕ, _+_, _-_, _≤_, _<_}
 use mathlib.Core.Path.{_≡_}
-use mathlib.Core.List.{List}
+use mathlib.Core.List.{List, [], _∷_, _++_, map}
 use mathlib.Core.Logic.{_↔_}
 use mathlib.Core.Bool.{Bool, true, false, not, cond, _&&_, _||_}
 use lib.ListN.{length, getD}
@@ -88,12 +88,34 @@ pub record FillingLaws : Type 0 where
   pub by-number : (public overrides : List Record) (x y : ℕ)
       → isUnattested (hopOver public overrides x y) ≡ not (attested public x || attested overrides x)
 
--- ---- which changes leave an outcome
-
 -- A path as merging leaves it: no number is 0, and none stands beside itself.
 pub record MergedPath (path : List ℕ) : Type 0 where
   pub no-zero : (i : ℕ) → i < length path → getD path i 0 ≡ 0 → ⊥
   pub no-runs : (i : ℕ) → i + 1 < length path → getD path i 0 ≡ getD path (i + 1) 0 → ⊥
+
+-- ---- a filling as records
+
+-- The numbers of a list that pass a test.
+unfoldable pub those : (ℕ → Bool) → List ℕ → List ℕ
+those test [] = []
+those test (x ∷ l) = cond (test x) (x ∷ those test l) (those test l)
+
+-- What a filling comes to on a path: each number of it without a record in either register lists those numbers of the path that are in its set. (And
+-- 0, because no list is empty. The order of a list, and the number itself in it, nothing here reads.)
+abbrev pub newRecords : List Record → List Record → Filling → List ℕ → List Record
+newRecords public overrides f path =
+    map (λ x. record { customer = x; source = 0; providers = 0 ∷ those (f x) path }) (those (λ x. not (attested public x || attested overrides x)) path)
+
+pub record RecordLaws : Type 0 where
+  -- With these records beside the others a path has the outcome that it has under the filling, Valid if it is admitted and else Invalid.
+  pub realised : (public overrides : List Record) (f : Filling) (path : List ℕ) → MergedPath path → (role : ℕ)
+      → outcome (hopOver (newRecords public overrides f path ++ public) overrides) path role
+      ≡ cond (admitted (filled (hopOver public overrides) f) path role) valid invalid
+  -- They are all for numbers that had none.
+  pub for-new : (public overrides : List Record) (f : Filling) (path : List ℕ) (x : ℕ) → (attested public x || attested overrides x) ≡ true
+      → attested (newRecords public overrides f path) x ≡ false
+
+-- ---- which changes leave an outcome, exactly
 
 -- From the first hops to the second: such a path that has the outcome keeps it, in every role.
 abbrev pub Stays : Outcome → HopFunction → HopFunction → Type 0

@@ -17,7 +17,7 @@ use Rattle.register.specs.Calls.{recordFor}
 use Rattle.effects.specs.Calls.{judgeAnswer}
 use Rattle.effects.specs.Vectors.{packedD, alone}
 use Rattle.history.specs.Calls.{Call, file, withdraw, Tables, leaves, blank}
-use Rattle.fillings.specs.Fillings.{Filling, unknown, outcome, nobody, filled, admitted, SameSets, MergedPath}
+use Rattle.fillings.specs.Fillings.{Filling, unknown, outcome, nobody, filled, admitted, SameSets, newRecords, MergedPath}
 use Rattle.fillings.specs.Calls.{HasPath, Unattested, AllIn}
 
 -- ---- fillings
@@ -47,6 +47,8 @@ pub record FillingVectors : Type 0 where
   -- 60 stands twice on the path and has one set: what it lists at one place it lists at the other.
   pub both-listed : admitted (filled hopD (sets (lists 60 (30 ∷ 90 ∷ []) ∷ lists 90 (60 ∷ []) ∷ []))) (30 ∷ 60 ∷ 90 ∷ 60 ∷ []) 1 ≡ true
   pub one-listed : admitted (filled hopD (sets (lists 60 (90 ∷ []) ∷ lists 90 (60 ∷ []) ∷ []))) (30 ∷ 60 ∷ 90 ∷ 60 ∷ []) 1 ≡ false
+  -- As records for the path: 30 lists nobody, and 60 lists 30.
+  pub as-records : newRecords registerD [] (sets (lists 60 (30 ∷ []) ∷ [])) (30 ∷ 60 ∷ []) ≡ lists 30 (0 ∷ []) ∷ lists 60 (0 ∷ 30 ∷ []) ∷ []
   -- Two fillings that differ in what is not between neighbours say the same.
   pub same-between : SameSets (sets (lists 60 (7 ∷ 60 ∷ []) ∷ [])) nobody (30 ∷ 60 ∷ [])
   -- A number may come back on a path, and only not stand beside itself.
