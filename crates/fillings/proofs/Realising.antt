@@ -10,7 +10,7 @@ use lib.ListN.{length, getD}
 use Rattle.types.specs.declared.Hop.{Hop}
 use Rattle.types.specs.declared.Hop.the-variants.{NoAttestation, ProviderPlus, NotProviderPlus}
 use Rattle.types.specs.Roles.{isUpstream}
-use Rattle.rules.specs.Hops.{HopFunction, isPlus, isNotPlus, isUnattested, asAt}
+use Rattle.rules.specs.Hops.{HopFunction, isPlus, isUnattested, asAt}
 use Rattle.rules.specs.Records.{Record, isIn, attested, united, counting, hopOver}
 use Rattle.providers.proofs.Seeking.{in-append}
 use Rattle.register.proofs.Uniting.{none-united}

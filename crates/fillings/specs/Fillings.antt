@@ -117,7 +117,7 @@ pub record RecordLaws : Type 0 where
 
 -- ---- which changes leave an outcome, exactly
 
--- From the first hops to the second: such a path that has the outcome keeps it, in every role.
+-- From the first hops to the second: such a path with the outcome still has it, in every role.
 abbrev pub Stays : Outcome → HopFunction → HopFunction → Type 0
 Stays o hop hop' = (path : List ℕ) → MergedPath path → (role : ℕ) → outcome hop path role ≡ o → outcome hop' path role ≡ o
 
