@@ -75,7 +75,7 @@ pub fn file(reg: &mut [u32], source: u32, customer: AsNumber, list: &[u32]) -> F
     if reg.len() != register::WORDS {
         return Filed::Refused(Refusal::TableLength);
     }
-    if !register::is_register(reg) {
+    if !finding::is_register(reg) {
         return Filed::Refused(Refusal::RegisterMalformed);
     }
     if register::LAST_SOURCE < source {
@@ -88,8 +88,8 @@ pub fn file(reg: &mut [u32], source: u32, customer: AsNumber, list: &[u32]) -> F
     if !providers::is_list(customer, list) {
         return Filed::Refused(Refusal::ProviderList);
     }
-    let position = register::find(reg, customer, source);
-    if register::is_at(reg, position, customer, source) {
+    let position = finding::find(reg, customer, source);
+    if finding::is_at(reg, position, customer, source) {
         return replace(reg, position, source, customer, list);
     }
     add(reg, position, source, customer, list)
@@ -102,7 +102,7 @@ pub fn withdraw(reg: &mut [u32], source: u32, customer: AsNumber) -> Removal
     if reg.len() != register::WORDS {
         return Removal::Refused(Refusal::TableLength);
     }
-    if !register::is_register(reg) {
+    if !finding::is_register(reg) {
         return Removal::Refused(Refusal::RegisterMalformed);
     }
     if register::LAST_SOURCE < source {
@@ -112,8 +112,8 @@ pub fn withdraw(reg: &mut [u32], source: u32, customer: AsNumber) -> Removal
     if c == 0 {
         return Removal::Refused(Refusal::CustomerZero);
     }
-    let position = register::find(reg, customer, source);
-    if !register::is_at(reg, position, customer, source) {
+    let position = finding::find(reg, customer, source);
+    if !finding::is_at(reg, position, customer, source) {
         return Removal::Refused(Refusal::NoRecord);
     }
     table::remove(reg, register::HEAD, register::TAIL, position);
@@ -127,7 +127,7 @@ pub fn clear(reg: &mut [u32], source: u32) -> Cleared
     if reg.len() != register::WORDS {
         return Cleared::Refused(Refusal::TableLength);
     }
-    if !register::is_register(reg) {
+    if !finding::is_register(reg) {
         return Cleared::Refused(Refusal::RegisterMalformed);
     }
     if register::LAST_SOURCE < source {

@@ -232,7 +232,7 @@ fn tested(reg: &[u32], hints: &[u32], at: usize, customer: AsNumber) -> usize
 {
     let low = hint_at(hints, at, table::word(reg, 0));
     if 0 < low {
-        if register::stands_before(reg, low - 1, customer, 0) {
+        if finding::stands_before(reg, low - 1, customer, 0) {
             return low;
         }
     }
@@ -246,7 +246,7 @@ fn advance(reg: &[u32], low: usize, customer: AsNumber) -> usize
 {
     let mut next = low;
     if low < table::word(reg, 0) {
-        if register::stands_before(reg, low, customer, 0) {
+        if finding::stands_before(reg, low, customer, 0) {
             next = low + 1;
         }
     }
@@ -274,12 +274,12 @@ fn is_high_end(reg: &[u32], hints: &[u32], low: usize, customer: AsNumber) -> bo
         return false;
     }
     if low < table::word(reg, 0) {
-        return !register::stands_before(reg, low, customer, 0);
+        return !finding::stands_before(reg, low, customer, 0);
     }
     true
 }
 
-// Where a customer's records begin, or would: the position that `register::find` answers for source 0, whatever the hints are. Without hints it
+// Where a customer's records begin, or would: the position that `finding::find` answers for source 0, whatever the hints are. Without hints it
 // looks at the same records.
 pub fn find(reg: &[u32], hints: &[u32], customer: AsNumber) -> usize
     requires { ⌜ registerOk (now reg) ≡ true ⌝ }
@@ -289,6 +289,6 @@ pub fn find(reg: &[u32], hints: &[u32], customer: AsNumber) -> usize
     if is_high_end(reg, hints, low, customer) {
         return low;
     }
-    let found = register::search(reg, low, customer, 0);
+    let found = finding::search(reg, low, customer, 0);
     found.low
 }

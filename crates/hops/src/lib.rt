@@ -19,8 +19,8 @@ pub fn list_span(reg: &[u32], source: u32, customer: AsNumber) -> Span
     requires { ⌜ registerOk (now reg) ≡ true ⌝ }
     ensures { λ r. ⌜ r ≡ spanOf (recordsOf (now (reg .entry))) source (customer .0) ⌝ }
 {
-    let position = register::find(reg, customer, source);
-    if !register::is_at(reg, position, customer, source) {
+    let position = finding::find(reg, customer, source);
+    if !finding::is_at(reg, position, customer, source) {
         return Span { from: 0, to: 0 };
     }
     let slot = table::COUNTERS + position * register::WIDTH;

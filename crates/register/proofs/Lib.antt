@@ -1,6 +1,5 @@
 pub mod Entries
 pub mod Holding
-pub mod Checking
 pub mod Looking
 pub mod Uniting
 pub mod Placing

@@ -1,4 +1,4 @@
--- What the register's own functions ask of each other and count. No call's promise speaks of it.
+-- What the functions over a register ask of each other and count. No call's promise speaks of it.
 use Prim.Native.Nat.{ℕ, _≤_}
 use mathlib.Core.Path.{_≡_}
 use mathlib.Core.Bool.{true}

@@ -39,10 +39,10 @@ pub fn are_long(public: &[u32], overrides: &[u32]) -> bool
 pub fn are_registers(public: &[u32], overrides: &[u32]) -> bool
     ensures { λ r. ⌜ r ≡ bothOk (lent (now (public .entry)) (now (overrides .entry))) ⌝ }
 {
-    if !register::is_register(public) {
+    if !finding::is_register(public) {
         return false;
     }
-    register::is_register(overrides)
+    finding::is_register(overrides)
 }
 
 // The register that counts for a number: the overrides, if they have any record of it.

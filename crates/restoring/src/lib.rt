@@ -115,7 +115,7 @@ fn is_register(table: &[u32], bytes: usize) -> bool
     requires { ⌜ length (now table) ≡ registerWords ⌝ }
     ensures { λ r. ⌜ r ≡ (registerOk (now (table .entry)) && eqb (usedBytes recordWidth (now (table .entry))) bytes) ⌝ }
 {
-    if !register::is_register(table) {
+    if !finding::is_register(table) {
         return false;
     }
     snapshot::WORD * snapshot::used(table, register::WIDTH) == bytes

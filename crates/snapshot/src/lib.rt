@@ -84,7 +84,7 @@ pub fn write(reg: &[u32], led: &[u32], out: &mut [u8]) -> Written
     if led.len() != ledger::WORDS {
         return Written::Refused(Refusal::TableLength);
     }
-    if !register::is_register(reg) {
+    if !finding::is_register(reg) {
         return Written::Refused(Refusal::RegisterMalformed);
     }
     if !ledger::is_ledger(led) {

@@ -1,10 +1,10 @@
--- `register::find` meets its contract. Assumes nothing.
+-- `finding::find` meets its contract. Assumes nothing.
 use native.Mathlib.Omega.{arith}
 use Rattle.register.specs.Register.{recordsOf}
 use Rattle.register.proofs.Holding.{ordered}
 use Rattle.register.proofs.Looking.{begins}
-use Rattle.register.proofs.find.Statement.{statement}
-use Rattle.register.proofs.find.Tie as tie
+use Rattle.finding.proofs.find.Statement.{statement}
+use Rattle.finding.proofs.find.Tie as tie
 
 search-requires : tie.Need-search-requires
 search-requires c κs = (c .before .pre, omega arith)

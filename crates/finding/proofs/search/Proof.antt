@@ -1,11 +1,11 @@
--- `register::search` meets its contract. Assumes nothing.
+-- `finding::search` meets its contract. Assumes nothing.
 use native.Mathlib.Omega.{arith}
 use Rattle.halves.proofs.Searches.{searchable}
 use Rattle.register.specs.Register.{recordHead, recordTail}
 use Rattle.register.proofs.Holding.{sound}
 use Rattle.register.proofs.Looking.{finds}
-use Rattle.register.proofs.search.Statement.{statement}
-use Rattle.register.proofs.search.Tie as tie
+use Rattle.finding.proofs.search.Statement.{statement}
+use Rattle.finding.proofs.search.Tie as tie
 
 search-requires : tie.Need-search-requires
 search-requires c κs = searchable recordHead recordTail _ (sound _ (c .before .pre .0)) (omega arith)

@@ -1,4 +1,4 @@
--- `register::are_records` meets its contract. Assumes nothing.
+-- `finding::are_records` meets its contract. Assumes nothing.
 use borrow.Author.Tests.{not-true, not-false}
 use borrow.Author.Needs.{needs}
 use mathlib.Core.Path.{sym, _∙_, ap}
@@ -8,10 +8,10 @@ use native.Mathlib.Omega.{arith}
 use lib.Dec.{eqb}
 use lib.ListN.{length-take, length-drop}
 use Rattle.providers.proofs.Descending.{no-fall, one-fall}
-use Rattle.register.proofs.Checking.{Checked, checks, lists-few, lists-inside, all-checked, slot-inside, list-inside, no-record, list-some, first-inside}
-use Rattle.register.proofs.Checking.{no-order, no-own, checks-first, checks-next}
-use Rattle.register.proofs.are_records.Statement.{statement}
-use Rattle.register.proofs.are_records.Tie as tie
+use Rattle.finding.proofs.Checking.{Checked, checks, lists-few, lists-inside, all-checked, slot-inside, list-inside, no-record, list-some, first-inside}
+use Rattle.finding.proofs.Checking.{no-order, no-own, checks-first, checks-next}
+use Rattle.finding.proofs.are_records.Statement.{statement}
+use Rattle.finding.proofs.are_records.Tie as tie
 
 abbrev Inv-loop : tie.InvT-loop
 Inv-loop reg n bodies customer₀ source₀ between₀ from₀ i₀ customer source between from i = Checked reg n customer source between from i

@@ -1,11 +1,11 @@
--- `register::stands_before` meets its contract. Assumes nothing.
+-- `finding::stands_before` meets its contract. Assumes nothing.
 use borrow.Author.Needs.{needs}
 use mathlib.Core.Path.{_∙_}
 use native.Mathlib.Omega.{arith}
 use Rattle.keyed.specs.Keyed.{beforePair}
 use Rattle.register.proofs.Looking.{slot-in, key-is}
-use Rattle.register.proofs.stands_before.Statement.{statement}
-use Rattle.register.proofs.stands_before.Tie as tie
+use Rattle.finding.proofs.stands_before.Statement.{statement}
+use Rattle.finding.proofs.stands_before.Tie as tie
 
 key-at-requires : tie.Need-key-at-requires
 key-at-requires c κs = omega (arith, slot-in _ (c .before .pre .0) _ (c .before .pre .1))

@@ -1,9 +1,9 @@
--- `register::is_at` meets its contract. Assumes nothing.
+-- `finding::is_at` meets its contract. Assumes nothing.
 use native.Mathlib.Omega.{arith}
 use Rattle.register.proofs.Looking.{head-within, past, there-in, there, other}
 use borrow.Author.Needs.{needs}
-use Rattle.register.proofs.is_at.Statement.{statement}
-use Rattle.register.proofs.is_at.Tie as tie
+use Rattle.finding.proofs.is_at.Statement.{statement}
+use Rattle.finding.proofs.is_at.Tie as tie
 
 word-requires : tie.Need-word-requires
 word-requires c κs = omega (arith, head-within (c .before .args .reg .now) (c .before .pre .0))

@@ -1,13 +1,13 @@
--- `register::is_register` meets its contract. Assumes nothing.
+-- `finding::is_register` meets its contract. Assumes nothing.
 use mathlib.Core.Path.{sym, _∙_}
 use native.Mathlib.Omega.{arith}
 use Rattle.register.specs.Register.{recordHead, recordTail}
 use borrow.Author.Tests.{not-true, not-false}
 use Rattle.table.proofs.Exact.{passes-sound}
-use Rattle.register.proofs.Checking.{not-formed, records-over, lists-over, records-decide}
+use Rattle.finding.proofs.Checking.{not-formed, records-over, lists-over, records-decide}
 use borrow.Author.Needs.{needs}
-use Rattle.register.proofs.is_register.Statement.{statement}
-use Rattle.register.proofs.is_register.Tie as tie
+use Rattle.finding.proofs.is_register.Statement.{statement}
+use Rattle.finding.proofs.is_register.Tie as tie
 
 well-formed-requires : tie.Need-well-formed-requires
 well-formed-requires c κs = search needs
