@@ -120,7 +120,8 @@ extern "C" {
 #define ASPA_ROLE_ROUTE_SERVER_CLIENT 5
 #define ASPA_ROLE_MUTUAL_TRANSIT 6
 
-/* Verdict words, and the one that a refused judging has in their place. */
+/* Verdict words, and the one that a refused judging has in their place. Valid and Invalid stand whatever the networks
+ * without a record may yet publish; Unknown lies with them. */
 #define ASPA_VALID 0
 #define ASPA_INVALID 1
 #define ASPA_UNKNOWN 2

@@ -69,10 +69,10 @@
 //!
 //! # What to do with an answer
 //!
-//! * [`Verdict::Valid`]: every hop that has to be attested is. Use the route.
+//! * [`Verdict::Valid`]: every hop that has to be attested is, whatever the networks without a record may yet publish. Use the route.
 //! * [`Verdict::Invalid`]: the path breaks the records, or is one that no route should have ([`Ground`]). Do not use the route. If it is
-//!   kept, a later record may make it good again.
-//! * [`Verdict::Unknown`]: some network on the path has no record. Use the route as you would without the filter.
+//!   kept, a change for a network that has a record may make it good again; a network's first record cannot.
+//! * [`Verdict::Unknown`]: it lies with networks on the path that have no record. Use the route as you would without the filter.
 //! * [`Refusal`], the error of every call: no verdict was given and no table has changed. It says which row of the rules was given, and of
 //!   a malformed attribute at which byte the fault begins. A route that is refused has not been judged: treat it as malformed, and not as
 //!   Valid. [`TableLength`](Refusal::TableLength), [`RegisterMalformed`](Refusal::RegisterMalformed) and

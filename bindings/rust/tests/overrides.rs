@@ -356,3 +356,113 @@ fn threads() {
         ]
     );
 }
+
+/// A network's first record leaves Valid and Invalid, though a place or the gap may move. Changes for a network that has a record may turn
+/// them.
+#[test]
+fn records_that_come_and_go() {
+    use Origin::{Overrides, Public};
+    type Change = fn(&mut Pair);
+    let vectors: [(Change, Role, &[u32], &str, &str); 12] = [
+        (
+            |pair| pair.file(Public, 1, 60, &[10]),
+            Role::Customer,
+            &[50, 20, 60],
+            "Invalid 3 0 public -",
+            "Invalid 2 0 public -",
+        ),
+        (
+            |pair| pair.file(Overrides, 1, 60, &[10]),
+            Role::Customer,
+            &[50, 20, 60],
+            "Invalid 3 0 public -",
+            "Invalid 2 0 drawer -",
+        ),
+        (
+            |pair| pair.file(Public, 1, 60, &[70]),
+            Role::Provider,
+            &[60, 70],
+            "Valid gap 1",
+            "Valid gap 0",
+        ),
+        (
+            |pair| pair.file(Public, 0, 60, &[30]),
+            Role::Customer,
+            &[30, 60],
+            "Unknown 2 0",
+            "Valid",
+        ),
+        (
+            |pair| pair.file(Public, 0, 60, &[20]),
+            Role::Customer,
+            &[30, 60],
+            "Unknown 2 0",
+            "Invalid 2 0 public -",
+        ),
+        (
+            |pair| pair.file(Public, 1, 20, &[50]),
+            Role::Customer,
+            &[50, 20, 10],
+            "Invalid 3 0 public -",
+            "Valid",
+        ),
+        (
+            |pair| pair.withdraw(Public, 0, 20),
+            Role::Customer,
+            &[40, 20, 10],
+            "Valid",
+            "Unknown 3 0",
+        ),
+        (
+            |pair| pair.withdraw(Public, 0, 20),
+            Role::Customer,
+            &[50, 20, 10],
+            "Invalid 3 0 public -",
+            "Unknown 3 0",
+        ),
+        (
+            |pair| pair.file(Public, 0, 20, &[40, 50]),
+            Role::Customer,
+            &[40, 20, 10],
+            "Valid",
+            "Valid",
+        ),
+        (
+            |pair| pair.file(Public, 0, 10, &[30]),
+            Role::Customer,
+            &[20, 10],
+            "Valid",
+            "Invalid 2 0 public -",
+        ),
+        (
+            |pair| pair.file(Overrides, 0, 10, &[30]),
+            Role::Customer,
+            &[20, 10],
+            "Valid",
+            "Invalid 2 0 drawer -",
+        ),
+        (
+            |pair| pair.file(Overrides, 0, 10, &[20, 30, 50]),
+            Role::Customer,
+            &[20, 10],
+            "Valid",
+            "Valid",
+        ),
+    ];
+    for (change, role, path, before, after) in vectors {
+        let mut pair = Pair::default();
+        for (customer, list) in [
+            (10, &[20, 30][..]),
+            (20, &[40]),
+            (40, &[0]),
+            (50, &[40]),
+            (70, &[80]),
+            (80, &[70]),
+        ] {
+            pair.file(Public, 0, customer, list);
+        }
+        assert_eq!(pair.judge(role, path).to_string(), before, "{path:?}");
+        change(&mut pair);
+        assert_eq!(pair.judge(role, path).to_string(), after, "{path:?}");
+    }
+}
