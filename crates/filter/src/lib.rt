@@ -172,7 +172,7 @@ pub fn keep<'a>(
     if !registers::are_registers(public, overrides) {
         return Judged::Refused(Refusal::RegisterMalformed);
     }
-    if !ledger::is_ledger(led) {
+    if !routes::is_ledger(led) {
         return Judged::Refused(Refusal::RoutesMalformed);
     }
     match know(role, neighbour, attribute) {
@@ -203,7 +203,7 @@ pub fn rejudge<'a>(public: &'a [u32], overrides: &'a [u32], led: &mut [u32]) -> 
     if !registers::are_registers(public, overrides) {
         return Rejudged::Refused(Refusal::RegisterMalformed);
     }
-    if !ledger::is_ledger(led) {
+    if !routes::is_ledger(led) {
         return Rejudged::Refused(Refusal::RoutesMalformed);
     }
     let changed = rejudge::rejudge_all(public, overrides, led);

@@ -7,6 +7,4 @@ pub mod Placing
 pub mod Storing
 pub mod Changes
 pub mod Refusals
-pub mod Stamping
-pub mod Accessing
 pub mod Laws

@@ -1,4 +1,4 @@
--- What the ledger's own functions, and re-judging, ask of the words that they are handed. No call's promise speaks of it.
+-- What the functions over a ledger, and re-judging, ask of the words that they are handed. No call's promise speaks of it.
 use Prim.Native.Nat.{ℕ, _+_, _<_}
 use mathlib.Core.Path.{_≡_}
 use mathlib.Core.Bool.{true}

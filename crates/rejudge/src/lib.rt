@@ -22,20 +22,20 @@ fn rejudge_route<'a>(
     ensures { λ r. ⌜ effect r (now (led .exit))
         ≡ changeEffect (now (led .entry)) i (rejudgedRoute (hopIn (lent (now (public .entry)) (now (overrides .entry))))) ⌝ }
 {
-    if ledger::ground(led, i) != 0 {
+    if routes::ground(led, i) != 0 {
         return false;
     }
-    let role = ledger::role(led, i);
+    let role = routes::role(led, i);
     let answer = verdict::judge_hinted(
         public,
         overrides,
         public_hints,
         own_hints,
         role,
-        ledger::path(led, i),
+        routes::path(led, i),
     );
     let v = answer.verdict();
-    ledger::stamp(led, i, v)
+    routes::stamp(led, i, v)
 }
 
 // Every route judged anew, with hints for each register; answers how many changed.
@@ -49,7 +49,7 @@ fn rejudge_routes<'a>(
     requires { ⌜ (bothOk (lent (now public) (now overrides)) ≡ true) × (length (now led) ≡ ledgerWords) × (ledgerOk (now led) ≡ true) ⌝ }
     ensures { λ r. ⌜ effect r (now (led .exit)) ≡ rejudgedEffect (hopIn (lent (now (public .entry)) (now (overrides .entry)))) (now (led .entry)) ⌝ }
 {
-    let n = ledger::count(led);
+    let n = routes::count(led);
     let mut changed: usize = 0;
     let mut i: usize = 0;
     while i < n {
@@ -67,7 +67,7 @@ pub fn rejudge_all<'a>(public: &'a [u32], overrides: &'a [u32], led: &mut [u32])
     requires { ⌜ (bothOk (lent (now public) (now overrides)) ≡ true) × (length (now led) ≡ ledgerWords) × (ledgerOk (now led) ≡ true) ⌝ }
     ensures { λ r. ⌜ effect r (now (led .exit)) ≡ rejudgedEffect (hopIn (lent (now (public .entry)) (now (overrides .entry)))) (now (led .entry)) ⌝ }
 {
-    if ledger::path_words(led) <= table::word(public, 0) {
+    if routes::path_words(led) <= table::word(public, 0) {
         return rejudge_routes(
             public,
             overrides,

@@ -126,7 +126,7 @@ fn is_ledger(table: &[u32], bytes: usize) -> bool
     requires { ⌜ length (now table) ≡ ledgerWords ⌝ }
     ensures { λ r. ⌜ r ≡ (ledgerOk (now (table .entry)) && eqb (usedBytes routeWidth (now (table .entry))) bytes) ⌝ }
 {
-    if !ledger::is_ledger(table) {
+    if !routes::is_ledger(table) {
         return false;
     }
     snapshot::WORD * snapshot::used(table, ledger::WIDTH) == bytes

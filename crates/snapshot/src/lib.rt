@@ -87,7 +87,7 @@ pub fn write(reg: &[u32], led: &[u32], out: &mut [u8]) -> Written
     if !finding::is_register(reg) {
         return Written::Refused(Refusal::RegisterMalformed);
     }
-    if !ledger::is_ledger(led) {
+    if !routes::is_ledger(led) {
         return Written::Refused(Refusal::RoutesMalformed);
     }
     let r = used(reg, register::WIDTH);

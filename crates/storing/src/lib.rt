@@ -106,7 +106,7 @@ pub fn drop(led: &mut [u32], number: RouteNumber) -> Removal
     if led.len() != ledger::WORDS {
         return Removal::Refused(Refusal::TableLength);
     }
-    if !ledger::is_ledger(led) {
+    if !routes::is_ledger(led) {
         return Removal::Refused(Refusal::RoutesMalformed);
     }
     let position = find(led, number);

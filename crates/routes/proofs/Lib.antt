@@ -1,0 +1,4 @@
+pub mod Paths
+pub mod Checking
+pub mod Stamping
+pub mod Accessing
