@@ -553,3 +553,46 @@ fn threads() {
     });
     assert_eq!(judged, [valid(None), valid(Some(0))]);
 }
+
+/// A call on register D, a role, a path, and its answer before the call and after it. A network's first record leaves Valid and Invalid,
+/// though a place or the gap may move; changes for a network that has a record may turn them.
+const CHANGES: &str = "\
+file 1 60 10 | 1 | 50 20 60 | Invalid 3 0 public - | Invalid 2 0 public -
+dfile 1 60 10 | 1 | 50 20 60 | Invalid 3 0 public - | Invalid 2 0 drawer -
+file 1 60 70 | 3 | 60 70 | Valid gap 1 | Valid gap 0
+file 0 60 30 | 1 | 30 60 | Unknown 2 0 | Valid
+file 0 60 20 | 1 | 30 60 | Unknown 2 0 | Invalid 2 0 public -
+file 1 20 50 | 1 | 50 20 10 | Invalid 3 0 public - | Valid
+withdraw 0 20 | 1 | 40 20 10 | Valid | Unknown 3 0
+withdraw 0 20 | 1 | 50 20 10 | Invalid 3 0 public - | Unknown 3 0
+file 0 20 40 50 | 1 | 40 20 10 | Valid | Valid
+file 0 10 30 | 1 | 20 10 | Valid | Invalid 2 0 public -
+dfile 0 10 30 | 1 | 20 10 | Valid | Invalid 2 0 drawer -
+dfile 0 10 20 30 50 | 1 | 20 10 | Valid | Valid";
+
+#[test]
+fn records_that_come_and_go() {
+    let words = |text: &str| -> Vec<u32> { text.split(' ').map(|w| w.parse().unwrap()).collect() };
+    assert_eq!(CHANGES.lines().count(), 12);
+    for line in CHANGES.lines() {
+        let [call, role, path, before, after] = line.split(" | ").collect::<Vec<_>>()[..] else {
+            panic!("{line}");
+        };
+        let (role, path) = (Role::try_from(words(role)[0]).unwrap(), words(path));
+        let judged = |public: &Register, overrides: &Register| {
+            let answer = public.judge(overrides, role, AsNumber(path[0]), &sequence(&path));
+            answer.unwrap().to_string()
+        };
+        let (mut public, mut overrides) = (register_d(), Register::new());
+        assert_eq!(judged(&public, &overrides), before, "{line}");
+        let (call, arguments) = call.split_once(' ').unwrap();
+        let arguments = words(arguments);
+        let (source, customer, list) = (arguments[0], AsNumber(arguments[1]), &arguments[2..]);
+        match call {
+            "file" => assert!(public.file(source, customer, &numbers(list)).is_ok()),
+            "dfile" => assert!(overrides.file(source, customer, &numbers(list)).is_ok()),
+            _ => assert_eq!(public.withdraw(source, customer), Ok(())),
+        }
+        assert_eq!(judged(&public, &overrides), after, "{line}");
+    }
+}

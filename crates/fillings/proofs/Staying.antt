@@ -132,19 +132,15 @@ module _ (hop hop' : HopFunction) where
 
 -- ---- hops that are new
 
-plus-attested : (h : Hop) → isPlus h ≡ true → isUnattested h ≡ false
-plus-attested NoAttestation e = sym e
-plus-attested (ProviderPlus o s) e = refl
-plus-attested (NotProviderPlus o) e = refl
-
-refused-attested : (h : Hop) → isNotPlus h ≡ true → isUnattested h ≡ false
-refused-attested NoAttestation e = sym e
-refused-attested (ProviderPlus o s) e = refl
-refused-attested (NotProviderPlus o) e = refl
+-- A hop that passes a test which No Attestation fails is attested.
+passing-attested : (test : Hop → Bool) → test NoAttestation ≡ false → (h : Hop) → test h ≡ true → isUnattested h ≡ false
+passing-attested test n NoAttestation e = sym e ∙ n
+passing-attested test n (ProviderPlus o s) e = refl
+passing-attested test n (NotProviderPlus o) e = refl
 
 pub new-hops : (hop hop' : HopFunction) → ((x y : ℕ) → isUnattested (hop x y) ≡ false → hop' x y ≡ hop x y)
     → Stays valid hop hop' × Stays invalid hop hop'
 new-hops hop hop' same = (
-  valid-stays hop hop' .1 (λ x y a b n e. ap isPlus (same x y (plus-attested (hop x y) e)) ∙ e),
-  invalid-stays hop hop' .1 (λ x y a b n e. ap isNotPlus (same x y (refused-attested (hop x y) e)) ∙ e),
+  valid-stays hop hop' .1 (λ x y a b n e. ap isPlus (same x y (passing-attested isPlus refl (hop x y) e)) ∙ e),
+  invalid-stays hop hop' .1 (λ x y a b n e. ap isNotPlus (same x y (passing-attested isNotPlus refl (hop x y) e)) ∙ e),
 )
