@@ -1,4 +1,6 @@
 // The AS_PATH attribute: what it is read as. Crate `reading` has the code.
+#![tactic(auto)]
+
 use types::{Fault, Ground, Refusal};
 
 // The most numbers of a merged path.

@@ -1,4 +1,6 @@
 // The calls for C: tables as a pointer and a length, the answer as crate `told` tells it.
+#![tactic(auto)]
+
 ghost use Rattle.std.specs.Prelude.{◌≡◌};
 ghost use Rattle.types.specs.Rows.{effect};
 ghost use Rattle.register.specs.Calls.{file_effect, withdraw_effect, clear_effect};

@@ -1,5 +1,7 @@
 // The calls of the filter and of the snapshot as the console's commands, each with its arguments read from a line of n words, and what a command
 // replies. What is no command changes nothing.
+#![tactic(auto)]
+
 ghost use Rattle.std.specs.Prelude.{◌≡◌, ◌*◌, ◌≤◌, length};
 ghost use Rattle.lines.specs.Words.{words_of};
 ghost use Rattle.calls.specs.Commands.{most_line, most_parts, file_command, withdraw_command, clear_command, judge_command, keep_command, drop_command};

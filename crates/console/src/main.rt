@@ -1,4 +1,6 @@
 // The console: reads commands from standard input, a line each, and answers each with a line. `protocol` does the work.
+#![tactic(auto)]
+
 ghost use Rattle.std.specs.Prelude.{◌≡◌, true, ◌+◌, ◌≤◌, ◌<◌, length, drop, replicate};
 ghost use Rattle.calls.specs.Commands.{most_line, most_lent};
 ghost use Rattle.protocol.specs.Feeding.{fed, fed_bytes, session_in, most_text, Ready};

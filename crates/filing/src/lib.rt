@@ -1,4 +1,6 @@
 // File, Withdraw and Clear, the calls that change a register.
+#![tactic(auto)]
+
 ghost use Rattle.std.specs.Prelude.{◌≡◌, true, false};
 ghost use Rattle.types.specs.Rows.{effect};
 ghost use Rattle.register.specs.Register.{records_of};

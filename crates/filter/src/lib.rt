@@ -1,4 +1,6 @@
 // The calls of the filter. Each takes any tables and any arguments, and tests its rows in their order.
+#![tactic(auto)]
+
 ghost use Rattle.std.specs.Prelude.{◌≡◌, true, length};
 ghost use Rattle.types.specs.Numbers.{role_number, verdict_of};
 ghost use Rattle.types.specs.Rows.{effect};

@@ -1,4 +1,6 @@
 // The check of a register, and a record found in it.
+#![tactic(auto)]
+
 ghost use Rattle.std.specs.Prelude.{◌≡◌, true, false, ◌&&◌, ◌≤◌, ◌<◌, length, get_or};
 ghost use Rattle.table.specs.Table.{Sound};
 ghost use Rattle.keyed.specs.Keyed.{same_pair, before_pair, ascends, every};

@@ -1,4 +1,6 @@
 // Search by halves in a table whose entries ascend by their keys: one step, and the loop of steps.
+#![tactic(auto)]
+
 ghost use Rattle.std.specs.Prelude.{◌≡◌, ◌+◌, ◌*◌, ◌≤◌, length, get_or};
 ghost use Rattle.table.specs.Table.{counters};
 ghost use Rattle.keyed.specs.Keyed.{before_pair};

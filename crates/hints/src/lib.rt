@@ -11,6 +11,8 @@
 //
 // Word 0 is the first customer of the upper part. Then come for each part, the lower first: its first customer, its width's exponent,
 // its first cell and the one behind its last, as indices of words. The hints follow.
+#![tactic(auto)]
+
 ghost use Rattle.std.specs.Prelude.{◌≡◌, ◌^◌, ◌<◌, ◌≤◌, true, length};
 ghost use Rattle.register.specs.Register.{records_of, record_at, register_ok, position_of};
 ghost use Rattle.hints.specs.Helpers.{upper_part, first_cell, hint_words};

@@ -1,1 +1,2 @@
 // The history theorems: specs/ has the statements, proofs/ the proofs. There is no code.
+#![tactic(auto)]

@@ -1,4 +1,6 @@
 // What one register's records say: the hops from a number to others, and the list of one source for a customer.
+#![tactic(auto)]
+
 ghost use Rattle.std.specs.Prelude.{◌≡◌, true, not, cond, ◌&&◌};
 ghost use Rattle.types.specs.declared.Hop.TheVariants.{NoAttestation, ProviderPlus, NotProviderPlus};
 ghost use Rattle.rules.specs.Records.{attested, hop_of};

@@ -1,4 +1,6 @@
 // Kept routes in a table: limits, layout, and what storing one comes to. Crate `routes` has the code that reads it.
+#![tactic(auto)]
+
 use types::Refusal;
 
 pub const MOST_ROUTES: usize = 512;

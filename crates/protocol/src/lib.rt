@@ -1,4 +1,6 @@
 // The console's protocol: a line in, a line out, over tables and buffers that the caller lends.
+#![tactic(auto)]
+
 ghost use Rattle.std.specs.Prelude.{◌≡◌, ◌≤◌, length, take};
 ghost use Rattle.table.specs.Table.{pad};
 ghost use Rattle.lines.specs.Words.{words_of};

@@ -1,5 +1,7 @@
 // Lists of provider numbers: which may be filed for a customer, whether one holds a number, and how often numbers descend where
 // lists stand one behind the other.
+#![tactic(auto)]
+
 ghost use Rattle.std.specs.Prelude.{◌≡◌, true, ◌+◌, ◌^◌, ◌≤◌, ◌<◌, length, take};
 ghost use Rattle.rules.specs.Records.{is_in};
 ghost use Rattle.providers.specs.Lists.{rises, list_ok};

@@ -1,4 +1,6 @@
 // Reading an AS_PATH attribute: its first fault, its ground, its merged path.
+#![tactic(auto)]
+
 ghost use Rattle.std.specs.Prelude.{◌≡◌, ◌+◌, ◌*◌, ◌^◌, ◌≤◌, ◌<◌, length, set};
 ghost use Rattle.types.specs.Numbers.{role_number};
 ghost use Rattle.as_path.specs.declared.Scan.TheVariants.{Clean};

@@ -1,4 +1,5 @@
 // Provider records in a table: limits and layout. Crate `finding` has the code.
+#![tactic(auto)]
 
 // ---- limits
 

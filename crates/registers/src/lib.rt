@@ -1,4 +1,6 @@
 // The public register and the overrides together: which of them counts for a number, the hops by it, and the list of one source.
+#![tactic(auto)]
+
 ghost use Rattle.std.specs.Prelude.{◌≡◌, true};
 ghost use Rattle.rules.specs.Records.{origin_for};
 ghost use Rattle.register.specs.Register.{records_of, register_ok};

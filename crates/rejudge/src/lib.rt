@@ -1,4 +1,6 @@
 // Every kept route without a ground judged anew, in place.
+#![tactic(auto)]
+
 ghost use Rattle.std.specs.Prelude.{◌≡◌, true, length};
 ghost use Rattle.types.specs.Rows.{effect};
 ghost use Rattle.registers.specs.Registers.{lent, hop_in, both_ok};

@@ -1,4 +1,6 @@
 // The check of a ledger, and one route in it read and stamped.
+#![tactic(auto)]
+
 ghost use Rattle.std.specs.Prelude.{◌≡◌, true, ◌&&◌, ◌≤◌, ◌<◌, eqb, ltb, length};
 ghost use Rattle.table.specs.Table.{Sound};
 ghost use Rattle.keyed.specs.Keyed.{ascends, every};

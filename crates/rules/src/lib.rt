@@ -1,4 +1,6 @@
 // The rules of a verdict: specs/ has the definitions and proofs/ their laws. The functions here are the gap's subtraction and what is read off a hop.
+#![tactic(auto)]
+
 ghost use Rattle.std.specs.Prelude.{◌≡◌, ◌<◌, ◌^◌, pos, ◌-ℤ◌};
 ghost use Rattle.rules.specs.Hops.{is_plus, is_not_plus, is_unattested, origin_of};
 

@@ -83,7 +83,7 @@ close_done s i k used e =
 -- A copy of all of src is src pasted.
 pub paste_done : (s src : List ℕ) (at j : ℕ) → j ≡ length src → lib.Seq.paste s at src j ≡ pasted s at src
 unfolding pasted
-paste_done s src at j e = rw (e, lib.Seq.take_length, append_assoc)
+paste_done s src at j e = rw (e, lib.Seq.take-length, append_assoc)
 
 -- A gap that is opened and then written over.
 pub splice_done : (s src : List ℕ) (at used : ℕ) → at + length src ≤ length s → pasted (opened s at (length src) used) at src ≡ spliced s at used src

@@ -1,4 +1,6 @@
 // Runs of words moved within a lent slice.
+#![tactic(auto)]
+
 ghost use Rattle.std.specs.Prelude.{◌≡◌, ◌+◌, ◌≤◌, length, take, drop};
 ghost use Rattle.runs.specs.Words.{opened, zeroed, closed, pasted, spliced};
 

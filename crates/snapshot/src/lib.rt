@@ -1,5 +1,7 @@
 // One file that holds a register and a ledger: its contents, five words, then the used words of both. A word is four bytes, high byte first. Here it
 // is written; crate `restoring` reads it.
+#![tactic(auto)]
+
 ghost use Rattle.std.specs.Prelude.{◌≡◌, [], ◌∷◌, ◌+◌, ◌*◌, ◌≤◌, length};
 ghost use Rattle.std.proofs.lemmas.List.Edits.{sets};
 ghost use Rattle.types.specs.Rows.{effect};

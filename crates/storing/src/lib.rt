@@ -1,4 +1,6 @@
 // A route stored in a ledger, and Drop: what changes which routes it holds.
+#![tactic(auto)]
+
 ghost use Rattle.std.specs.Prelude.{◌≡◌, true, ◌≤◌, length};
 ghost use Rattle.types.specs.Numbers.{role_number};
 ghost use Rattle.types.specs.Rows.{effect};

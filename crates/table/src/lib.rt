@@ -1,4 +1,6 @@
 // Packed tables of entries in lent words. Every slot has h head words and t tail words.
+#![tactic(auto)]
+
 ghost use Rattle.std.specs.Prelude.{◌≡◌, [], ◌∷◌, ◌++◌, ◌+◌, ◌*◌, ◌^◌, ◌≤◌, ◌<◌, length, take, drop, get_or};
 ghost use Rattle.runs.specs.Words.{spliced, pasted};
 ghost use Rattle.table.specs.Table.{counters, width, entry, decode, start_of, slots_ok, all_zero, well_formed, Sound};

@@ -1,4 +1,6 @@
 // Words of a line read as numbers and bytes, and numbers and bytes written as text.
+#![tactic(auto)]
+
 ghost use Rattle.std.specs.Prelude.{◌≡◌, ◌+◌, ◌*◌, ◌≤◌, ◌<◌, length, drop};
 ghost use Rattle.std.proofs.lemmas.List.Edits.{sets};
 ghost use Rattle.text.specs.Numbers.{number_from, number_of, decimal_of, signed_of, magnitude};

@@ -1,4 +1,6 @@
 // How an answer is told in words: the refusal's number as the result (0: not refused), the rest in words that the caller lends.
+#![tactic(auto)]
+
 ghost use Rattle.std.specs.Prelude.{◌≤◌, ◌<◌, ◌≡◌, [], ◌∷◌};
 ghost use Rattle.types.specs.Numbers.{refusal_number, refusal_place};
 ghost use Rattle.rules.specs.Judging.{most_bytes};

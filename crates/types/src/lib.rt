@@ -1,4 +1,6 @@
 // The types that every layer shares. The rules number the cases of each enum: specs/Numbers.antt has those numbers.
+#![tactic(auto)]
+
 ghost use Rattle.std.specs.Prelude.{◌≡◌};
 ghost use Rattle.types.specs.Roles.{is_route_server, is_upstream};
 ghost use Rattle.types.specs.Numbers.{role_of, role_number, ground_number, fault_number, refusal_number, refusal_place, verdict_number, verdict_ground, place_a};

@@ -1,4 +1,6 @@
 // The verdict of a path over the records of two registers.
+#![tactic(auto)]
+
 ghost use Rattle.std.specs.Prelude.{◌≡◌, ◌+◌, ◌-◌, ◌≤◌, length};
 ghost use Rattle.types.specs.Numbers.{role_number};
 ghost use Rattle.rules.specs.Hops.{as_at};

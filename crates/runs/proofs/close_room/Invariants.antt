@@ -1,0 +1,11 @@
+use mathlib.Core.Path.{◌≡◌}
+use Prim.Native.Nat.{◌+◌, ◌-◌, ◌≤◌}
+use lib.ListN.{length}
+use Rattle.runs.specs.Words.{closed}
+use Rattle.runs.proofs.close_room.Given as goal
+
+abbrev pub invariant-loop-i : goal.invariant-loop-i
+invariant-loop-i l = (l.end ≡ l.used - l.k) × (l.i + l.k ≤ l.used) × (length l.s ≡ length l.initial.s) × (closed l.s l.i l.k l.used ≡ closed l.initial.s l.at l.k l.used)
+
+abbrev pub decreases-loop-i : goal.decreases-loop-i
+decreases-loop-i l = l.end - l.i
