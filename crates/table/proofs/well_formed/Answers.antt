@@ -1,0 +1,40 @@
+use mathlib.Core.Path.{sym, ◌∙◌}
+use Prim.Native.Nat.{◌*◌, ◌<◌, ◌^◌}
+use native.Mathlib.Omega.{arith}
+use Rattle.table.specs.Table.{width}
+use Rattle.table.proofs.Checking.{product_fits, wf_short, wf_long, wf_slots, wf_zeros}
+use Rattle.table.proofs.well_formed.Goals as goal
+
+-- The slots come nowhere near the largest number.
+small : (c : tie.After-shared-slice-known2)
+    → c.before.word.result * width c.before.before.before.before.args.h c.before.before.before.before.args.t < 2 ^ 50
+small c =
+    let a = c.before.before.before.before in
+    product_fits c.before.word.result a.args.h a.args.t c.before.word.ensures.1 a.requires.0 a.requires.1
+
+pub returns-then-s-lt-COUNTERS : goal.returns-then-s-lt-COUNTERS
+returns-then-s-lt-COUNTERS c = wf_short c.args.h c.args.t c.args.s.now c.if-s-lt-COUNTERS.true
+
+pub returns-then-s-end : goal.returns-then-s-end
+returns-then-s-end c =
+    let a = c.args in
+    let n = c.word-n in
+    let b = c.word in
+    wf_long a.h a.t a.s.now n.result b.result n.ensures.0 b.ensures.0 (omega arith) c.if-s-end.true
+
+pub returns-then-slots_ok : goal.returns-then-slots_ok
+returns-then-slots_ok c =
+    let a = c.args in
+    let n = c.word-n in
+    let b = c.word in
+    c.zeros_from.ensures
+    ∙ wf_zeros a.h a.t a.s.now n.result b.result n.ensures.0 b.ensures.0 (omega arith) c.if-s-end.false
+    (sym c.if-slots_ok.true ∙ c.slots_ok.ensures)
+
+pub returns : goal.returns
+returns c =
+    let a = c.args in
+    let n = c.word-n in
+    let b = c.word in
+    wf_slots a.h a.t a.s.now n.result b.result n.ensures.0 b.ensures.0 (omega arith) c.if-s-end.false
+    (sym c.if-slots_ok.false ∙ c.slots_ok.ensures)
