@@ -7,21 +7,21 @@ use types::{Fault, Ground, Refusal};
 pub const MOST_NUMBERS: usize = 512;
 
 // The first fault of an attribute, with its offset.
-#[derive(Drop)]
+#[derive(Clone, Copy)]
 pub enum Scan {
     Clean,
     Faulty(Fault, usize),
 }
 
 // The first ground of an attribute without a fault.
-#[derive(Drop)]
+#[derive(Clone, Copy)]
 pub enum Grounded {
     By(Ground),
     Not,
 }
 
 // What an attribute was read as; Path says how many numbers of the buffer are the merged path.
-#[derive(Drop)]
+#[derive(Clone, Copy)]
 pub enum Reading {
     Path(usize),
     OnGround(Ground),

@@ -26,7 +26,7 @@ pub const MOST_LENT: usize = 16384;
 pub const MOST_OUTPUT: usize = 131072;
 
 // The table that a word names.
-#[derive(Drop)]
+#[derive(Clone, Copy)]
 pub enum Named {
     Register,
     Overrides,
@@ -36,7 +36,7 @@ pub enum Named {
 
 // Shown and Sized look at a table when they are put as text, Written at the public register and the ledger, and Listed at both registers. Written has
 // the bytes of the output that a snapshot is written to, and Listed the source and the customer whose list is looked up.
-#[derive(Drop)]
+#[derive(Clone, Copy)]
 pub enum Reply {
     Done,
     Error,

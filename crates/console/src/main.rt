@@ -10,14 +10,14 @@ use libc::{STDIN_FILENO, STDOUT_FILENO};
 use protocol::{Lent, State};
 
 // A state, and whether there may be more to do: not where the input ended, or the output cannot be written.
-#[derive(Drop)]
+#[derive(Clone, Copy)]
 pub struct Served {
     pub state: State,
     pub more: bool,
 }
 
 // The same, and where the rest of a piece begins.
-#[derive(Drop)]
+#[derive(Clone, Copy)]
 pub struct Used {
     pub state: State,
     pub more: bool,

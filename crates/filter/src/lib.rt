@@ -26,7 +26,7 @@ use types::{
 pub const MOST_BYTES: usize = 4096;
 
 // A role that is known, after rows 9, 10 and 11.
-#[derive(Drop)]
+#[derive(Clone, Copy)]
 pub enum Known {
     Role(Role),
     Refused(Refusal),

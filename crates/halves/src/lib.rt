@@ -8,14 +8,14 @@ ghost use Rattle.halves.specs.Halves.{key_of, key_at, before_in, middle, stepped
 ghost use Rattle.halves.specs.Helpers.{Open, Searchable};
 
 // The key of an entry, the first two words of its slot: customer and source of a record. Of a route's the first, its number, decides.
-#[derive(Drop)]
+#[derive(Clone, Copy)]
 pub struct Key {
     pub first: u32,
     pub second: u32,
 }
 
 // What a search has left, the entries low..high, and how many steps it took. The position that it looks for is one of low..=high.
-#[derive(Drop)]
+#[derive(Clone, Copy)]
 pub struct Range {
     pub low: usize,
     pub high: usize,

@@ -10,7 +10,7 @@ ghost use Rattle.hops.specs.Spans.{span_of};
 use types::{AsNumber, Hop, Origin};
 
 // The list of a source for a customer, as a part of the words: where it begins, and where it ends. Both are 0 where there is none.
-#[derive(Drop)]
+#[derive(Clone, Copy)]
 pub struct Span {
     pub from: usize,
     pub to: usize,
@@ -46,7 +46,7 @@ pub fn attests(reg: &[u32], position: usize, x: AsNumber) -> bool
 }
 
 // The hops from one number to two others.
-#[derive(Drop)]
+#[derive(Clone, Copy)]
 pub struct Hops {
     pub y: Hop,
     pub z: Hop,

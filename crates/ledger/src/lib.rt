@@ -18,7 +18,7 @@ pub const WIDTH: usize = HEAD + table::SPAN + TAIL;
 pub const WORDS: usize = table::COUNTERS + MOST_ROUTES * WIDTH + MOST_PATH_WORDS;
 
 // What storing a route comes to.
-#[derive(Drop)]
+#[derive(Clone, Copy)]
 pub enum Kept {
     Done,
     Refused(Refusal),

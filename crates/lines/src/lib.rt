@@ -10,14 +10,14 @@ ghost use Rattle.lines.specs.Words.{before, words_of, word_at, words_from, numbe
 use text::{Bytes, Number};
 
 // Words read as numbers: how many.
-#[derive(Drop)]
+#[derive(Clone, Copy)]
 pub enum List {
     Read(usize),
     Bad,
 }
 
 // Where a word begins and ends.
-#[derive(Drop)]
+#[derive(Clone, Copy)]
 pub struct Span {
     pub from: usize,
     pub to: usize,

@@ -12,7 +12,7 @@ use calls::{Named, Reply};
 use text::Number;
 
 // How many words each table is lent with.
-#[derive(Drop)]
+#[derive(Clone, Copy)]
 pub struct Lent {
     pub register: usize,
     pub overrides: usize,
@@ -20,14 +20,14 @@ pub struct Lent {
 }
 
 // A command's reply, and how many words each table is lent with after it.
-#[derive(Drop)]
+#[derive(Clone, Copy)]
 pub struct Performed {
     pub lent: Lent,
     pub reply: Reply,
 }
 
 // How many bytes stand in the line and in the output. One byte more than a line may have marks one that is too long.
-#[derive(Drop)]
+#[derive(Clone, Copy)]
 pub struct State {
     pub lent: Lent,
     pub line: usize,
@@ -35,7 +35,7 @@ pub struct State {
 }
 
 // The state after a piece, and how many of its bytes were used.
-#[derive(Drop)]
+#[derive(Clone, Copy)]
 pub struct Fed {
     pub state: State,
     pub used: usize,

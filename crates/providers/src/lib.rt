@@ -116,7 +116,7 @@ pub fn holds_at(reg: &[u32], from: usize, count: usize, number: AsNumber) -> boo
 }
 
 // Which of two numbers a list holds.
-#[derive(Drop)]
+#[derive(Clone, Copy)]
 pub struct Listed {
     pub y: bool,
     pub z: bool,

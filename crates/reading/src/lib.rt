@@ -143,7 +143,7 @@ fn put(path: &mut [u32], i: usize, x: u32)
 }
 
 // The merged path so far: the index after it, and its last number. Before the first number that is 0, which no number is.
-#[derive(Drop)]
+#[derive(Clone, Copy)]
 struct End {
     to: usize,
     last: u32,

@@ -13,14 +13,14 @@ use types::{AsNumber, Hop, Origin};
 pub const NO_HINTS: [u32; 0] = [0u32; 0];
 
 // Which register counts for a number, and where the number's records begin there.
-#[derive(Drop)]
+#[derive(Clone, Copy)]
 pub struct Found {
     pub origin: Origin,
     pub position: usize,
 }
 
 // Which register a list stands in, and from where to where.
-#[derive(Drop)]
+#[derive(Clone, Copy)]
 pub struct Part {
     pub origin: Origin,
     pub from: usize,

@@ -7,14 +7,14 @@ ghost use Rattle.text.specs.Numbers.{number_from, number_of, decimal_of, signed_
 ghost use Rattle.text.specs.Bytes.{hex_value, pair_value, pairs, hex_of, bytes_of, hex_stored, bytes_stored, read_count, same_bytes, hex_digit, hex_text};
 
 // A word read as a number.
-#[derive(Drop)]
+#[derive(Clone, Copy)]
 pub enum Number {
     Is(u32),
     Bad,
 }
 
 // A word read as bytes: how many.
-#[derive(Drop)]
+#[derive(Clone, Copy)]
 pub enum Bytes {
     Read(usize),
     Bad,

@@ -7,15 +7,15 @@ ghost use Rattle.types.specs.Numbers.{role_of, role_number, ground_number, fault
 ghost use Rattle.types.specs.Numbers.{place_b, origin_number, first_origin, second_origin, origin_a, origin_b, verdict_of};
 
 // The number of an autonomous system.
-#[derive(Drop)]
+#[derive(Clone, Copy)]
 pub struct AsNumber(pub u32);
 
 // The caller's number of a kept route.
-#[derive(Drop)]
+#[derive(Clone, Copy)]
 pub struct RouteNumber(pub u32);
 
 // What the neighbour is to the network that judges the route (RFC 9234).
-#[derive(Drop)]
+#[derive(Clone, Copy)]
 pub enum Role {
     Customer,
     Peer,
@@ -26,7 +26,7 @@ pub enum Role {
 }
 
 // A role read from a number.
-#[derive(Drop)]
+#[derive(Clone, Copy)]
 pub enum RoleRead {
     Is(Role),
     Nothing,
@@ -107,7 +107,7 @@ impl Role {
 }
 
 // Why a route is Invalid before any hop is looked at.
-#[derive(Drop)]
+#[derive(Clone, Copy)]
 pub enum Ground {
     Empty,
     NotNeighbour,
@@ -127,7 +127,7 @@ impl Ground {
 }
 
 // The register that counts for a customer: the public one, or the operator's own overrides.
-#[derive(Drop)]
+#[derive(Clone, Copy)]
 pub enum Origin {
     Public,
     Overrides,
@@ -145,7 +145,7 @@ impl Origin {
 }
 
 // What the hop check says of two neighbours on a path, by which register; a Provider+ also by which source, the lowest that lists the provider.
-#[derive(Drop)]
+#[derive(Clone, Copy)]
 pub enum Hop {
     NoAttestation,
     ProviderPlus(Origin, u32),
@@ -153,7 +153,7 @@ pub enum Hop {
 }
 
 // The registers by which the hops of an Invalid are Not Provider+: upstream it names one hop, downstream two.
-#[derive(Drop)]
+#[derive(Clone, Copy)]
 pub enum Origins {
     One(Origin),
     Two(Origin, Origin),
@@ -181,13 +181,13 @@ impl Origins {
 }
 
 // Why a route is Invalid: its ground, or the two places of the hops that are Not Provider+ (upstream the second is 0), with their registers.
-#[derive(Drop)]
+#[derive(Clone, Copy)]
 pub enum Cause {
     ByGround(Ground),
     ByHops(u32, u32, Origins),
 }
 
-#[derive(Drop)]
+#[derive(Clone, Copy)]
 pub enum Verdict {
     Valid,
     Invalid(Cause),
@@ -274,7 +274,7 @@ impl Verdict {
 }
 
 // What a judging answers. A downstream verdict without a ground comes with the gap between the ramps, L - K.
-#[derive(Drop)]
+#[derive(Clone, Copy)]
 pub enum Answer {
     Plain(Verdict),
     WithGap(Verdict, i32),
@@ -292,7 +292,7 @@ impl Answer {
 }
 
 // What is wrong with a segment of an AS_PATH attribute.
-#[derive(Drop)]
+#[derive(Clone, Copy)]
 pub enum Fault {
     CutShort,
     UnknownType,
@@ -316,14 +316,14 @@ impl Fault {
 }
 
 // Where the attribute's fault begins, if a refusal is for one.
-#[derive(Drop)]
+#[derive(Clone, Copy)]
 pub enum Place {
     Nowhere,
     Byte(usize),
 }
 
 // Why a call is refused. A fault of the attribute comes with its place, the byte where it begins.
-#[derive(Drop)]
+#[derive(Clone, Copy)]
 pub enum Refusal {
     TableLength,
     RegisterMalformed,
@@ -404,21 +404,21 @@ impl Refusal {
 }
 
 // What a judging ends in.
-#[derive(Drop)]
+#[derive(Clone, Copy)]
 pub enum Judged {
     Answered(Answer),
     Refused(Refusal),
 }
 
 // What a hop between two numbers is answered as.
-#[derive(Drop)]
+#[derive(Clone, Copy)]
 pub enum Hopped {
     Answered(Hop),
     Refused(Refusal),
 }
 
 // What File answers.
-#[derive(Drop)]
+#[derive(Clone, Copy)]
 pub enum Filed {
     New,
     Replaced,
@@ -426,35 +426,35 @@ pub enum Filed {
 }
 
 // What Withdraw and Drop answer.
-#[derive(Drop)]
+#[derive(Clone, Copy)]
 pub enum Removal {
     Done,
     Refused(Refusal),
 }
 
 // What Clear answers: how many records went.
-#[derive(Drop)]
+#[derive(Clone, Copy)]
 pub enum Cleared {
     Gone(u32),
     Refused(Refusal),
 }
 
 // What Re-judge answers: how many routes changed.
-#[derive(Drop)]
+#[derive(Clone, Copy)]
 pub enum Rejudged {
     Changed(u32),
     Refused(Refusal),
 }
 
 // What writing a snapshot answers: its length in bytes.
-#[derive(Drop)]
+#[derive(Clone, Copy)]
 pub enum Written {
     Bytes(usize),
     Refused(Refusal),
 }
 
 // What reading a snapshot answers.
-#[derive(Drop)]
+#[derive(Clone, Copy)]
 pub enum Restored {
     Done,
     Refused(Refusal),

@@ -19,7 +19,7 @@ use types::{Answer, AsNumber, Cause, Hop, Origin, Origins, Role, Verdict};
 mod over;
 
 // u, v, K and L of a path.
-#[derive(Drop)]
+#[derive(Clone, Copy)]
 struct Ramps {
     u: usize,
     v: usize,

@@ -7,7 +7,6 @@ use Rattle.runs.proofs.close_room.Goals as goal
 
 pub loop-i-preserved : goal.loop-i-preserved
 loop-i-preserved c =
-    
     let inv = c.loop-i.invariant in (
       inv.0,
       omega arith,
@@ -17,6 +16,5 @@ loop-i-preserved c =
 
 pub returns : goal.returns
 returns c =
-    
     let e : c.loop-i.i + c.args.k ≡ c.args.used = omega arith in
     c.zero.ensures ∙ close_done _ _ _ _ e ∙ c.loop-i.invariant.3

@@ -8,7 +8,6 @@ use Rattle.runs.proofs.open_room.Goals as goal
 
 pub loop-i-preserved : goal.loop-i-preserved
 loop-i-preserved c =
-    
     let inv = c.loop-i.invariant in
     let a = c.args in
     let s = c.loop-i.s in

@@ -10,7 +10,6 @@ use Rattle.runs.proofs.paste.Goals as goal
 
 pub loop-j-preserved : goal.loop-j-preserved
 loop-j-preserved c =
-    
     let a = c.args in
     let j = c.loop-j.j in (
       omega arith,

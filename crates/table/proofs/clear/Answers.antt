@@ -4,96 +4,351 @@ use lib.ListN.{length}
 use Rattle.table.proofs.Clearing.{Known, Sized, wid, kept, sizes, kept_sizes, some_entry, slots_may, many_kept, clear_none, clear_done}
 use Rattle.table.proofs.clear.Goals as goal
 
--- What is known once the two counters are read.
-abbrev known : tie.After-word2 → Known
-known c =
-    let s = c.before.before.before.before.before.before in
-    record {
-      h = s.args.h;
-      t = s.args.t;
-      column = s.args.column;
-      value = s.args.value;
-      ws = s.args.s.now;
-      may = s.requires;
-      n = c.before.before.before.word.result;
-      b = c.word2.result;
-      n_read = c.before.before.before.word.ensures.0;
-      b_read = c.word2.ensures.0;
-      some = c.before.before.if1.false;
-    }
-
--- The same, once the slots are packed.
-abbrev known₂ : tie.After-pack-slots → Known
-known₂ c = known c.before.before.before.before.before.before
-
--- As many slots are kept as there are entries to keep.
-slots-staying : (c : tie.After-pack-slots) → c.pack-slots.result ≡ length (kept (known₂ c))
-slots-staying c = many_kept (known₂ c) _ c.before.before.before.before.pack-bodies.ensures.0 _ c.pack-slots.ensures.1
-
--- The linear facts, once the slots are packed.
-abbrev sized : (c : tie.After-pack-slots)
-    → Sized (wid (known₂ c)) (known₂ c).n (known₂ c).b c.pack-slots.result c.before.before.before.before.pack-bodies.result
-    (length (known₂ c).ws)
-sized c = kept_sizes (known₂ c) _ _ (slots-staying c) c.before.before.before.before.pack-bodies.ensures.1
-
 pub returns-then-n-eq0 : goal.returns-then-n-eq0
 returns-then-n-eq0 c =
-    let s = c.before.before.before.before in
-    clear_none _ _ _ s.args.value _ s.requires (sym c.word-n.ensures.0 ∙ c.if-n-eq0.true)
+    clear_none _ _ _ c.args.value _ c.requires (sym c.word-n.ensures.0 ∙ c.if-n-eq0.true)
 
 pub overflow_add-end : goal.overflow_add-end
-overflow_add-end c = omega (arith, sizes (known c))
+overflow_add-end c =
+    let known : Known = record {
+      h = c.args.h;
+      t = c.args.t;
+      column = c.args.column;
+      value = c.args.value;
+      ws = c.args.s.now;
+      may = c.requires;
+      n = c.word-n.result;
+      b = c.word-b.result;
+      n_read = c.word-n.ensures.0;
+      b_read = c.word-b.ensures.0;
+      some = c.if-n-eq0.false;
+    } in
+    omega (arith, sizes (known))
 
 pub overflow_add-end-2 : goal.overflow_add-end-2
-overflow_add-end-2 c = omega (arith, sizes (known c))
+overflow_add-end-2 c =
+    let known : Known = record {
+      h = c.args.h;
+      t = c.args.t;
+      column = c.args.column;
+      value = c.args.value;
+      ws = c.args.s.now;
+      may = c.requires;
+      n = c.word-n.result;
+      b = c.word-b.result;
+      n_read = c.word-n.ensures.0;
+      b_read = c.word-b.ensures.0;
+      some = c.if-n-eq0.false;
+    } in
+    omega (arith, sizes (known))
 
 pub overflow_mul-end : goal.overflow_mul-end
-overflow_mul-end c = omega (arith, sizes (known c))
+overflow_mul-end c =
+    let known : Known = record {
+      h = c.args.h;
+      t = c.args.t;
+      column = c.args.column;
+      value = c.args.value;
+      ws = c.args.s.now;
+      may = c.requires;
+      n = c.word-n.result;
+      b = c.word-b.result;
+      n_read = c.word-n.ensures.0;
+      b_read = c.word-b.ensures.0;
+      some = c.if-n-eq0.false;
+    } in
+    omega (arith, sizes (known))
 
 pub overflow_add-end-3 : goal.overflow_add-end-3
-overflow_add-end-3 c = omega (arith, sizes (known c))
+overflow_add-end-3 c =
+    let known : Known = record {
+      h = c.args.h;
+      t = c.args.t;
+      column = c.args.column;
+      value = c.args.value;
+      ws = c.args.s.now;
+      may = c.requires;
+      n = c.word-n.result;
+      b = c.word-b.result;
+      n_read = c.word-n.ensures.0;
+      b_read = c.word-b.ensures.0;
+      some = c.if-n-eq0.false;
+    } in
+    omega (arith, sizes (known))
 
 pub pack_bodies-k-requires : goal.pack_bodies-k-requires
-pack_bodies-k-requires c = (c.before.before.before.before.before.before.before.requires, some_entry (known c))
+pack_bodies-k-requires c =
+    let known : Known = record {
+      h = c.args.h;
+      t = c.args.t;
+      column = c.args.column;
+      value = c.args.value;
+      ws = c.args.s.now;
+      may = c.requires;
+      n = c.word-n.result;
+      b = c.word-b.result;
+      n_read = c.word-n.ensures.0;
+      b_read = c.word-b.ensures.0;
+      some = c.if-n-eq0.false;
+    } in
+    (c.requires, some_entry (known))
 
 pub pack_slots-m-requires : goal.pack_slots-m-requires
-pack_slots-m-requires c = slots_may (known c) _ c.pack_bodies-k.ensures.0
+pack_slots-m-requires c =
+    let known : Known = record {
+      h = c.args.h;
+      t = c.args.t;
+      column = c.args.column;
+      value = c.args.value;
+      ws = c.args.s.now;
+      may = c.requires;
+      n = c.word-n.result;
+      b = c.word-b.result;
+      n_read = c.word-n.ensures.0;
+      b_read = c.word-b.ensures.0;
+      some = c.if-n-eq0.false;
+    } in
+    slots_may (known) _ c.pack_bodies-k.ensures.0
 
 pub overflow_add-kept : goal.overflow_add-kept
-overflow_add-kept c = omega (arith, sizes (known c))
+overflow_add-kept c =
+    let known : Known = record {
+      h = c.args.h;
+      t = c.args.t;
+      column = c.args.column;
+      value = c.args.value;
+      ws = c.args.s.now;
+      may = c.requires;
+      n = c.word-n.result;
+      b = c.word-b.result;
+      n_read = c.word-n.ensures.0;
+      b_read = c.word-b.ensures.0;
+      some = c.if-n-eq0.false;
+    } in
+    omega (arith, sizes (known))
 
 pub overflow_add-kept-2 : goal.overflow_add-kept-2
-overflow_add-kept-2 c = omega (arith, sizes (known c))
+overflow_add-kept-2 c =
+    let known : Known = record {
+      h = c.args.h;
+      t = c.args.t;
+      column = c.args.column;
+      value = c.args.value;
+      ws = c.args.s.now;
+      may = c.requires;
+      n = c.word-n.result;
+      b = c.word-b.result;
+      n_read = c.word-n.ensures.0;
+      b_read = c.word-b.ensures.0;
+      some = c.if-n-eq0.false;
+    } in
+    omega (arith, sizes (known))
 
 pub overflow_mul-kept : goal.overflow_mul-kept
-overflow_mul-kept c = omega (arith, sized c)
+overflow_mul-kept c =
+    let known : Known = record {
+      h = c.args.h;
+      t = c.args.t;
+      column = c.args.column;
+      value = c.args.value;
+      ws = c.args.s.now;
+      may = c.requires;
+      n = c.word-n.result;
+      b = c.word-b.result;
+      n_read = c.word-n.ensures.0;
+      b_read = c.word-b.ensures.0;
+      some = c.if-n-eq0.false;
+    } in
+    let known₂ : Known = known in
+    let slots-staying : c.pack_slots-m.result ≡ length (kept (known₂)) = many_kept (known₂) _ c.pack_bodies-k.ensures.0 _ c.pack_slots-m.ensures.1 in
+    let sized : Sized (wid (known₂)) (known₂).n (known₂).b c.pack_slots-m.result c.pack_bodies-k.result
+    (length (known₂).ws) = kept_sizes (known₂) _ _ (slots-staying) c.pack_bodies-k.ensures.1 in
+    omega (arith, sized)
 
 pub overflow_add-kept-3 : goal.overflow_add-kept-3
-overflow_add-kept-3 c = omega (arith, sized c)
+overflow_add-kept-3 c =
+    let known : Known = record {
+      h = c.args.h;
+      t = c.args.t;
+      column = c.args.column;
+      value = c.args.value;
+      ws = c.args.s.now;
+      may = c.requires;
+      n = c.word-n.result;
+      b = c.word-b.result;
+      n_read = c.word-n.ensures.0;
+      b_read = c.word-b.ensures.0;
+      some = c.if-n-eq0.false;
+    } in
+    let known₂ : Known = known in
+    let slots-staying : c.pack_slots-m.result ≡ length (kept (known₂)) = many_kept (known₂) _ c.pack_bodies-k.ensures.0 _ c.pack_slots-m.ensures.1 in
+    let sized : Sized (wid (known₂)) (known₂).n (known₂).b c.pack_slots-m.result c.pack_bodies-k.result
+    (length (known₂).ws) = kept_sizes (known₂) _ _ (slots-staying) c.pack_bodies-k.ensures.1 in
+    omega (arith, sized)
 
 pub copy_down-requires : goal.copy_down-requires
-copy_down-requires c = omega (arith, sized c)
+copy_down-requires c =
+    let known : Known = record {
+      h = c.args.h;
+      t = c.args.t;
+      column = c.args.column;
+      value = c.args.value;
+      ws = c.args.s.now;
+      may = c.requires;
+      n = c.word-n.result;
+      b = c.word-b.result;
+      n_read = c.word-n.ensures.0;
+      b_read = c.word-b.ensures.0;
+      some = c.if-n-eq0.false;
+    } in
+    let known₂ : Known = known in
+    let slots-staying : c.pack_slots-m.result ≡ length (kept (known₂)) = many_kept (known₂) _ c.pack_bodies-k.ensures.0 _ c.pack_slots-m.ensures.1 in
+    let sized : Sized (wid (known₂)) (known₂).n (known₂).b c.pack_slots-m.result c.pack_bodies-k.result
+    (length (known₂).ws) = kept_sizes (known₂) _ _ (slots-staying) c.pack_bodies-k.ensures.1 in
+    omega (arith, sized)
 
 pub overflow_add-kept-4 : goal.overflow_add-kept-4
-overflow_add-kept-4 c = omega (arith, sized c)
+overflow_add-kept-4 c =
+    let known : Known = record {
+      h = c.args.h;
+      t = c.args.t;
+      column = c.args.column;
+      value = c.args.value;
+      ws = c.args.s.now;
+      may = c.requires;
+      n = c.word-n.result;
+      b = c.word-b.result;
+      n_read = c.word-n.ensures.0;
+      b_read = c.word-b.ensures.0;
+      some = c.if-n-eq0.false;
+    } in
+    let known₂ : Known = known in
+    let slots-staying : c.pack_slots-m.result ≡ length (kept (known₂)) = many_kept (known₂) _ c.pack_bodies-k.ensures.0 _ c.pack_slots-m.ensures.1 in
+    let sized : Sized (wid (known₂)) (known₂).n (known₂).b c.pack_slots-m.result c.pack_bodies-k.result
+    (length (known₂).ws) = kept_sizes (known₂) _ _ (slots-staying) c.pack_bodies-k.ensures.1 in
+    omega (arith, sized)
 
 pub overflow_add-end-4 : goal.overflow_add-end-4
-overflow_add-end-4 c = omega (arith, sized c)
+overflow_add-end-4 c =
+    let known : Known = record {
+      h = c.args.h;
+      t = c.args.t;
+      column = c.args.column;
+      value = c.args.value;
+      ws = c.args.s.now;
+      may = c.requires;
+      n = c.word-n.result;
+      b = c.word-b.result;
+      n_read = c.word-n.ensures.0;
+      b_read = c.word-b.ensures.0;
+      some = c.if-n-eq0.false;
+    } in
+    let known₂ : Known = known in
+    let slots-staying : c.pack_slots-m.result ≡ length (kept (known₂)) = many_kept (known₂) _ c.pack_bodies-k.ensures.0 _ c.pack_slots-m.ensures.1 in
+    let sized : Sized (wid (known₂)) (known₂).n (known₂).b c.pack_slots-m.result c.pack_bodies-k.result
+    (length (known₂).ws) = kept_sizes (known₂) _ _ (slots-staying) c.pack_bodies-k.ensures.1 in
+    omega (arith, sized)
 
 pub zero-requires : goal.zero-requires
-zero-requires c = omega (arith, sized c)
+zero-requires c =
+    let known : Known = record {
+      h = c.args.h;
+      t = c.args.t;
+      column = c.args.column;
+      value = c.args.value;
+      ws = c.args.s.now;
+      may = c.requires;
+      n = c.word-n.result;
+      b = c.word-b.result;
+      n_read = c.word-n.ensures.0;
+      b_read = c.word-b.ensures.0;
+      some = c.if-n-eq0.false;
+    } in
+    let known₂ : Known = known in
+    let slots-staying : c.pack_slots-m.result ≡ length (kept (known₂)) = many_kept (known₂) _ c.pack_bodies-k.ensures.0 _ c.pack_slots-m.ensures.1 in
+    let sized : Sized (wid (known₂)) (known₂).n (known₂).b c.pack_slots-m.result c.pack_bodies-k.result
+    (length (known₂).ws) = kept_sizes (known₂) _ _ (slots-staying) c.pack_bodies-k.ensures.1 in
+    omega (arith, sized)
 
 pub overflow_cast-s : goal.overflow_cast-s
-overflow_cast-s c = omega (arith, sized c)
+overflow_cast-s c =
+    let known : Known = record {
+      h = c.args.h;
+      t = c.args.t;
+      column = c.args.column;
+      value = c.args.value;
+      ws = c.args.s.now;
+      may = c.requires;
+      n = c.word-n.result;
+      b = c.word-b.result;
+      n_read = c.word-n.ensures.0;
+      b_read = c.word-b.ensures.0;
+      some = c.if-n-eq0.false;
+    } in
+    let known₂ : Known = known in
+    let slots-staying : c.pack_slots-m.result ≡ length (kept (known₂)) = many_kept (known₂) _ c.pack_bodies-k.ensures.0 _ c.pack_slots-m.ensures.1 in
+    let sized : Sized (wid (known₂)) (known₂).n (known₂).b c.pack_slots-m.result c.pack_bodies-k.result
+    (length (known₂).ws) = kept_sizes (known₂) _ _ (slots-staying) c.pack_bodies-k.ensures.1 in
+    omega (arith, sized)
 
 pub overflow_cast-s-2 : goal.overflow_cast-s-2
-overflow_cast-s-2 c = omega (arith, sized c)
+overflow_cast-s-2 c =
+    let known : Known = record {
+      h = c.args.h;
+      t = c.args.t;
+      column = c.args.column;
+      value = c.args.value;
+      ws = c.args.s.now;
+      may = c.requires;
+      n = c.word-n.result;
+      b = c.word-b.result;
+      n_read = c.word-n.ensures.0;
+      b_read = c.word-b.ensures.0;
+      some = c.if-n-eq0.false;
+    } in
+    let known₂ : Known = known in
+    let slots-staying : c.pack_slots-m.result ≡ length (kept (known₂)) = many_kept (known₂) _ c.pack_bodies-k.ensures.0 _ c.pack_slots-m.ensures.1 in
+    let sized : Sized (wid (known₂)) (known₂).n (known₂).b c.pack_slots-m.result c.pack_bodies-k.result
+    (length (known₂).ws) = kept_sizes (known₂) _ _ (slots-staying) c.pack_bodies-k.ensures.1 in
+    omega (arith, sized)
 
 pub overflow_sub-result : goal.overflow_sub-result
-overflow_sub-result c = (sized c).few
+overflow_sub-result c =
+    let known : Known = record {
+      h = c.args.h;
+      t = c.args.t;
+      column = c.args.column;
+      value = c.args.value;
+      ws = c.args.s.now;
+      may = c.requires;
+      n = c.word-n.result;
+      b = c.word-b.result;
+      n_read = c.word-n.ensures.0;
+      b_read = c.word-b.ensures.0;
+      some = c.if-n-eq0.false;
+    } in
+    let known₂ : Known = known in
+    let slots-staying : c.pack_slots-m.result ≡ length (kept (known₂)) = many_kept (known₂) _ c.pack_bodies-k.ensures.0 _ c.pack_slots-m.ensures.1 in
+    let sized : Sized (wid (known₂)) (known₂).n (known₂).b c.pack_slots-m.result c.pack_bodies-k.result
+    (length (known₂).ws) = kept_sizes (known₂) _ _ (slots-staying) c.pack_bodies-k.ensures.1 in
+    (sized).few
 
 pub returns : goal.returns
 returns c =
-    
-    clear_done (known₂ c) _ c.pack_bodies-k.ensures.0 _ _ (slots-staying c) c.pack_bodies-k.ensures.1 _ _ _
+    let known : Known = record {
+      h = c.args.h;
+      t = c.args.t;
+      column = c.args.column;
+      value = c.args.value;
+      ws = c.args.s.now;
+      may = c.requires;
+      n = c.word-n.result;
+      b = c.word-b.result;
+      n_read = c.word-n.ensures.0;
+      b_read = c.word-b.ensures.0;
+      some = c.if-n-eq0.false;
+    } in
+    let known₂ : Known = known in
+    let slots-staying : c.pack_slots-m.result ≡ length (kept (known₂)) = many_kept (known₂) _ c.pack_bodies-k.ensures.0 _ c.pack_slots-m.ensures.1 in
+    clear_done (known₂) _ c.pack_bodies-k.ensures.0 _ _ (slots-staying) c.pack_bodies-k.ensures.1 _ _ _
     c.pack_slots-m.ensures.0 c.copy_down.ensures c.zero.ensures

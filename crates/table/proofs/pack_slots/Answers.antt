@@ -5,12 +5,10 @@ use Rattle.table.proofs.pack_slots.Goals as goal
 
 pub overflow_add-next : goal.overflow_add-next
 overflow_add-next c =
-    
     omega (arith, thin_counts c.loop-i.invariant c.loop-i-test.true)
 
 pub loop-i-preserved-then-x-value : goal.loop-i-preserved-then-x-value
 loop-i-preserved-then-x-value c =
-    
     thin_in c.loop-i.invariant c.loop-i-test.true c.if-x-value.true _ c.copy_down.ensures
 
 pub loop-i-preserved : goal.loop-i-preserved

@@ -6,13 +6,6 @@ use Rattle.table.specs.Table.{width}
 use Rattle.table.proofs.Laws.{peel, restart_step, counts_step, restart_done}
 use Rattle.table.proofs.restart.Goals as goal
 
--- In a turn there is a whole slot.
-room : (c : tie.After-slice-known invariant-loop decreases-loop)
-    → c.before.before.loop.p + width c.before.before.before.args.h c.before.before.before.args.t ≤ length c.before.before.loop.s
-room c =
-    let a = c.before.before.before.args in
-    omega (arith, peel c.before.before.loop.left (width a.h a.t) c.before.loop-test.true)
-
 pub overflow_add-next : goal.overflow_add-next
 overflow_add-next c =
     let l = c.loop-left in
@@ -21,9 +14,11 @@ overflow_add-next c =
 
 pub loop-left-preserved : goal.loop-left-preserved
 loop-left-preserved c =
+    let room : c.loop-left.p + width c.args.h c.args.t ≤ length c.loop-left.s = let a = c.args in
+    omega (arith, peel c.loop-left.left (width a.h a.t) c.loop-left-test.true) in
     let l = c.loop-left in
     let a = c.args in
-    let r = room c in
+    let r = room in
     let k = counts_step l.s a.h a.t l.p l.left l.next c.loop-left-test.true in
     let e = peel l.left (width a.h a.t) c.loop-left-test.true in (
       simp length-set l.invariant.0,

@@ -7,7 +7,7 @@ use Rattle.table.specs.Helpers.{restarted, counts}
 use Rattle.table.proofs.restart.Given as goal
 
 abbrev pub invariant-loop-left : goal.invariant-loop-left
-invariant-loop-left l =     (length l.s ≡ length l.initial.s)
+invariant-loop-left l = (length l.s ≡ length l.initial.s)
     × (l.p + l.left * width l.h l.t ≤ length l.s)
     × (l.next + counts l.h l.t l.left (drop l.p l.s) < 2 ^ 32)
     × (take l.p l.s ++ restarted l.h l.t l.left l.next (drop l.p l.s) ≡ take l.at l.initial.s ++ restarted l.h l.t l.m l.o (drop l.at l.initial.s))

@@ -7,13 +7,6 @@ use Rattle.table.proofs.Laws.{peel}
 use Rattle.table.proofs.Checking.{ok_start, ok_count, ok_step, ok_done}
 use Rattle.table.proofs.slots_ok.Goals as goal
 
--- In a turn there is a whole slot.
-slot : (c : tie.In-loop invariant-loop decreases-loop)
-    → c.before.loop.left * width c.before.before.args.h c.before.before.args.t
-    ≡ (c.before.loop.left - 1) * width c.before.before.args.h c.before.before.args.t
-    + width c.before.before.args.h c.before.before.args.t
-slot c = peel c.before.loop.left (width c.before.before.args.h c.before.before.args.t) c.loop-test.true
-
 pub returns-then-start-next : goal.returns-then-start-next
 returns-then-start-next c =
     let a = c.args in
@@ -30,7 +23,10 @@ returns-then-b-next c =
 
 pub loop-left-preserved : goal.loop-left-preserved
 loop-left-preserved c =
-    let r = slot c in
+    let slot : c.loop-left.left * width c.args.h c.args.t
+    ≡ (c.loop-left.left - 1) * width c.args.h c.args.t
+    + width c.args.h c.args.t = peel c.loop-left.left (width c.args.h c.args.t) c.loop-left-test.true in
+    let r = slot in
     let a = c.args in
     let l = c.loop-left in (
       omega arith,

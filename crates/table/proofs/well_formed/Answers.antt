@@ -1,16 +1,7 @@
 use mathlib.Core.Path.{sym, ◌∙◌}
-use Prim.Native.Nat.{◌*◌, ◌<◌, ◌^◌}
 use native.Mathlib.Omega.{arith}
-use Rattle.table.specs.Table.{width}
-use Rattle.table.proofs.Checking.{product_fits, wf_short, wf_long, wf_slots, wf_zeros}
+use Rattle.table.proofs.Checking.{wf_short, wf_long, wf_slots, wf_zeros}
 use Rattle.table.proofs.well_formed.Goals as goal
-
--- The slots come nowhere near the largest number.
-small : (c : tie.After-shared-slice-known2)
-    → c.before.word.result * width c.before.before.before.before.args.h c.before.before.before.before.args.t < 2 ^ 50
-small c =
-    let a = c.before.before.before.before in
-    product_fits c.before.word.result a.args.h a.args.t c.before.word.ensures.1 a.requires.0 a.requires.1
 
 pub returns-then-s-lt-COUNTERS : goal.returns-then-s-lt-COUNTERS
 returns-then-s-lt-COUNTERS c = wf_short c.args.h c.args.t c.args.s.now c.if-s-lt-COUNTERS.true
