@@ -6,4 +6,4 @@ pub returns-then-not-low-high : goal.returns-then-not-low-high
 returns-then-not-low-high c =
     let a = c.args in
     λ e. not_among a.reg.now a.number.0 a.from a.count c.if-count-le16.true c.if-from-reg.true
-    c.is_among_eight-low.ensures c.is_among_eight-high.ensures (not-true _ c.if-not-low-high.true)
+    c.is_among_eight-low.ensures c.is_among_eight-high.ensures c.if-not-low-high.true

@@ -11,9 +11,9 @@ returns-then-list-gt-MOST_PROVIDERS c = list_long _ _ c.if-list-lt1.false c.if-l
 
 pub returns-then-not-is_rising : goal.returns-then-not-is_rising
 returns-then-not-is_rising c =
-    list_falls _ _ c.if-list-lt1.false c.if-list-gt-MOST_PROVIDERS.false (sym c.is_rising.ensures ∙ not-true _ c.if-not-is_rising.true)
+    list_falls _ _ c.if-list-lt1.false c.if-list-gt-MOST_PROVIDERS.false (sym c.is_rising.ensures ∙ c.if-not-is_rising.true)
 
 pub returns : goal.returns
 returns c =
-    let e = sym c.is_rising.ensures ∙ not-false _ c.if-not-is_rising.false in
+    let e = sym c.is_rising.ensures ∙ c.if-not-is_rising.false in
     list_own _ _ c.if-list-lt1.false c.if-list-gt-MOST_PROVIDERS.false e (c.holds.ensures e)
