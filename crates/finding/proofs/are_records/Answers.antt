@@ -1,5 +1,4 @@
 use mathlib.Core.Path.{sym, ◌∙◌, ap}
-use mathlib.Core.Logic.{⊎_elim}
 use Prim.Native.Nat.{◌-◌}
 use native.Mathlib.Omega.{arith}
 use lib.Dec.{eqb}
@@ -8,6 +7,7 @@ use Rattle.providers.proofs.Descending.{no_fall, one_fall}
 use Rattle.finding.proofs.Checking.{checks, lists_few, lists_inside, all_checked, slot_inside, list_inside, no_record, list_some, first_inside}
 use Rattle.finding.proofs.Checking.{no_order, no_own, checks_first, checks_next}
 use Rattle.finding.proofs.are_records.Goals as goal
+use Rattle.finding.proofs.are_records.Goals.{then-bodies-from+then-reg-from, then-bodies-from+else-reg-from, else-bodies-from}
 
 pub loop-i-init : goal.loop-i-init
 loop-i-init c = checks c.requires.0 c.word-n.ensures.0
@@ -68,10 +68,11 @@ loop-i-preserved c =
     let q = sym c.is_before.ensures ∙ c.if-not-is_before.false in
     let f = c.holds_at.ensures in
     let o = c.if-holds_at.false in
-    ⊎_elim (λ a. checks_next g h e k q f o a.0.taken (omega (arith, a.4, one_fall a.3.taken)))
-    (⊎_elim (λ a. checks_next g h e k q f o a.0.taken (omega (arith, a.4, no_fall a.3.left)))
-    (λ a. checks_first g h e k q f o a.0.left a.1))
-    c.if-bodies-from.branch
+    elim c.if-bodies-from.branch [
+      | then-bodies-from+then-reg-from w ↦ checks_next g h e k q f o w.if-bodies-from.true (omega (arith, w.between-is, one_fall w.if-reg-from.true))
+      | then-bodies-from+else-reg-from w ↦ checks_next g h e k q f o w.if-bodies-from.true (omega (arith, w.between-is, no_fall w.if-reg-from.false))
+      | else-bodies-from w ↦ checks_first g h e k q f o w.if-bodies-from.false w.between-is
+    ]
 
 pub slice_bounds-descents-end : goal.slice_bounds-descents-end
 slice_bounds-descents-end c = omega (arith, lists_inside c.loop-i.invariant)
