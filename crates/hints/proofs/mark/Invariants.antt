@@ -1,0 +1,10 @@
+use Rattle.std.proofs.Common.{◌≡◌, ◌-◌, ◌≤◌, true, length}
+use Rattle.register.specs.Register.{most_records, records_of, register_ok}
+use Rattle.hints.specs.Helpers.{first_cell}
+use Rattle.hints.proofs.mark.Given as goal
+
+abbrev pub invariant-loop-i : goal.invariant-loop-i
+invariant-loop-i l = (register_ok l.reg ≡ true) × (l.n ≡ length (records_of l.reg)) × (l.n ≤ most_records) × (first_cell ≤ length l.hints) × (length l.hints ≡ length l.initial.hints)
+
+abbrev pub decreases-loop-i : goal.decreases-loop-i
+decreases-loop-i l = l.n - l.i
