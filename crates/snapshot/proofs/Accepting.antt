@@ -19,11 +19,11 @@ use Rattle.snapshot.specs.Snapshot.{word_bytes, contents_bytes, edition, used_by
 use Rattle.snapshot.specs.Calls.{contents_rows, body_rows, read_rows}
 
 -- What `if !f()` says of what f ensures.
-pub told : {a b : Bool} → a ≡ b → not a ≡ false → b ≡ true
-told {a} e h = sym e ∙ not-false a h
+pub told : {a b : Bool} → a ≡ b → a ≡ true → b ≡ true
+told e h = sym e ∙ h
 
-pub denied : {a b : Bool} → a ≡ b → not a ≡ true → b ≡ false
-denied {a} e h = sym e ∙ not-true a h
+pub denied : {a b : Bool} → a ≡ b → a ≡ false → b ≡ false
+denied e h = sym e ∙ h
 
 -- A test whose row is not given passes.
 pub passed : (b : Bool) (r : Refusal) → row_if (not b) r ≡ none → b ≡ true

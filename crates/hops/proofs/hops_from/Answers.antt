@@ -59,7 +59,7 @@ loop-i-preserved c =
 pub returns : goal.returns
 returns c =
     let b = c.loop-i.invariant in
-    let e =
+    let e : attested (drop c.loop-i.i (records_of c.args.reg.now)) c.args.x.0 ≡ false =
     elim c.if-n-i.branch [
       | then-n-i w ↦ none_left b.0 w.if-n-i.true
       | else-n-i+then-reg-slot w ↦ others_left b.0 w.if-n-i.false w.if-reg-slot.true

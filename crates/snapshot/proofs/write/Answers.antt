@@ -1,3 +1,4 @@
+use mathlib.Core.Path.{sym, ◌∙◌}
 use Rattle.snapshot.proofs.Padding.{register_filled, ledger_filled}
 use Rattle.snapshot.proofs.Accepting.{told, denied}
 use Rattle.snapshot.proofs.Writing.{tables, register_length_wrong, ledger_length_wrong, register_wrong, ledger_wrong, short, writable, written_whole}
@@ -10,22 +11,22 @@ pub returns-then-led-ne-WORDS : goal.returns-then-led-ne-WORDS
 returns-then-led-ne-WORDS c = ledger_length_wrong _ _ _ c.if-reg-ne-WORDS.false c.if-led-ne-WORDS.true
 
 pub returns-then-not-is_register : goal.returns-then-not-is_register
-returns-then-not-is_register c = register_wrong _ _ _ c.if-reg-ne-WORDS.false c.if-led-ne-WORDS.false (denied c.is_register.ensures c.if-not-is_register.true)
+returns-then-not-is_register c = register_wrong _ _ _ c.if-reg-ne-WORDS.false c.if-led-ne-WORDS.false (sym c.is_register.ensures ∙ c.if-not-is_register.true)
 
 pub returns-then-not-is_ledger : goal.returns-then-not-is_ledger
-returns-then-not-is_ledger c = ledger_wrong _ _ _ c.if-reg-ne-WORDS.false c.if-led-ne-WORDS.false (told c.is_register.ensures c.if-not-is_register.false) (denied c.is_ledger.ensures c.if-not-is_ledger.true)
+returns-then-not-is_ledger c = ledger_wrong _ _ _ c.if-reg-ne-WORDS.false c.if-led-ne-WORDS.false (sym c.is_register.ensures ∙ c.if-not-is_register.false) (sym c.is_ledger.ensures ∙ c.if-not-is_ledger.true)
 
 pub used-r-requires : goal.used-r-requires
-used-r-requires c = (register_filled _ (told c.is_register.ensures c.if-not-is_register.false)).within
+used-r-requires c = (register_filled _ (sym c.is_register.ensures ∙ c.if-not-is_register.false)).within
 
 pub used-l-requires : goal.used-l-requires
-used-l-requires c = (ledger_filled _ (told c.is_ledger.ensures c.if-not-is_ledger.false)).within
+used-l-requires c = (ledger_filled _ (sym c.is_ledger.ensures ∙ c.if-not-is_ledger.false)).within
 
 pub returns-then-out-bytes : goal.returns-then-out-bytes
-returns-then-out-bytes c = short _ _ _ (tables _ _ c.if-reg-ne-WORDS.false c.if-led-ne-WORDS.false (told c.is_register.ensures c.if-not-is_register.false) (told c.is_ledger.ensures c.if-not-is_ledger.false)) _ _ c.used-r.ensures c.used-l.ensures c.if-out-bytes.true
+returns-then-out-bytes c = short _ _ _ (tables _ _ c.if-reg-ne-WORDS.false c.if-led-ne-WORDS.false (sym c.is_register.ensures ∙ c.if-not-is_register.false) (sym c.is_ledger.ensures ∙ c.if-not-is_ledger.false)) _ _ c.used-r.ensures c.used-l.ensures c.if-out-bytes.true
 
 pub emit-requires : goal.emit-requires
-emit-requires c = writable _ _ _ (tables _ _ c.if-reg-ne-WORDS.false c.if-led-ne-WORDS.false (told c.is_register.ensures c.if-not-is_register.false) (told c.is_ledger.ensures c.if-not-is_ledger.false)) _ _ c.used-r.ensures c.used-l.ensures c.if-out-bytes.false
+emit-requires c = writable _ _ _ (tables _ _ c.if-reg-ne-WORDS.false c.if-led-ne-WORDS.false (sym c.is_register.ensures ∙ c.if-not-is_register.false) (sym c.is_ledger.ensures ∙ c.if-not-is_ledger.false)) _ _ c.used-r.ensures c.used-l.ensures c.if-out-bytes.false
 
 pub returns : goal.returns
-returns c = written_whole _ _ _ (tables _ _ c.if-reg-ne-WORDS.false c.if-led-ne-WORDS.false (told c.is_register.ensures c.if-not-is_register.false) (told c.is_ledger.ensures c.if-not-is_ledger.false)) _ _ c.used-r.ensures c.used-l.ensures c.if-out-bytes.false _ c.emit.ensures
+returns c = written_whole _ _ _ (tables _ _ c.if-reg-ne-WORDS.false c.if-led-ne-WORDS.false (sym c.is_register.ensures ∙ c.if-not-is_register.false) (sym c.is_ledger.ensures ∙ c.if-not-is_ledger.false)) _ _ c.used-r.ensures c.used-l.ensures c.if-out-bytes.false _ c.emit.ensures
