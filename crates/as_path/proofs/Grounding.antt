@@ -1,16 +1,15 @@
 -- The grounds: the walk for a set, the neighbour check on the first segment, and their order. Assumes nothing.
-use Prim.Native.Nat.{ℕ, zero, suc, pred, ◌+◌, ◌*◌, ◌≤◌, ◌<◌}
+use Prim.Native.Nat.{ℕ, zero, suc, ◌+◌, ◌*◌, ◌≤◌, ◌<◌}
 use mathlib.Core.Path.{◌≡◌, refl, sym, ◌∙◌, ap}
-use mathlib.Core.Bool.{Bool, true, false, not, cond, ◌||◌}
-use mathlib.Core.List.{List, [], ◌∷◌, map}
-use native.Mathlib.Omega.{arith}
+use mathlib.Core.Bool.{true, false, not, cond}
+use mathlib.Core.List.{List, map}
 use borrow.Author.Tests.{eq-eqb, ne_eqb}
 use lib.ListN.{length, get_or}
 use Rattle.types.specs.declared.Ground.TheVariants.{Empty, NotNeighbour, AsSet}
 use Rattle.types.specs.Roles.{is_route_server}
 use Rattle.as_path.specs.declared.Scan.TheVariants.{Clean}
 use Rattle.as_path.specs.declared.Grounded.TheVariants.{By, Not}
-use Rattle.as_path.specs.Segments.{number_at, numbers_at, type_at, count_at, end_of, starts, segment_at, segments}
+use Rattle.as_path.specs.Segments.{number_at, numbers_at, type_at, count_at, starts, segment_at, segments}
 use Rattle.as_path.specs.Faults.{fault_among, first_fault}
 use Rattle.as_path.specs.Grounds.{has_set, is_not_neighbour, ground_of}
 use Rattle.as_path.proofs.MergedPaths.{segments_none, segments_some}

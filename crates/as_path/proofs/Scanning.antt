@@ -1,5 +1,5 @@
 -- The scan for the first fault: what each way out of its two loops shows, and each turn. Assumes nothing.
-use Prim.Native.Nat.{ℕ, zero, suc, pred, ◌+◌, ◌-◌, ◌*◌, ◌≤◌, ◌<◌}
+use Prim.Native.Nat.{ℕ, zero, suc, ◌+◌, ◌-◌, ◌*◌, ◌≤◌, ◌<◌}
 use mathlib.Core.Path.{◌≡◌, refl, sym, ◌∙◌, ap}
 use mathlib.Core.Bool.{cond}
 use mathlib.Core.List.{List}
@@ -12,7 +12,7 @@ use lib.Seq.{get_or-take, get_or-drop}
 use Rattle.types.specs.declared.Fault.TheVariants.{CutShort, UnknownType, Confederation, NoNumbers, ZeroNumber}
 use Rattle.as_path.specs.declared.Scan.{Scan}
 use Rattle.as_path.specs.declared.Scan.TheVariants.{Clean, Faulty}
-use Rattle.as_path.specs.Segments.{number_bytes, number_at, numbers_at, type_at, count_at, end_of, starts, starts_from}
+use Rattle.as_path.specs.Segments.{number_bytes, number_at, numbers_at, type_at, count_at, end_of, starts}
 use Rattle.as_path.specs.Faults.{numbers_fault, segment_fault, fault_among, first_fault}
 use Rattle.as_path.proofs.Walking.{Stand, left, first, next, none_left, one_more}
 

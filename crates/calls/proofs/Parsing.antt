@@ -30,7 +30,7 @@ use Rattle.snapshot.specs.Calls.{reading, read_effect}
 use Rattle.calls.specs.declared.Reply.{Reply}
 use Rattle.calls.specs.declared.Reply.TheVariants as reply
 use Rattle.calls.specs.Commands.{Command, bad, of_words, with_number, with_bytes, with_numbers, up_to, from_one, file_command, judge_command, keep_command, read_command}
-use Rattle.calls.specs.Performing.{WorksOn, Result, tables_of, result, performed}
+use Rattle.calls.specs.Performing.{WorksOn, Result, tables_of, result_of, performed}
 
 -- ---- the parts
 
@@ -120,7 +120,7 @@ module _ (reg overrides led : List ℕ) (c : Command) where
   does e p = p ∙ ap (performed (tables_of reg overrides led)) (sym e)
 
   -- What is no command changes nothing.
-  pub does_nothing : c ≡ bad → result reply.Error reg overrides led ≡ performed (tables_of reg overrides led) c
+  pub does_nothing : c ≡ bad → result_of reply.Error reg overrides led ≡ performed (tables_of reg overrides led) c
   does_nothing e = does e refl
 
 -- A call on the register of an origin leaves the other as it is.
@@ -150,37 +150,37 @@ buffered w into p q l e = record { length_read = sym p ∙ e; bytes_read = bytes
 module _ (reg overrides led : List ℕ) (ws : List (List ℕ)) {after : List ℕ} {k : ℕ} {role neighbour : ℕ} {j : judged.Judged} where
   pub judges :
       length ws ≡ 4 → number_of (get_or ws 1 []) ≡ number.Is role → number_of (get_or ws 2 []) ≡ number.Is neighbour → Buffered (get_or ws 3 []) after k
-      → j ≡ judge_answer (lent reg overrides) role neighbour (take k after) → result (reply.Judged j) reg overrides led ≡ performed (tables_of reg overrides led) (judge_command ws)
+      → j ≡ judge_answer (lent reg overrides) role neighbour (take k after) → result_of (reply.Judged j) reg overrides led ≡ performed (tables_of reg overrides led) (judge_command ws)
   judges l r n a e =
       does reg overrides led (judge_command ws) (right_count ws 4 _ l ∙ number_is ws 1 _ r ∙ number_is ws 2 _ n ∙ bytes_are ws 3 _ a.length_read)
-      (λ i. result (reply.Judged ((e ∙ ap (judge_answer (lent reg overrides) role neighbour) a.bytes_read) i)) reg overrides led)
+      (λ i. result_of (reply.Judged ((e ∙ ap (judge_answer (lent reg overrides) role neighbour) a.bytes_read) i)) reg overrides led)
 
   pub keeps :
       {route : ℕ} {led' : List ℕ} → length ws ≡ 5 → number_of (get_or ws 1 []) ≡ number.Is route → number_of (get_or ws 2 []) ≡ number.Is role
       → number_of (get_or ws 3 []) ≡ number.Is neighbour → Buffered (get_or ws 4 []) after k
       → effect j led' ≡ keep_effect (lent reg overrides) led (keeping route role neighbour (take k after))
-      → result (reply.Judged j) reg overrides led' ≡ performed (tables_of reg overrides led) (keep_command ws)
+      → result_of (reply.Judged j) reg overrides led' ≡ performed (tables_of reg overrides led) (keep_command ws)
   keeps {route = route} l m r n a e =
       let left = e ∙ ap (λ b. keep_effect (lent reg overrides) led (keeping route role neighbour b)) a.bytes_read in
       does reg overrides led (keep_command ws)
       (right_count ws 5 _ l ∙ number_is ws 1 _ m ∙ number_is ws 2 _ r ∙ number_is ws 3 _ n ∙ bytes_are ws 4 _ a.length_read)
-      (λ i. result (reply.Judged (left i).answer) reg overrides (left i).words)
+      (λ i. result_of (reply.Judged (left i).answer) reg overrides (left i).words)
 
 pub reads :
     (reg overrides led : List ℕ) (ws : List (List ℕ)) {after : List ℕ} {k : ℕ} {restored : Restored} {reg' led' : List ℕ} → length ws ≡ 2
     → Buffered (get_or ws 1 []) after k → reading restored reg' led' ≡ read_effect (take k after) reg led
-    → result (reply.Restored restored) reg' overrides led' ≡ performed (tables_of reg overrides led) (read_command ws)
+    → result_of (reply.Restored restored) reg' overrides led' ≡ performed (tables_of reg overrides led) (read_command ws)
 reads reg overrides led ws l a e =
     let left = e ∙ ap (λ file. read_effect file reg led) a.bytes_read in
     does reg overrides led (read_command ws) (right_count ws 2 _ l ∙ bytes_are ws 1 _ a.length_read)
-    (λ i. result (reply.Restored (left i).answer) (left i).register overrides (left i).ledger)
+    (λ i. result_of (reply.Restored (left i).answer) (left i).register overrides (left i).ledger)
 
 pub files :
     (o : Origin) (reg overrides led : List ℕ) (ws : List (List ℕ)) (into : List ℕ) {after : List ℕ} {k source customer : ℕ} {r : list_type.List} {filed : Filed} {reg' overrides' : List ℕ} → 3 ≤ length ws
     → number_of (get_or ws 1 []) ≡ number.Is source → number_of (get_or ws 2 []) ≡ number.Is customer → r ≡ list_read (drop 3 ws)
     → after ≡ sets into 0 (numbers_in (drop 3 ws)) → list_count r ≤ length into → r ≡ list.Read k
     → WorksOn o (λ words. file_effect words source customer (take k after)) (lent reg overrides) filed (lent reg' overrides')
-    → result (reply.Filed filed) reg' overrides' led ≡ performed (tables_of reg overrides led) (file_command o ws)
+    → result_of (reply.Filed filed) reg' overrides' led ≡ performed (tables_of reg overrides led) (file_command o ws)
 files o reg overrides led ws into {after = after} {k = k} {source = source} {customer = customer} l s c p q b e f =
     let read = numbers_given (drop 3 ws) into p q b e in
     let answer = f.0 ∙ ap (λ x. (file_effect (chosen o (lent reg overrides)) source customer x).answer) read in

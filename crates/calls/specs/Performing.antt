@@ -91,8 +91,8 @@ pub record Result : Type 0 where
   pub reply : Reply
   pub tables : Tables
 
-abbrev pub result : Reply → List ℕ → List ℕ → List ℕ → Result
-result r reg overrides led = record { reply = r; tables = tables_of reg overrides led }
+abbrev pub result_of : Reply → List ℕ → List ℕ → List ℕ → Result
+result_of r reg overrides led = record { reply = r; tables = tables_of reg overrides led }
 
 -- The reply to a command, and the tables after it.
 abbrev pub performed : Tables → Command → Result

@@ -8,7 +8,7 @@ ghost use Rattle.calls.specs.Commands.{most_line, most_parts, file_command, with
 ghost use Rattle.register.specs.Calls.{file_effect, withdraw_effect, clear_effect};
 ghost use Rattle.registers.specs.Registers.{lent};
 ghost use Rattle.calls.specs.Commands.{rejudge_command, read_command, write_command, hop_command, lookup_command};
-ghost use Rattle.calls.specs.Performing.{result, performed_on, WorksOn};
+ghost use Rattle.calls.specs.Performing.{result_of, performed_on, WorksOn};
 
 use lines::List;
 use text::{Bytes, Number};
@@ -63,25 +63,25 @@ const SHORT_LINE: usize = 4096;
 const SHORT_PARTS: usize = SHORT_LINE / 2;
 
 fn no_numbers() -> [u32; MOST_PARTS]
-    ensures* { λ r. ⌜ most_parts ≡ length r ⌝ }
+    ensures { most_parts ≡ length result }
 {
     [0; MOST_PARTS]
 }
 
 fn no_bytes() -> [u8; MOST_PARTS]
-    ensures* { λ r. ⌜ most_parts ≡ length r ⌝ }
+    ensures { most_parts ≡ length result }
 {
     [0; MOST_PARTS]
 }
 
 fn few_numbers() -> [u32; SHORT_PARTS]
-    ensures* { λ r. ⌜ 2048 ≡ length r ⌝ }
+    ensures { 2048 ≡ length result }
 {
     [0; SHORT_PARTS]
 }
 
 fn few_bytes() -> [u8; SHORT_PARTS]
-    ensures* { λ r. ⌜ 2048 ≡ length r ⌝ }
+    ensures { 2048 ≡ length result }
 {
     [0; SHORT_PARTS]
 }
@@ -95,8 +95,8 @@ fn file_in(
     customer: AsNumber,
     providers: &[u32],
 ) -> Filed
-    ensures* { λ r. ⌜ WorksOn origin (λ words. file_effect words source customer.0 providers.now)
-        (lent reg.old overrides.old) r (lent reg.new overrides.new) ⌝ }
+    ensures { WorksOn origin (λ words. file_effect words source customer.0 providers.now)
+        (lent reg.old overrides.old) result (lent reg.new overrides.new) }
 {
     match origin {
         Origin::Public => filter::file(reg, source, customer, providers),
@@ -111,8 +111,8 @@ fn withdraw_in(
     source: u32,
     customer: AsNumber,
 ) -> Removal
-    ensures* { λ r. ⌜ WorksOn origin (λ words. withdraw_effect words source customer.0)
-        (lent reg.old overrides.old) r (lent reg.new overrides.new) ⌝ }
+    ensures { WorksOn origin (λ words. withdraw_effect words source customer.0)
+        (lent reg.old overrides.old) result (lent reg.new overrides.new) }
 {
     match origin {
         Origin::Public => filter::withdraw(reg, source, customer),
@@ -121,8 +121,8 @@ fn withdraw_in(
 }
 
 fn clear_in(origin: Origin, reg: &mut [u32], overrides: &mut [u32], source: u32) -> Cleared
-    ensures* { λ r. ⌜ WorksOn origin (λ words. clear_effect words source)
-        (lent reg.old overrides.old) r (lent reg.new overrides.new) ⌝ }
+    ensures { WorksOn origin (λ words. clear_effect words source)
+        (lent reg.old overrides.old) result (lent reg.new overrides.new) }
 {
     match origin {
         Origin::Public => filter::clear(reg, source),
@@ -140,8 +140,8 @@ fn file_into(
     led: &mut [u32],
 ) -> Reply
     requires { (length line.now ≤ 2 * length providers.old) × (n ≡ length (words_of line.now)) }
-    ensures* { λ r. ⌜ result r reg.new overrides.new led.new
-        ≡ performed_on reg.old overrides.old led.old (file_command origin (words_of line.now)) ⌝ }
+    ensures { result_of result reg.new overrides.new led.new
+        ≡ performed_on reg.old overrides.old led.old (file_command origin (words_of line.now)) }
 {
     if n < 3 {
         return Reply::Error;
@@ -175,8 +175,8 @@ pub fn file(
     led: &mut [u32],
 ) -> Reply
     requires { (length line.now ≤ most_line) × (n ≡ length (words_of line.now)) }
-    ensures* { λ r. ⌜ result r reg.new overrides.new led.new
-        ≡ performed_on reg.old overrides.old led.old (file_command origin (words_of line.now)) ⌝ }
+    ensures { result_of result reg.new overrides.new led.new
+        ≡ performed_on reg.old overrides.old led.old (file_command origin (words_of line.now)) }
 {
     if line.len() <= SHORT_LINE {
         let mut providers = few_numbers();
@@ -195,8 +195,8 @@ pub fn withdraw(
     led: &mut [u32],
 ) -> Reply
     requires { n ≡ length (words_of line.now) }
-    ensures* { λ r. ⌜ result r reg.new overrides.new led.new
-        ≡ performed_on reg.old overrides.old led.old (withdraw_command origin (words_of line.now)) ⌝ }
+    ensures { result_of result reg.new overrides.new led.new
+        ≡ performed_on reg.old overrides.old led.old (withdraw_command origin (words_of line.now)) }
 {
     if n != 3 {
         return Reply::Error;
@@ -220,8 +220,8 @@ pub fn clear(
     led: &mut [u32],
 ) -> Reply
     requires { n ≡ length (words_of line.now) }
-    ensures* { λ r. ⌜ result r reg.new overrides.new led.new
-        ≡ performed_on reg.old overrides.old led.old (clear_command origin (words_of line.now)) ⌝ }
+    ensures { result_of result reg.new overrides.new led.new
+        ≡ performed_on reg.old overrides.old led.old (clear_command origin (words_of line.now)) }
 {
     if n != 2 {
         return Reply::Error;
@@ -242,8 +242,8 @@ fn judge_into(
     led: &mut [u32],
 ) -> Reply
     requires { (length line.now ≤ 2 * length attribute.old) × (n ≡ length (words_of line.now)) }
-    ensures* { λ r. ⌜ result r reg.new overrides.new led.new
-        ≡ performed_on reg.old overrides.old led.old (judge_command (words_of line.now)) ⌝ }
+    ensures { result_of result reg.new overrides.new led.new
+        ≡ performed_on reg.old overrides.old led.old (judge_command (words_of line.now)) }
 {
     if n != 4 {
         return Reply::Error;
@@ -269,8 +269,8 @@ pub fn judge(
     led: &mut [u32],
 ) -> Reply
     requires { (length line.now ≤ most_line) × (n ≡ length (words_of line.now)) }
-    ensures* { λ r. ⌜ result r reg.new overrides.new led.new
-        ≡ performed_on reg.old overrides.old led.old (judge_command (words_of line.now)) ⌝ }
+    ensures { result_of result reg.new overrides.new led.new
+        ≡ performed_on reg.old overrides.old led.old (judge_command (words_of line.now)) }
 {
     if line.len() <= SHORT_LINE {
         let mut attribute = few_bytes();
@@ -289,8 +289,8 @@ fn keep_into(
     led: &mut [u32],
 ) -> Reply
     requires { (length line.now ≤ 2 * length attribute.old) × (n ≡ length (words_of line.now)) }
-    ensures* { λ r. ⌜ result r reg.new overrides.new led.new
-        ≡ performed_on reg.old overrides.old led.old (keep_command (words_of line.now)) ⌝ }
+    ensures { result_of result reg.new overrides.new led.new
+        ≡ performed_on reg.old overrides.old led.old (keep_command (words_of line.now)) }
 {
     if n != 5 {
         return Reply::Error;
@@ -321,8 +321,8 @@ fn keep_into(
 
 pub fn keep(line: &[u8], n: usize, reg: &mut [u32], overrides: &mut [u32], led: &mut [u32]) -> Reply
     requires { (length line.now ≤ most_line) × (n ≡ length (words_of line.now)) }
-    ensures* { λ r. ⌜ result r reg.new overrides.new led.new
-        ≡ performed_on reg.old overrides.old led.old (keep_command (words_of line.now)) ⌝ }
+    ensures { result_of result reg.new overrides.new led.new
+        ≡ performed_on reg.old overrides.old led.old (keep_command (words_of line.now)) }
 {
     if line.len() <= SHORT_LINE {
         let mut attribute = few_bytes();
@@ -334,8 +334,8 @@ pub fn keep(line: &[u8], n: usize, reg: &mut [u32], overrides: &mut [u32], led: 
 
 pub fn drop(line: &[u8], n: usize, reg: &mut [u32], overrides: &mut [u32], led: &mut [u32]) -> Reply
     requires { n ≡ length (words_of line.now) }
-    ensures* { λ r. ⌜ result r reg.new overrides.new led.new
-        ≡ performed_on reg.old overrides.old led.old (drop_command (words_of line.now)) ⌝ }
+    ensures { result_of result reg.new overrides.new led.new
+        ≡ performed_on reg.old overrides.old led.old (drop_command (words_of line.now)) }
 {
     if n != 2 {
         return Reply::Error;
@@ -355,8 +355,8 @@ pub fn rejudge(
     led: &mut [u32],
 ) -> Reply
     requires { n ≡ length (words_of line.now) }
-    ensures* { λ r. ⌜ result r reg.new overrides.new led.new
-        ≡ performed_on reg.old overrides.old led.old (rejudge_command (words_of line.now)) ⌝ }
+    ensures { result_of result reg.new overrides.new led.new
+        ≡ performed_on reg.old overrides.old led.old (rejudge_command (words_of line.now)) }
 {
     if n != 1 {
         return Reply::Error;
@@ -368,8 +368,8 @@ pub fn rejudge(
 // A snapshot goes into the public register and the ledger.
 pub fn read(line: &[u8], n: usize, reg: &mut [u32], overrides: &mut [u32], led: &mut [u32]) -> Reply
     requires { (length line.now ≤ most_line) × (n ≡ length (words_of line.now)) }
-    ensures* { λ r. ⌜ result r reg.new overrides.new led.new
-        ≡ performed_on reg.old overrides.old led.old (read_command (words_of line.now)) ⌝ }
+    ensures { result_of result reg.new overrides.new led.new
+        ≡ performed_on reg.old overrides.old led.old (read_command (words_of line.now)) }
 {
     if n != 2 {
         return Reply::Error;
@@ -391,8 +391,8 @@ pub fn write(
     led: &mut [u32],
 ) -> Reply
     requires { n ≡ length (words_of line.now) }
-    ensures* { λ r. ⌜ result r reg.new overrides.new led.new
-        ≡ performed_on reg.old overrides.old led.old (write_command (words_of line.now)) ⌝ }
+    ensures { result_of result reg.new overrides.new led.new
+        ≡ performed_on reg.old overrides.old led.old (write_command (words_of line.now)) }
 {
     if n != 2 {
         return Reply::Error;
@@ -409,8 +409,8 @@ pub fn write(
 
 pub fn hop(line: &[u8], n: usize, reg: &mut [u32], overrides: &mut [u32], led: &mut [u32]) -> Reply
     requires { n ≡ length (words_of line.now) }
-    ensures* { λ r. ⌜ result r reg.new overrides.new led.new
-        ≡ performed_on reg.old overrides.old led.old (hop_command (words_of line.now)) ⌝ }
+    ensures { result_of result reg.new overrides.new led.new
+        ≡ performed_on reg.old overrides.old led.old (hop_command (words_of line.now)) }
 {
     if n != 3 {
         return Reply::Error;
@@ -440,8 +440,8 @@ pub fn lookup(
     led: &mut [u32],
 ) -> Reply
     requires { n ≡ length (words_of line.now) }
-    ensures* { λ r. ⌜ result r reg.new overrides.new led.new
-        ≡ performed_on reg.old overrides.old led.old (lookup_command (words_of line.now)) ⌝ }
+    ensures { result_of result reg.new overrides.new led.new
+        ≡ performed_on reg.old overrides.old led.old (lookup_command (words_of line.now)) }
 {
     if n != 3 {
         return Reply::Error;

@@ -3,7 +3,7 @@ ghost use Rattle.std.specs.Prelude.{◌≡◌, ◌≤◌, length};
 ghost use Rattle.lines.specs.Words.{words_of, word_at};
 ghost use Rattle.calls.specs.Commands.{most_line, named_by, show_command, poke_command, words_command};
 ghost use Rattle.commands.specs.Commands.{look_command, ask_command, overrides_command, snapshot_command, route_command, lent_command};
-ghost use Rattle.calls.specs.Performing.{result, performed_on};
+ghost use Rattle.calls.specs.Performing.{result_of, performed_on};
 
 use crate::tables;
 use calls::{Named, Reply};
@@ -11,7 +11,7 @@ use text::Number;
 use types::Origin;
 
 pub fn named(line: &[u8], k: usize) -> Named
-    ensures* { λ r. ⌜ r ≡ named_by (word_at line.now k) ⌝ }
+    ensures { result ≡ named_by (word_at line.now k) }
 {
     if lines::is_word(line, k, b"register") {
         return Named::Register;
@@ -27,8 +27,8 @@ pub fn named(line: &[u8], k: usize) -> Named
 
 fn poke(line: &[u8], n: usize, reg: &mut [u32], overrides: &mut [u32], led: &mut [u32]) -> Reply
     requires { n ≡ length (words_of line.now) }
-    ensures* { λ r. ⌜ result r reg.new overrides.new led.new
-        ≡ performed_on reg.old overrides.old led.old (poke_command (words_of line.now)) ⌝ }
+    ensures { result_of result reg.new overrides.new led.new
+        ≡ performed_on reg.old overrides.old led.old (poke_command (words_of line.now)) }
 {
     if n != 4 {
         return Reply::Error;
@@ -49,8 +49,8 @@ fn poke(line: &[u8], n: usize, reg: &mut [u32], overrides: &mut [u32], led: &mut
 
 fn words(line: &[u8], n: usize, reg: &mut [u32], overrides: &mut [u32], led: &mut [u32]) -> Reply
     requires { n ≡ length (words_of line.now) }
-    ensures* { λ r. ⌜ result r reg.new overrides.new led.new
-        ≡ performed_on reg.old overrides.old led.old (words_command (words_of line.now)) ⌝ }
+    ensures { result_of result reg.new overrides.new led.new
+        ≡ performed_on reg.old overrides.old led.old (words_command (words_of line.now)) }
 {
     if n != 2 {
         return Reply::Error;
@@ -60,8 +60,8 @@ fn words(line: &[u8], n: usize, reg: &mut [u32], overrides: &mut [u32], led: &mu
 
 fn show(line: &[u8], n: usize, reg: &mut [u32], overrides: &mut [u32], led: &mut [u32]) -> Reply
     requires { n ≡ length (words_of line.now) }
-    ensures* { λ r. ⌜ result r reg.new overrides.new led.new
-        ≡ performed_on reg.old overrides.old led.old (show_command (words_of line.now)) ⌝ }
+    ensures { result_of result reg.new overrides.new led.new
+        ≡ performed_on reg.old overrides.old led.old (show_command (words_of line.now)) }
 {
     if n != 1 {
         return Reply::Error;
@@ -72,8 +72,8 @@ fn show(line: &[u8], n: usize, reg: &mut [u32], overrides: &mut [u32], led: &mut
 // The commands that look at the tables, or set a word.
 fn look(line: &[u8], n: usize, reg: &mut [u32], overrides: &mut [u32], led: &mut [u32]) -> Reply
     requires { n ≡ length (words_of line.now) }
-    ensures* { λ r. ⌜ result r reg.new overrides.new led.new
-        ≡ performed_on reg.old overrides.old led.old (look_command (words_of line.now)) ⌝ }
+    ensures { result_of result reg.new overrides.new led.new
+        ≡ performed_on reg.old overrides.old led.old (look_command (words_of line.now)) }
 {
     if lines::is_word(line, 0, b"poke") {
         return poke(line, n, reg, overrides, led);
@@ -87,8 +87,8 @@ fn look(line: &[u8], n: usize, reg: &mut [u32], overrides: &mut [u32], led: &mut
 // The calls that ask both registers.
 fn ask(line: &[u8], n: usize, reg: &mut [u32], overrides: &mut [u32], led: &mut [u32]) -> Reply
     requires { n ≡ length (words_of line.now) }
-    ensures* { λ r. ⌜ result r reg.new overrides.new led.new
-        ≡ performed_on reg.old overrides.old led.old (ask_command (words_of line.now)) ⌝ }
+    ensures { result_of result reg.new overrides.new led.new
+        ≡ performed_on reg.old overrides.old led.old (ask_command (words_of line.now)) }
 {
     if lines::is_word(line, 0, b"hop") {
         return calls::hop(line, n, reg, overrides, led);
@@ -108,8 +108,8 @@ fn overriding(
     led: &mut [u32],
 ) -> Reply
     requires { (length line.now ≤ most_line) × (n ≡ length (words_of line.now)) }
-    ensures* { λ r. ⌜ result r reg.new overrides.new led.new
-        ≡ performed_on reg.old overrides.old led.old (overrides_command (words_of line.now)) ⌝ }
+    ensures { result_of result reg.new overrides.new led.new
+        ≡ performed_on reg.old overrides.old led.old (overrides_command (words_of line.now)) }
 {
     if lines::is_word(line, 0, b"dfile") {
         return calls::file(line, n, Origin::Overrides, reg, overrides, led);
@@ -126,8 +126,8 @@ fn overriding(
 // The calls of the snapshot.
 fn snapshot(line: &[u8], n: usize, reg: &mut [u32], overrides: &mut [u32], led: &mut [u32]) -> Reply
     requires { (length line.now ≤ most_line) × (n ≡ length (words_of line.now)) }
-    ensures* { λ r. ⌜ result r reg.new overrides.new led.new
-        ≡ performed_on reg.old overrides.old led.old (snapshot_command (words_of line.now)) ⌝ }
+    ensures { result_of result reg.new overrides.new led.new
+        ≡ performed_on reg.old overrides.old led.old (snapshot_command (words_of line.now)) }
 {
     if lines::is_word(line, 0, b"read") {
         return calls::read(line, n, reg, overrides, led);
@@ -141,8 +141,8 @@ fn snapshot(line: &[u8], n: usize, reg: &mut [u32], overrides: &mut [u32], led: 
 // The calls that are lent the ledger.
 fn route(line: &[u8], n: usize, reg: &mut [u32], overrides: &mut [u32], led: &mut [u32]) -> Reply
     requires { (length line.now ≤ most_line) × (n ≡ length (words_of line.now)) }
-    ensures* { λ r. ⌜ result r reg.new overrides.new led.new
-        ≡ performed_on reg.old overrides.old led.old (route_command (words_of line.now)) ⌝ }
+    ensures { result_of result reg.new overrides.new led.new
+        ≡ performed_on reg.old overrides.old led.old (route_command (words_of line.now)) }
 {
     if lines::is_word(line, 0, b"keep") {
         return calls::keep(line, n, reg, overrides, led);
@@ -159,8 +159,8 @@ fn route(line: &[u8], n: usize, reg: &mut [u32], overrides: &mut [u32], led: &mu
 // Every command that leaves the lengths as they are.
 pub fn run(line: &[u8], n: usize, reg: &mut [u32], overrides: &mut [u32], led: &mut [u32]) -> Reply
     requires { (length line.now ≤ most_line) × (n ≡ length (words_of line.now)) }
-    ensures* { λ r. ⌜ result r reg.new overrides.new led.new
-        ≡ performed_on reg.old overrides.old led.old (lent_command (words_of line.now)) ⌝ }
+    ensures { result_of result reg.new overrides.new led.new
+        ≡ performed_on reg.old overrides.old led.old (lent_command (words_of line.now)) }
 {
     if lines::is_word(line, 0, b"file") {
         return calls::file(line, n, Origin::Public, reg, overrides, led);

@@ -3,13 +3,13 @@ use Prim.Native.Nat.{ℕ, suc, ◌≤◌}
 use mathlib.Core.Path.{◌≡◌, ◌∙◌}
 use mathlib.Core.Bool.{Bool, true, false, cond}
 use mathlib.Core.List.{List, [], ◌∷◌, map}
-use mathlib.Core.Option.{Option, none, some}
+use mathlib.Core.Option.{none, some}
 use native.Mathlib.Omega.{arith}
 use borrow.Author.Tests.{ne_eqb, le-leb}
 use lib.Dec.{ltb, eqb}
 use lib.ListN.{length, length-append}
 use Rattle.table.specs.Table.{bodies}
-use Rattle.keyed.specs.Keyed.{find, without}
+use Rattle.keyed.specs.Keyed.{without}
 use Rattle.keyed.proofs.Orders.{ordered_ℕ, both_intro}
 use Rattle.keyed.proofs.Puts.{ascends_put, ascends_without, length_erase_at}
 use Rattle.keyed.proofs.Finds.{every_put, every_without, find_put, find_without, count_without}

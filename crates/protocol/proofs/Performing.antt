@@ -10,7 +10,7 @@ use Rattle.protocol.specs.declared.Lent.{Lent}
 use Rattle.calls.specs.declared.Reply.{Reply}
 use Rattle.calls.specs.declared.Reply.TheVariants.{Done}
 use Rattle.calls.specs.Commands.{Command, empty}
-use Rattle.calls.specs.Performing.{tables_of, result, performed}
+use Rattle.calls.specs.Performing.{tables_of, result_of, performed}
 use Rattle.protocol.specs.Feeding.{Held, HeldAll}
 use Rattle.protocol.proofs.Holding.{Lends}
 use Rattle.calls.proofs.Parsing.{does}
@@ -19,12 +19,12 @@ use Rattle.calls.proofs.Parsing.{does}
 pub performs :
     (r : Lent) (reply : Reply) (reg overrides led xs ys zs old_reg old_overrides old_led : List ℕ) (c : Command) {d : Command}
     → Lends r.register reg xs → Lends r.overrides overrides ys → Lends r.ledger led zs → c ≡ d
-    → result reply xs ys zs ≡ performed (tables_of old_reg old_overrides old_led) d
-    → (result reply (take r.register reg) (take r.overrides overrides) (take r.ledger led)
+    → result_of reply xs ys zs ≡ performed (tables_of old_reg old_overrides old_led) d
+    → (result_of reply (take r.register reg) (take r.overrides overrides) (take r.ledger led)
     ≡ performed (tables_of old_reg old_overrides old_led) c)
     × HeldAll r reg overrides led
 performs r reply reg overrides led xs ys zs old_reg old_overrides old_led c g o h e p = (
-  (λ i. result reply (g.words_are i) (o.words_are i) (h.words_are i)) ∙ does old_reg old_overrides old_led c e p,
+  (λ i. result_of reply (g.words_are i) (o.words_are i) (h.words_are i)) ∙ does old_reg old_overrides old_led c e p,
   record { register_held = g.held; overrides_held = o.held; ledger_held = h.held },
 )
 
@@ -34,6 +34,6 @@ lends_same n table h = record { held = h; words_are = refl }
 
 pub empties :
     (reg overrides led : List ℕ)
-    → result Done (replicate register_words 0) (replicate register_words 0) (replicate ledger_words 0) ≡ performed (tables_of reg overrides led) empty
+    → result_of Done (replicate register_words 0) (replicate register_words 0) (replicate ledger_words 0) ≡ performed (tables_of reg overrides led) empty
 unfolding blank
 empties reg overrides led = refl

@@ -12,7 +12,7 @@ use Rattle.protocol.specs.declared.Fed.{Fed}
 use Rattle.protocol.specs.declared.Performed.{Performed}
 use Rattle.calls.specs.Commands.{Command, bad, most_lent, most_line}
 use Rattle.commands.specs.Commands.{command_of}
-use Rattle.calls.specs.Performing.{tables_of, reply_to, after, result, performed}
+use Rattle.calls.specs.Performing.{tables_of, reply_to, after, result_of, performed}
 use Rattle.replies.specs.Texts.{reply_text, most_reply}
 
 -- ---- one line
@@ -119,7 +119,7 @@ buffers line reg overrides led out = record { line = line; register = reg; overr
 -- A command carried out: the reply, and the words that the tables are then lent with.
 abbrev pub Carried : Lent → List ℕ → List ℕ → List ℕ → Command → Performed → List ℕ → List ℕ → List ℕ → Type 0
 Carried s reg overrides led c r reg' overrides' led' =
-    (result r.reply (take r.lent.register reg') (take r.lent.overrides overrides') (take r.lent.ledger led')
+    (result_of r.reply (take r.lent.register reg') (take r.lent.overrides overrides') (take r.lent.ledger led')
     ≡ performed (lent_tables s reg overrides led) c)
     × HeldAll r.lent reg' overrides' led'
 

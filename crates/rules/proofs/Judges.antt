@@ -1,7 +1,7 @@
 -- Rows 9 to 17 go by the arguments alone, whatever the hops; and what a judging answers that none of them refuses. Assumes nothing.
 use Prim.Native.Nat.{ℕ, ◌≤◌}
 use mathlib.Core.Path.{◌≡◌, refl, sym, ◌∙◌, ap}
-use mathlib.Core.Bool.{Bool, true, false, not, cond}
+use mathlib.Core.Bool.{Bool, true, false, cond}
 use mathlib.Core.List.{List, [], ◌∷◌, ◌++◌}
 use mathlib.Core.Option.{Option, none, some}
 use borrow.Author.Tests.{ltb-false, not-false}
@@ -13,8 +13,7 @@ use Rattle.types.specs.declared.Verdict.TheVariants.{Invalid}
 use Rattle.types.specs.declared.Answer.{Answer}
 use Rattle.types.specs.declared.Answer.TheVariants.{Plain}
 use Rattle.types.specs.declared.Refusal.{Refusal}
-use Rattle.types.specs.declared.Refusal.TheVariants.{Attribute, PathLength}
-use Rattle.types.specs.declared.Judged.{Judged}
+use Rattle.types.specs.declared.Refusal.TheVariants.{PathLength}
 use Rattle.types.specs.declared.Judged.TheVariants.{Answered, Refused}
 use Rattle.types.specs.Roles.{is_role}
 use Rattle.types.specs.Rows.{or_else, first_given}

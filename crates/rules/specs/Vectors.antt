@@ -1,5 +1,5 @@
 -- The test vectors A to L of the rules, as one table; O and others with runs over a segment's end; the edges that the rules name. All by computation from the definitions.
-use Rattle.std.specs.Prelude.{ℕ, zero, suc, ◌+◌, ◌/◌, ◌%◌, ◌≡◌, refl, List, [], ◌∷◌, ◌++◌, map, ℤ, pos, negsuc, length, replicate}
+use Rattle.std.specs.Prelude.{ℕ, zero, suc, ◌/◌, ◌%◌, ◌≡◌, refl, List, [], ◌∷◌, ◌++◌, map, ℤ, pos, negsuc, length, replicate}
 use Rattle.types.specs.declared.Ground.TheVariants.{Empty, NotNeighbour}
 use Rattle.types.specs.declared.Origin.TheVariants.{Public}
 use Rattle.types.specs.declared.Origins.TheVariants.{One, Two}

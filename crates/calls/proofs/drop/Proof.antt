@@ -2,7 +2,7 @@
 use mathlib.Core.Path.{sym, ◌∙◌}
 use Rattle.calls.proofs.Parsing.{other_count, right_count, number_is, no_number, does, does_nothing}
 use Rattle.calls.specs.declared.Reply.TheVariants as reply
-use Rattle.calls.specs.Performing.{result}
+use Rattle.calls.specs.Performing.{result_of}
 use borrow.Author.Rules.{rules}
 use Rattle.calls.proofs.drop.Statement.{statement}
 use Rattle.calls.proofs.drop.Tie as tie
@@ -46,7 +46,7 @@ returns-3 c =
     let drop = c.before.before.drop in
     does a.reg.now a.overrides.now a.led.now _
     (right_count _ 2 _ (sym (pre) ∙ if1.false) ∙ number_is _ 1 _ (sym number.ensures ∙ number2.given.1))
-    (λ i. result (reply.Removed (drop.ensures i).answer) a.reg.now a.overrides.now (drop.ensures i).words)
+    (λ i. result_of (reply.Removed (drop.ensures i).answer) a.reg.now a.overrides.now (drop.ensures i).words)
 
 pub drop_spec : {M : Type 1} → statement M
 drop_spec =

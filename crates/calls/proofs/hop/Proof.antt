@@ -2,7 +2,7 @@
 use mathlib.Core.Path.{sym, ◌∙◌}
 use Rattle.calls.proofs.Parsing.{other_count, right_count, number_is, no_number, is_zero, not_zero, does, does_nothing}
 use Rattle.calls.specs.declared.Reply.TheVariants as reply
-use Rattle.calls.specs.Performing.{result}
+use Rattle.calls.specs.Performing.{result_of}
 use borrow.Author.Rules.{rules}
 use Rattle.calls.proofs.hop.Statement.{statement}
 use Rattle.calls.proofs.hop.Tie as tie
@@ -110,7 +110,7 @@ returns-6 c =
     ∙ number_is _ 2 _ (sym number2.ensures ∙ y.given.1)
     ∙ not_zero _ _ if2.false
     ∙ not_zero _ _ if3.false)
-    (λ i. result (reply.Hopped (hop.ensures i)) a.reg.now a.overrides.now a.led.now)
+    (λ i. result_of (reply.Hopped (hop.ensures i)) a.reg.now a.overrides.now a.led.now)
 
 pub hop-spec : {M : Type 1} → statement M
 hop-spec =

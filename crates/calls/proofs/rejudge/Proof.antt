@@ -2,7 +2,7 @@
 use mathlib.Core.Path.{sym, ◌∙◌}
 use Rattle.calls.proofs.Parsing.{other_count, right_count, does, does_nothing}
 use Rattle.calls.specs.declared.Reply.TheVariants as reply
-use Rattle.calls.specs.Performing.{result}
+use Rattle.calls.specs.Performing.{result_of}
 use borrow.Author.Rules.{rules}
 use Rattle.calls.proofs.rejudge.Statement.{statement}
 use Rattle.calls.proofs.rejudge.Tie as tie
@@ -32,7 +32,7 @@ returns-2 c =
     let if1 = c.before.before.before.before.before.before.if1 in
     let rejudge = c.before.before.rejudge in
     does a.reg.now a.overrides.now a.led.now _ (right_count _ 1 _ (sym (pre) ∙ if1.false))
-    (λ i. result (reply.Rejudged (rejudge.ensures i).answer) a.reg.now a.overrides.now (rejudge.ensures i).words)
+    (λ i. result_of (reply.Rejudged (rejudge.ensures i).answer) a.reg.now a.overrides.now (rejudge.ensures i).words)
 
 pub rejudge-spec : {M : Type 1} → statement M
 rejudge-spec =

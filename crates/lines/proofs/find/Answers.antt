@@ -1,4 +1,3 @@
-use Prim.Native.Nat.{◌-◌}
 use Rattle.lines.proofs.Marks.{looks_on, found, none_found}
 use Rattle.lines.proofs.find.Goals as goal
 

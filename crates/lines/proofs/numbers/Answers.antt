@@ -1,4 +1,3 @@
-use Prim.Native.Nat.{◌-◌}
 use mathlib.Core.Path.{◌∙◌, sym}
 use Rattle.lines.proofs.Lists.{no_number, goes_on, ends}
 use Rattle.lines.proofs.numbers.Goals as goal

@@ -1,4 +1,3 @@
-use Prim.Native.Nat.{◌-◌}
 use native.Mathlib.Omega.{arith}
 use Rattle.as_path.specs.Segments.{number_bytes}
 use Rattle.as_path.proofs.Grounding.{seeks, not_found, here, found, goes_on}

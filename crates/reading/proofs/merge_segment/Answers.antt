@@ -1,4 +1,3 @@
-use Prim.Native.Nat.{◌-◌}
 use Rattle.as_path.specs.Segments.{number_bytes}
 use Rattle.as_path.proofs.Storing.{skips, stores, segment_stored}
 use Rattle.reading.proofs.merge_segment.Goals as goal

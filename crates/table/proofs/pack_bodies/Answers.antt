@@ -1,4 +1,3 @@
-use Prim.Native.Nat.{◌-◌}
 use native.Mathlib.Omega.{arith}
 use Rattle.table.proofs.Staying.{packed, pack_room, pack_fits, pack_in, pack_out, pack_done}
 use Rattle.table.proofs.pack_bodies.Goals as goal

@@ -1,4 +1,3 @@
-use Prim.Native.Nat.{◌-◌}
 use native.Mathlib.Omega.{arith}
 use Rattle.table.proofs.Clearing.{thin_counts, thin_in, thin_out, thin_done}
 use Rattle.table.proofs.pack_slots.Goals as goal

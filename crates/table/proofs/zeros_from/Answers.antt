@@ -1,4 +1,3 @@
-use Prim.Native.Nat.{◌-◌}
 use Rattle.table.proofs.Checking.{zero_no, zero_step, zero_done}
 use Rattle.table.proofs.zeros_from.Goals as goal
 

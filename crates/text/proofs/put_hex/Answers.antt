@@ -1,4 +1,3 @@
-use Prim.Native.Nat.{◌-◌}
 use Rattle.text.proofs.HexTexts.{puts_on, are_put}
 use Rattle.text.proofs.put_hex.Goals as goal
 

@@ -1,4 +1,3 @@
-use Prim.Native.Nat.{◌-◌}
 use native.Mathlib.Omega.{arith}
 use Rattle.text.proofs.Pairs.{alone, no_byte, goes_on, ends}
 use Rattle.text.proofs.read_hex.Goals as goal

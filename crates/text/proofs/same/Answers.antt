@@ -1,4 +1,3 @@
-use Prim.Native.Nat.{◌-◌}
 use Rattle.text.proofs.Words.{other_length, differs, agrees, all_same}
 use Rattle.text.proofs.same.Goals as goal
 

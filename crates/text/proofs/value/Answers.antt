@@ -1,4 +1,3 @@
-use Prim.Native.Nat.{◌-◌}
 use Rattle.text.proofs.Digits.{below, above, past, goes_on, ends}
 use Rattle.text.proofs.value.Goals as goal
 

@@ -1,7 +1,7 @@
 -- `commands::choice::poke` meets its contract. Assumes nothing.
 use mathlib.Core.Path.{refl, sym, ap, ◌∙◌}
 use Rattle.calls.proofs.Parsing.{other_count, right_count, number_is, no_number, does, does_nothing}
-use Rattle.calls.specs.Performing.{result}
+use Rattle.calls.specs.Performing.{result_of}
 use Rattle.calls.specs.Commands.{poke}
 use borrow.Author.Rules.{rules}
 use Rattle.commands.proofs.choice.poke.Statement.{statement}
@@ -104,7 +104,7 @@ returns-4 c =
     ∙ number_is _ 2 _ (sym number.ensures ∙ index.given.1)
     ∙ number_is _ 3 _ (sym number2.ensures ∙ value.given.1)
     ∙ ap (λ t. poke t index.given.0.0 value.given.0.0) (sym named.ensures ∙ enum-told3.given.1))
-    (λ i. result (poke'.ensures.0 i) (poke'.ensures.1 i) a.overrides.now a.led.now)
+    (λ i. result_of (poke'.ensures.0 i) (poke'.ensures.1 i) a.overrides.now a.led.now)
 
 same-length-2 : tie.Need-same-length-2
 same-length-2 c = search rules
@@ -126,7 +126,7 @@ returns-5 c =
     ∙ number_is _ 2 _ (sym number.ensures ∙ index.given.1)
     ∙ number_is _ 3 _ (sym number2.ensures ∙ value.given.1)
     ∙ ap (λ t. poke t index.given.0.0 value.given.0.0) (sym named.ensures ∙ enum-told4.given.1))
-    (λ i. result (poke2.ensures.0 i) a.reg.now (poke2.ensures.1 i) a.led.now)
+    (λ i. result_of (poke2.ensures.0 i) a.reg.now (poke2.ensures.1 i) a.led.now)
 
 same-length-3 : tie.Need-same-length-3
 same-length-3 c = search rules
@@ -148,7 +148,7 @@ returns-6 c =
     ∙ number_is _ 2 _ (sym number.ensures ∙ index.given.1)
     ∙ number_is _ 3 _ (sym number2.ensures ∙ value.given.1)
     ∙ ap (λ t. poke t index.given.0.0 value.given.0.0) (sym named.ensures ∙ enum-told5.given.1))
-    (λ i. result (poke3.ensures.0 i) a.reg.now a.overrides.now (poke3.ensures.1 i))
+    (λ i. result_of (poke3.ensures.0 i) a.reg.now a.overrides.now (poke3.ensures.1 i))
 
 returns-7 : tie.Need-returns-7
 returns-7 c =

@@ -2,7 +2,7 @@
 use mathlib.Core.Path.{sym, ◌∙◌}
 use Rattle.calls.proofs.Parsing.{other_count, right_count, does, does_nothing}
 use Rattle.calls.specs.declared.Reply.TheVariants as reply
-use Rattle.calls.specs.Performing.{result}
+use Rattle.calls.specs.Performing.{result_of}
 use borrow.Author.Rules.{rules}
 use Rattle.commands.proofs.choice.show.Statement.{statement}
 use Rattle.commands.proofs.choice.show.Tie as tie
@@ -21,7 +21,7 @@ returns-2 c =
     let a = c.before.before.before.before.before.before.args in
     let pre = c.before.before.before.before.before.before.requires in
     does a.reg.now a.overrides.now a.led.now _ (right_count _ 1 _ (sym (pre) ∙ c.before.if1.false))
-    (λ i. result (reply.Shown (c.named.ensures i)) a.reg.now a.overrides.now a.led.now)
+    (λ i. result_of (reply.Shown (c.named.ensures i)) a.reg.now a.overrides.now a.led.now)
 
 pub show-spec : {M : Type 1} → statement M
 show-spec =
