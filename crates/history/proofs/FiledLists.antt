@@ -70,7 +70,7 @@ module _ (o : Origin) (source customer : ℕ) where
 
   -- What the tables hold at first is what the model does.
   held_first : (t : Tables) → list_in (lists_in o (held_by t)) ≡ list_in (records_of (chosen o t.registers))
-  held_first t = elim o [ Public ↦ refl | Overrides ↦ refl ]
+  held_first t = elim o as (λ p. list_in (lists_in p (held_by t)) ≡ list_in (records_of (chosen p t.registers))) [ Public ↦ refl | Overrides ↦ refl ]
 
   -- The model's list of a pair is the one that is filed.
   pub filed-list : (t : Tables) → Formed t → (l : List Call) (i : ℕ)

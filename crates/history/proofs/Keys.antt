@@ -231,7 +231,7 @@ next_in_order none m c h = change_in_order m c h
 -- What well-formed tables hold is in order.
 pub held_in_order : (t : Tables) → Formed t → InOrder (held_by t)
 held_in_order t f = record {
-  lists = λ o. elim o [
+  lists = elim [
     | Public ↦ register_holding.ordered t.registers.public (f.register-ok Public)
     | Overrides ↦ register_holding.ordered t.registers.overrides (f.register-ok Overrides)
   ];

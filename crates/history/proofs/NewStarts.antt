@@ -29,8 +29,8 @@ yields_formed : (file : List ℕ) (t : Tables) → OverridesFormed t → Accepts
 yields_formed file t w h =
     let f = snapshot_laws.round_trips.read_formed file t.registers.public t.ledger h in
     record {
-      register_long = λ o. elim o [ Public ↦ f.register_long | Overrides ↦ w.long ];
-      register-ok = λ o. elim o [ Public ↦ f.register-ok | Overrides ↦ w.ok ];
+      register_long = elim [ Public ↦ f.register_long | Overrides ↦ w.long ];
+      register-ok = elim [ Public ↦ f.register-ok | Overrides ↦ w.ok ];
       ledger_long = f.ledger_long;
       ledger-ok = f.ledger-ok;
     }

@@ -107,8 +107,8 @@ start_formed : Formed start_ten
 unfolding decode_slots decode slots_ok all_zero well_formed ascends_from ascends every records_of listed rises_from rises is_in list_ok record_ok room_for records_ok register_ok
 start_formed =
     record {
-      register_long = λ o. elim o [ Public ↦ refl | Overrides ↦ refl ];
-      register-ok = λ o. elim o [ Public ↦ refl | Overrides ↦ refl ];
+      register_long = elim [ Public ↦ refl | Overrides ↦ refl ];
+      register-ok = elim [ Public ↦ refl | Overrides ↦ refl ];
       ledger_long = blank_formed.ledger_long;
       ledger-ok = blank_formed.ledger-ok;
     }

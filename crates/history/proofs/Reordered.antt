@@ -87,10 +87,10 @@ unfolding under
 one_more c l m r = record {
   to = under r.to;
   from = under r.from;
-  to_same = λ i. elim i [ zero ↦ λ s. refl | suc i ↦ r.to_same i ];
-  from_same = λ j. elim j [ zero ↦ λ s. refl | suc j ↦ r.from_same j ];
-  from_to = λ i. elim i [ zero ↦ λ s. refl | suc i ↦ λ s. ap suc (r.from_to i s) ];
-  to_from = λ j. elim j [ zero ↦ λ s. refl | suc j ↦ λ s. ap suc (r.to_from j s) ];
+  to_same = elim [ zero ↦ λ s. refl | suc i ↦ r.to_same i ];
+  from_same = elim [ zero ↦ λ s. refl | suc j ↦ r.from_same j ];
+  from_to = elim [ zero ↦ λ s. refl | suc i ↦ λ s. ap suc (r.from_to i s) ];
+  to_from = elim [ zero ↦ λ s. refl | suc j ↦ λ s. ap suc (r.to_from j s) ];
   in-order = order;
 }
   where

@@ -143,21 +143,21 @@ module _ (o : Origin) (source customer : ℕ) where
     where
       go : Pair p s c → Effect (filed_by o source customer) Files OnList (file p s c list)
       go (same u v w e) = gives list (λ i. file (u i) (v i) (w i) list) (inl (u, v, w)) (λ v. rw e)
-      go (other n e) = misses (λ t. elim t [ inl p ↦ n p | inr f ↦ f ]) (λ v. rw e)
+      go (other n e) = misses (elim [ inl p ↦ n p | inr f ↦ f ]) (λ v. rw e)
   file_effect (withdraw p s c) = go (pair p s c)
     where
       go : Pair p s c → Effect (filed_by o source customer) Files OnList (withdraw p s c)
       go (same u v w e) = ends (inl (u, v, w)) (λ v. rw e)
-      go (other n e) = misses (λ t. elim t [ inl p ↦ n p | inr f ↦ f ]) (λ v. rw e)
+      go (other n e) = misses (elim [ inl p ↦ n p | inr f ↦ f ]) (λ v. rw e)
   file_effect (clear p s) = go (same_origin p o && eqb s source) refl
     where
       go : (b : Bool) → (same_origin p o && eqb s source) ≡ b → Effect (filed_by o source customer) Files OnList (clear p s)
       go true e = ends (inr (origin_is p o (both_left _ _ e), eqb-true _ _ (both_right (same_origin p o) _ e))) (λ v. rw e)
       go false e =
-          misses (λ t. elim t [ inl f ↦ f | inr q ↦ not_both e (both_intro _ _ (same-origin p q.0) (eq-eqb s source q.1)) ]) (λ v. rw e)
-  file_effect (keep k) = misses (λ t. elim t [ inl f ↦ f | inr f ↦ f ]) (λ v. refl)
-  file_effect (drop n) = misses (λ t. elim t [ inl f ↦ f | inr f ↦ f ]) (λ v. refl)
-  file_effect rejudge = misses (λ t. elim t [ inl f ↦ f | inr f ↦ f ]) (λ v. refl)
+          misses (elim [ inl f ↦ f | inr q ↦ not_both e (both_intro _ _ (same-origin p q.0) (eq-eqb s source q.1)) ]) (λ v. rw e)
+  file_effect (keep k) = misses (elim [ inl f ↦ f | inr f ↦ f ]) (λ v. refl)
+  file_effect (drop n) = misses (elim [ inl f ↦ f | inr f ↦ f ]) (λ v. refl)
+  file_effect rejudge = misses (elim [ inl f ↦ f | inr f ↦ f ]) (λ v. refl)
 
   -- A filing of the pair gives its list.
   file_given : (c : Call) (list : List ℕ) (v : Option (List ℕ)) → Files c list → filed_by o source customer c v ≡ some list

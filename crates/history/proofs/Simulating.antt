@@ -525,7 +525,7 @@ blank_tables = λ i. record { registers = lent (zeros register_words (lit≤ tt)
 -- which keep the rules,
 nothing_ok : ((o : Origin) → records_ok (lists_of o no_lists) ≡ true) × (routes_ok [] ≡ true)
 unfolding records_ok room_for register.listed every ascends routes_ok ledger.room_for ledger.path_words bodies
-nothing_ok = (λ o. elim o [ Public ↦ refl | Overrides ↦ refl ], refl)
+nothing_ok = (elim [ Public ↦ refl | Overrides ↦ refl ], refl)
 
 -- so that they are a start,
 pub blank_formed : Formed blank
@@ -540,7 +540,7 @@ blank_formed =
 
 -- and they hold nothing.
 pub blank_empty : ((o : Origin) → records_of (chosen o blank.registers) ≡ []) × (routes_of blank.ledger ≡ [])
-blank_empty = rw blank_tables (λ o. elim o [ Public ↦ none_there | Overrides ↦ none_there ], routes_are [] nothing_ok.1)
+blank_empty = rw blank_tables (elim [ Public ↦ none_there | Overrides ↦ none_there ], routes_are [] nothing_ok.1)
   where
     none_there : records_of (register.register_of []) ≡ []
     none_there = records_are [] (nothing_ok.0 Public)
@@ -550,7 +550,7 @@ formed_holds : (t : Tables) → Formed t → Holds t (held_by t)
 formed_holds t f = record {
   lists = (held_by t).lists;
   stored = routes_of t.ledger;
-  lists_ok = λ o. elim o [
+  lists_ok = elim [
     | Public ↦ holding.records-ok t.registers.public (f.register-ok Public)
     | Overrides ↦ holding.records-ok t.registers.overrides (f.register-ok Overrides)
   ];

@@ -8,7 +8,7 @@ use borrow.Author.Tests.{eq-eqb, eqb-true, leb-true}
 use lib.Dec.{eqb, leb}
 use lib.ListN.{length}
 use Rattle.keyed.specs.Keyed.{same_pair, before_pair, ascends, every, holds}
-use Rattle.keyed.proofs.Orders.{ordered_pairs, before_not_same, before_self, before_test, first, second, both_left, both_right, same_says, same_flip}
+use Rattle.keyed.proofs.Orders.{ordered_pairs, before_not_same, before_self, before_test, second, both_left, both_right, same_says, same_flip}
 use Rattle.keyed.proofs.Ranks.{from_entry, from_ascends, holds_at}
 use Rattle.keyed.proofs.Finds.{every_at}
 use Rattle.rules.specs.Records.{Record, is_in, list_of, lowest_source}

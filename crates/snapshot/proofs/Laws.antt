@@ -19,7 +19,7 @@ use Rattle.types.proofs.Clashes.{clash}
 use Rattle.types.proofs.Refusing.{refused_first, first_refuses, accepted_none, none_accepted, answers_first, refusal_leaves, numbered}
 use Rattle.register.specs.Register.{register_words, register_ok}
 use Rattle.ledger.specs.Routes.{ledger_words, ledger_ok}
-use Rattle.snapshot.specs.Snapshot.{FormedTables, bytes_of, Bytes, contents_bytes, edition, snapshot_of, field, contents_ok, length_in, register_in, ledger_in, register_in_ok, ledger_in_ok}
+use Rattle.snapshot.specs.Snapshot.{FormedTables, bytes_of, contents_bytes, edition, snapshot_of, field, contents_ok, length_in, register_in, ledger_in, register_in_ok, ledger_in_ok}
 use Rattle.snapshot.specs.Calls.{write_rows, over, write_effect, read_rows, reading, read_unless, read_effect}
 use Rattle.snapshot.specs.Laws.{FullTables, RoundTrips, WriteLaws, ReadLaws, SnapshotLaws}
 use Rattle.snapshot.proofs.Padding.{register_limits, ledger_limits}

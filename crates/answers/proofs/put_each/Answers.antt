@@ -1,4 +1,3 @@
-use Prim.Native.Nat.{◌-◌}
 use Rattle.answers.proofs.Listing.{goes_on, ends}
 use Rattle.answers.proofs.put_each.Goals as goal
 

@@ -1,4 +1,4 @@
-use Rattle.std.proofs.Common.{◌-◌, ◌∙◌, arith}
+use Rattle.std.proofs.Common.{◌∙◌, arith}
 use Rattle.register.proofs.Looking.{head_within, count_is, few}
 use Rattle.hints.proofs.cut.Goals as goal
 

@@ -3,7 +3,6 @@ use mathlib.Core.Bool.{false}
 use lib.ListN.{drop}
 use Rattle.rules.specs.Records.{attested}
 use Rattle.register.specs.Register.{records_of}
-use Prim.Native.Nat.{◌-◌}
 use native.Mathlib.Omega.{arith}
 use Rattle.register.proofs.Looking.{head_within}
 use Rattle.hops.proofs.Hopping.{starts, listens, names_none, slot_of, list_in, passes, hears, names, none_left, others_left, arrives}

@@ -1,4 +1,3 @@
-use borrow.Author.Tests.{not-true}
 use Rattle.providers.proofs.Halving.{not_among}
 use Rattle.providers.proofs.holds_at.Goals as goal
 

@@ -1,5 +1,4 @@
 use mathlib.Core.Path.{sym, ◌∙◌}
-use borrow.Author.Tests.{not-true, not-false}
 use Rattle.providers.proofs.Lists.{list_empty, list_long, list_falls, list_own}
 use Rattle.providers.proofs.is_list.Goals as goal
 

@@ -1,4 +1,3 @@
-use Prim.Native.Nat.{◌-◌}
 use Rattle.providers.proofs.Lists.{rises_empty, rises_first, falls, rises_on, rises_whole}
 use Rattle.providers.proofs.is_rising.Goals as goal
 

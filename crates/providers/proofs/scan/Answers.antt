@@ -1,4 +1,3 @@
-use Prim.Native.Nat.{◌-◌}
 use native.Mathlib.Omega.{arith}
 use Rattle.providers.proofs.Seeking.{raised, stays, ended}
 use Rattle.providers.proofs.scan.Goals as goal

@@ -1,4 +1,3 @@
-use Prim.Native.Nat.{◌-◌}
 use Rattle.routes.proofs.Paths.{compares, run_there, runs_on, runs_none}
 use Rattle.routes.proofs.has_no_runs.Goals as goal
 

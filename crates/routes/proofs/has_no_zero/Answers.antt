@@ -1,4 +1,3 @@
-use Prim.Native.Nat.{◌-◌}
 use Rattle.routes.proofs.Paths.{zero_there, zeros_on, zeros_none}
 use Rattle.routes.proofs.has_no_zero.Goals as goal
 

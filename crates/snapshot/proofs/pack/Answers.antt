@@ -1,4 +1,3 @@
-use Prim.Native.Nat.{◌-◌}
 use Rattle.snapshot.proofs.Copying.{packs_on, pack_ends}
 use Rattle.snapshot.proofs.pack.Goals as goal
 
