@@ -1,0 +1,5 @@
+use Rattle.c_api.proofs.Tellings.{judge_below}
+use Rattle.c_api.proofs.aspa_judge.Goals as goal
+
+pub tell-requires : goal.tell-requires
+tell-requires c = rw c.judge.ensures (judge_below _ _ _ _)
