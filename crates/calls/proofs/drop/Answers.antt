@@ -1,0 +1,30 @@
+use mathlib.Core.Path.{sym, ◌∙◌}
+use Rattle.calls.proofs.Parsing.{other_count, right_count, number_is, no_number, does, does_nothing}
+use Rattle.calls.specs.declared.Reply.TheVariants as reply
+use Rattle.calls.specs.Performing.{result_of}
+use Rattle.calls.proofs.drop.Goals as goal
+
+pub returns-then-n-ne2 : goal.returns-then-n-ne2
+returns-then-n-ne2 c =
+    let a = c.args in
+    let pre = c.requires in
+    does_nothing a.reg.now a.overrides.now a.led.now _ (other_count _ 2 _ (λ e. c.if-n-ne2.true (pre ∙ e)))
+
+pub returns-in_default : goal.returns-in_default
+returns-in_default c =
+    let a = c.args in
+    let pre = c.requires in
+    does_nothing a.reg.now a.overrides.now a.led.now _
+    (right_count _ 2 _ (sym (pre) ∙ c.if-n-ne2.false)
+    ∙ no_number _ 1 _ (sym c.number.ensures ∙ c.in_default.is))
+
+pub returns : goal.returns
+returns c =
+    let a = c.args in
+    let pre = c.requires in
+    let if1 = c.if-n-ne2 in
+    let number = c.number in
+    let drop = c.drop-removal in
+    does a.reg.now a.overrides.now a.led.now _
+    (right_count _ 2 _ (sym (pre) ∙ if1.false) ∙ number_is _ 1 _ (sym number.ensures ∙ c.in-Is.is))
+    (λ i. result_of (reply.Removed (drop.ensures i).answer) a.reg.now a.overrides.now (drop.ensures i).words)
