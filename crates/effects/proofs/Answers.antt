@@ -164,5 +164,5 @@ module _ (reg : Registers) (led : List ℕ) {n : ℕ} (h : (rejudge_effect reg l
     rejudge_rewrites = ap (λ rs. route_at rs i) rejudge_routes ∙ at_map (rejudged_route (hop_in reg)) (routes_of led) i _ within
 
     -- Its ground is left.
-    pub rejudge_ground : (route_at left i).ground ≡ (route_at (routes_of led) i).ground
-    rejudge_ground = ap (λ r. r.ground) rejudge_rewrites ∙ ground_stays (hop_in reg) (route_at (routes_of led) i)
+    pub rejudge_ground : (route_at left i).ground_code ≡ (route_at (routes_of led) i).ground_code
+    rejudge_ground = ap (λ r. r.ground_code) rejudge_rewrites ∙ ground_stays (hop_in reg) (route_at (routes_of led) i)

@@ -77,11 +77,11 @@ module _ (role neighbour : ℕ) (attribute : List ℕ) where
   -- An attribute without a fault and without a ground is such.
   ungrounded : first_fault number_bytes attribute ≡ Clean → ground_of role neighbour (segments number_bytes attribute) ≡ Not → Ungrounded
   unfolding has_set
-  ungrounded clean ground = go (ltb 0 (length attribute)) refl
+  ungrounded clean ground_code = go (ltb 0 (length attribute)) refl
     where
       some_bytes : 0 < length attribute → Ungrounded
       some_bytes h = tests (is_not_neighbour role neighbour (segment_at 4 attribute 0)) refl (has_set (segments number_bytes attribute)) refl
-          (sym (ground_is 4 attribute role neighbour h) ∙ ground)
+          (sym (ground_is 4 attribute role neighbour h) ∙ ground_code)
         where
           kind : has_set (segments number_bytes attribute) ≡ false → type_at attribute 0 ≡ 2
           kind e =
@@ -102,7 +102,7 @@ module _ (role neighbour : ℕ) (attribute : List ℕ) where
       go true e = some_bytes (ltb-true _ _ e)
       go false e =
           let n : length attribute ≡ 0 = omega (arith, ltb-false 0 (length attribute) e) in
-          let z : By Empty ≡ Not = ground_empty 4 attribute role neighbour n ∙ ground in
+          let z : By Empty ≡ Not = ground_empty 4 attribute role neighbour n ∙ ground_code in
           let y : ◌≡◌ {A = ℕ} 0 1 = cc in
           absurd (omega arith)
 
@@ -226,7 +226,7 @@ module _ (number role neighbour : ℕ) (path : List ℕ) where
         number = number;
         role = role;
         neighbour = neighbour;
-        ground = judged_ground hop path role i;
+        ground_code = judged_ground hop path role i;
         verdict = verdict_number v;
         a = place_a v;
         b = place_b v;

@@ -126,7 +126,7 @@ local_laws =
           any_hops (hop_over public overrides) reg f role neighbour attribute
           (same_hops (records_of reg.public) (records_of reg.overrides) public overrides (path_of role neighbour attribute) p o);
       any_hops = any_hops;
-      same_rejudged = λ reg reg' r s. ap (λ a. cond (eqb r.ground 0) (stamped (verdict_of a) r) r) (same_judged (same_in reg reg' r.path s) r.role);
+      same_rejudged = λ reg reg' r s. ap (λ a. cond (eqb r.ground_code 0) (stamped (verdict_of a) r) r) (same_judged (same_in reg reg' r.path s) r.role);
     }
 
 -- ---- the vectors

@@ -25,7 +25,7 @@ pub record KeptWith (answer : Answer) (k : Keeping) (r : Route) : Type 0 where
   pub number_is : r.number ≡ k.number
   pub role_is : r.role ≡ k.role
   pub neighbour_is : r.neighbour ≡ k.neighbour
-  pub ground_is : r.ground ≡ verdict_ground (verdict_of answer)
+  pub ground_is : r.ground_code ≡ verdict_ground (verdict_of answer)
   pub verdict_is : r.verdict ≡ verdict_number (verdict_of answer)
   pub a_is : r.a ≡ place_a (verdict_of answer)
   pub b_is : r.b ≡ place_b (verdict_of answer)

@@ -138,17 +138,17 @@ module _ (reg : Registers) (led : List ℕ) (k : Keeping) (path : List ℕ) (e :
 -- ---- Re-judge
 
 -- A route without a ground has its outcome's number after a re-judging.
-rejudged_number : (hop : HopFunction) (r : Route) → r.ground ≡ 0 → (rejudged_route hop r).verdict ≡ outcome_number (outcome hop r.path r.role)
-rejudged_number hop r g = rw (eq-eqb r.ground 0 g) (path_numbered hop r.path r.role)
+rejudged_number : (hop : HopFunction) (r : Route) → r.ground_code ≡ 0 → (rejudged_route hop r).verdict ≡ outcome_number (outcome hop r.path r.role)
+rejudged_number hop r g = rw (eq-eqb r.ground_code 0 g) (path_numbered hop r.path r.role)
 
-rejudged_means : (hop : HopFunction) (r : Route) → (rejudged_route hop r).ground ≡ 0
+rejudged_means : (hop : HopFunction) (r : Route) → (rejudged_route hop r).ground_code ≡ 0
     → (o : Outcome) → ((rejudged_route hop r).verdict ≡ outcome_number o) ↔ Means o hop (rejudged_route hop r).path (rejudged_route hop r).role
-rejudged_means hop r = go (eqb r.ground 0) refl
+rejudged_means hop r = go (eqb r.ground_code 0) refl
   where
     P : Route → Type 0
-    P q = q.ground ≡ 0 → (o : Outcome) → (q.verdict ≡ outcome_number o) ↔ Means o hop q.path q.role
+    P q = q.ground_code ≡ 0 → (o : Outcome) → (q.verdict ≡ outcome_number o) ↔ Means o hop q.path q.role
 
-    go : (b : Bool) → eqb r.ground 0 ≡ b → P (rejudged_route hop r)
+    go : (b : Bool) → eqb r.ground_code 0 ≡ b → P (rejudged_route hop r)
     go true e = rw e (λ g. told_means by_number hop r.path r.role (path_numbered hop r.path r.role))
     go false e = rw e (λ g. absurd (eqb-false _ _ e g))
 
@@ -160,9 +160,9 @@ module _ (reg : Registers) (led : List ℕ) (w : WellFormed reg led) (i : ℕ) (
       (rejudge_accepts reg led (record { long = w.registers_long; ok = w.registers_ok }) (record { long = w.ledger_long; ok = w.ledger-ok }))) i h
 
   rejudge_means : let r = route_at (routes_of (rejudge_effect reg led).words) i in
-      r.ground ≡ 0 → (o : Outcome) → (r.verdict ≡ outcome_number o) ↔ Means o (hop_in reg) r.path r.role
+      r.ground_code ≡ 0 → (o : Outcome) → (r.verdict ≡ outcome_number o) ↔ Means o (hop_in reg) r.path r.role
   rejudge_means =
-      subst (λ r. r.ground ≡ 0 → (o : Outcome) → (r.verdict ≡ outcome_number o) ↔ Means o (hop_in reg) r.path r.role) (sym rewrites)
+      subst (λ r. r.ground_code ≡ 0 → (o : Outcome) → (r.verdict ≡ outcome_number o) ↔ Means o (hop_in reg) r.path r.role) (sym rewrites)
       (rejudged_means (hop_in reg) (route_at (routes_of led) i))
 
 pub call_meanings : CallMeanings
@@ -183,9 +183,9 @@ read_merged role neighbour attribute path c =
     subst MergedPath (sym m.same)
     (record { no-zero = path_laws.no-zero number_bytes attribute m.clean; no-runs = path_laws.no-runs (segments number_bytes attribute) })
 
-stored_merged : (r : Route) → route_ok r ≡ true → r.ground ≡ 0 → MergedPath r.path
+stored_merged : (r : Route) → route_ok r ≡ true → r.ground_code ≡ 0 → MergedPath r.path
 stored_merged r ok g =
-    let e : path_ok r.role r.neighbour r.path ≡ true = rw (eq-eqb r.ground 0 g) at (rules_by_ground r ok) in
+    let e : path_ok r.role r.neighbour r.path ≡ true = rw (eq-eqb r.ground_code 0 g) at (rules_by_ground r ok) in
     let rules = (route_laws.path_rules r.role r.neighbour r.path).0 e in
     record { no-zero = rules.no-zero; no-runs = rules.no-runs }
 
@@ -229,12 +229,12 @@ module _ (o : Outcome) (reg reg' : Registers) (formed : BothFormed reg → BothF
           judge_outcome reg' (formed w) role neighbour attribute path h ∙ ap some (stays path (read_merged role neighbour attribute path c) role was)
 
   route_lasts : (r : Route) → route_ok r ≡ true → (rejudged_route (hop_in reg) r).verdict ≡ outcome_number o → (rejudged_route (hop_in reg') r).verdict ≡ outcome_number o
-  route_lasts r ok = go (eqb r.ground 0) refl
+  route_lasts r ok = go (eqb r.ground_code 0) refl
     where
-      go : (b : Bool) → eqb r.ground 0 ≡ b
+      go : (b : Bool) → eqb r.ground_code 0 ≡ b
           → (rejudged_route (hop_in reg) r).verdict ≡ outcome_number o → (rejudged_route (hop_in reg') r).verdict ≡ outcome_number o
       go true g e =
-          let z : r.ground ≡ 0 = eqb-true _ _ g in
+          let z : r.ground_code ≡ 0 = eqb-true _ _ g in
           rejudged_number (hop_in reg') r z
           ∙ ap outcome_number (stays r.path (stored_merged r ok z) r.role (told_only by_number (sym (rejudged_number (hop_in reg) r z) ∙ e)))
       go false g e = rw g (rw g at e)

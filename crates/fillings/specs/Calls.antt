@@ -50,7 +50,7 @@ pub record CallMeanings : Type 0 where
   -- After a re-judging every stored route without a ground has the outcome that holds of it.
   pub rejudge_means : (reg : Registers) (led : List ℕ) → WellFormed reg led → (i : ℕ) → i < length (routes_of led)
       → let r = route_at (routes_of (rejudge_effect reg led).words) i in
-      r.ground ≡ 0 → (o : Outcome) → (r.verdict ≡ outcome_number o) ↔ Means o (hop_in reg) r.path r.role
+      r.ground_code ≡ 0 → (o : Outcome) → (r.verdict ≡ outcome_number o) ↔ Means o (hop_in reg) r.path r.role
 
 -- ---- which changes of the registers leave an outcome
 

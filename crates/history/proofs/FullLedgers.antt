@@ -49,7 +49,7 @@ few = refl
 -- Routes 0 to n - 1, and the model that holds them.
 unfoldable routes : ℕ → List KeptRoute
 routes zero = []
-routes (suc n) = put_kept (record { number = n; role = 3; neighbour = 20; ground = 0; path = path }) (routes n)
+routes (suc n) = put_kept (record { number = n; role = 3; neighbour = 20; ground_code = 0; path = path }) (routes n)
 
 abbrev held : ℕ → Model
 held n = record { lists = no_lists; routes = routes n }

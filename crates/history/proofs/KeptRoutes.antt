@@ -26,7 +26,7 @@ use Rattle.history.specs.Model.{with_verdict, with_words, judged_kept}
 -- ---- a route that is judged anew
 
 -- A route with a ground that keeps the rules is Invalid, and has no places.
-pub on_a_ground : (r : Route) → route_ok r ≡ true → eqb r.ground 0 ≡ false → (r.verdict ≡ 1) × (r.a ≡ 0) × (r.b ≡ 0)
+pub on_a_ground : (r : Route) → route_ok r ≡ true → eqb r.ground_code 0 ≡ false → (r.verdict ≡ 1) × (r.a ≡ 0) × (r.b ≡ 0)
 unfolding ground_ok
 on_a_ground r e g =
     let h : ground_ok r ≡ true = rw g at (rules_by_ground r e) in
@@ -38,12 +38,12 @@ on_a_ground r e g =
 module _ (hop : HopFunction) where
   -- It is the model's route, with the verdict that the model writes.
   pub rejudged_written : (r : Route) → route_ok r ≡ true → rejudged_route hop r ≡ judged_kept hop (known r)
-  rejudged_written r e = go (eqb r.ground 0) refl
+  rejudged_written r e = go (eqb r.ground_code 0) refl
     where
       v : Verdict
       v = verdict_of (judged hop r.path r.role)
 
-      go : (b : Bool) → eqb r.ground 0 ≡ b → cond b (stamped v r) r ≡ cond b (with_words (known r) v) (with_verdict (known r) 1 0 0)
+      go : (b : Bool) → eqb r.ground_code 0 ≡ b → cond b (stamped v r) r ≡ cond b (with_words (known r) v) (with_verdict (known r) 1 0 0)
       go true g = refl
       go false g =
           let p = on_a_ground r e g in
@@ -51,7 +51,7 @@ module _ (hop : HopFunction) where
             number = r.number;
             role = r.role;
             neighbour = r.neighbour;
-            ground = r.ground;
+            ground_code = r.ground_code;
             verdict = p.0 i;
             a = p.1 i;
             b = p.2 i;
@@ -60,7 +60,7 @@ module _ (hop : HopFunction) where
 
   -- But for the verdict it is the route that it was.
   pub rejudged_known : (r : Route) → known (rejudged_route hop r) ≡ known r
-  rejudged_known r = go (eqb r.ground 0)
+  rejudged_known r = go (eqb r.ground_code 0)
     where
       go : (b : Bool) → known (cond b (stamped (verdict_of (judged hop r.path r.role)) r) r) ≡ known r
       go true = refl

@@ -329,21 +329,21 @@ roomy_model t f l h i = go (dec_lt i (length l))
 
 -- A route that is judged anew has the draft's verdict and places of its path.
 drafted : (hop : HopFunction) (r : Route) → route_ok r ≡ true → Drafted hop (rejudged_route hop r)
-drafted hop r ok = go (eqb r.ground 0) refl
+drafted hop r ok = go (eqb r.ground_code 0) refl
   where
     v : Verdict
     v = verdict_of (judged hop r.path r.role)
 
-    go : (b : Bool) → eqb r.ground 0 ≡ b → Drafted hop (cond b (stamped v r) r)
+    go : (b : Bool) → eqb r.ground_code 0 ≡ b → Drafted hop (cond b (stamped v r) r)
     go true e =
-        let g : r.ground ≡ 0 = eqb-true _ _ e in
+        let g : r.ground_code ≡ 0 = eqb-true _ _ e in
         let d = draft-judged hop r.path r.role (some_numbers r ok g) in
         record {
           verdict = λ z. ap (λ x. verdict_number (verdict_of x)) d;
           a = λ z. ap (λ x. place_a (verdict_of x)) d;
           b = λ z. ap (λ x. place_b (verdict_of x)) d;
           rules = λ z. d;
-          ground = λ z. absurd (z g);
+          ground_code = λ z. absurd (z g);
         }
     go false e =
         record {
@@ -351,7 +351,7 @@ drafted hop r ok = go (eqb r.ground 0) refl
           a = λ z. absurd (eqb-false _ _ e z);
           b = λ z. absurd (eqb-false _ _ e z);
           rules = λ z. absurd (eqb-false _ _ e z);
-          ground = λ z. on_a_ground r ok e;
+          ground_code = λ z. on_a_ground r ok e;
         }
 
 -- The verdicts after a last re-judging.

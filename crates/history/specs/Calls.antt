@@ -132,7 +132,7 @@ pub record KeptRoute : Type 0 where
   pub number : ℕ
   pub role : ℕ
   pub neighbour : ℕ
-  pub ground : ℕ
+  pub ground_code : ℕ
   pub path : List ℕ
 
 -- The ground of an attribute, and 0 if it has none.
@@ -148,7 +148,7 @@ route_read k =
       number = k.number;
       role = k.role;
       neighbour = k.neighbour;
-      ground = ground_in (content_of k.role k.neighbour k.attribute);
+      ground_code = ground_in (content_of k.role k.neighbour k.attribute);
       path = path_in (content_of k.role k.neighbour k.attribute);
     }
 
@@ -160,4 +160,4 @@ providers_of found = map (λ r. r.providers) found
 
 -- A stored route without its verdict and places.
 abbrev pub known : Route → KeptRoute
-known r = record { number = r.number; role = r.role; neighbour = r.neighbour; ground = r.ground; path = r.path }
+known r = record { number = r.number; role = r.role; neighbour = r.neighbour; ground_code = r.ground_code; path = r.path }

@@ -79,11 +79,11 @@ Roomy t l = (i : ℕ) → i < length l → for_room (shown (said t l i)) ≡ fal
 
 -- The verdict and places of a stored route: the draft's for its role and path over these hops, which are the rules'; under a ground Invalid, 0, 0.
 pub record Drafted (hop : HopFunction) (r : Route) : Type 0 where
-  pub verdict : r.ground ≡ 0 → r.verdict ≡ verdict_number (verdict_of (draft_judged hop r.path r.role))
-  pub a : r.ground ≡ 0 → r.a ≡ place_a (verdict_of (draft_judged hop r.path r.role))
-  pub b : r.ground ≡ 0 → r.b ≡ place_b (verdict_of (draft_judged hop r.path r.role))
-  pub rules : r.ground ≡ 0 → judged hop r.path r.role ≡ draft_judged hop r.path r.role
-  pub ground : (r.ground ≡ 0 → ⊥) → (r.verdict ≡ 1) × (r.a ≡ 0) × (r.b ≡ 0)
+  pub verdict : r.ground_code ≡ 0 → r.verdict ≡ verdict_number (verdict_of (draft_judged hop r.path r.role))
+  pub a : r.ground_code ≡ 0 → r.a ≡ place_a (verdict_of (draft_judged hop r.path r.role))
+  pub b : r.ground_code ≡ 0 → r.b ≡ place_b (verdict_of (draft_judged hop r.path r.role))
+  pub rules : r.ground_code ≡ 0 → judged hop r.path r.role ≡ draft_judged hop r.path r.role
+  pub ground_code : (r.ground_code ≡ 0 → ⊥) → (r.verdict ≡ 1) × (r.a ≡ 0) × (r.b ≡ 0)
 
 pub record Demand3 (t : Tables) : Type 0 where
   -- With room or without: every call is refused exactly when the model refuses it, by the same row and place, and register calls answer as it does.

@@ -174,7 +174,7 @@ with_verdict r verdict a b =
       number = r.number;
       role = r.role;
       neighbour = r.neighbour;
-      ground = r.ground;
+      ground_code = r.ground_code;
       verdict = verdict;
       a = a;
       b = b;
@@ -186,7 +186,7 @@ with_words r v = with_verdict r (verdict_number v) (place_a v) (place_b v)
 
 -- As "Roles and hops" judge its role and path over these hops; under grounds 1 to 3 they are 1, 0, 0.
 abbrev pub judged_kept : HopFunction → KeptRoute → Route
-judged_kept hop r = cond (eqb r.ground 0) (with_words r (verdict_of (judged hop r.path r.role))) (with_verdict r 1 0 0)
+judged_kept hop r = cond (eqb r.ground_code 0) (with_words r (verdict_of (judged hop r.path r.role))) (with_verdict r 1 0 0)
 
 -- The words of the lists of each register, and of the routes as judged over the lists that count for each customer, united.
 unfoldable pub written : Model → Tables

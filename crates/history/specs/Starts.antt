@@ -33,7 +33,7 @@ pub record OverridesFormed (t : Tables) : Type 0 where
 -- A route from a customer over 65001 and 65002, with a verdict and places.
 abbrev pub route_with : (verdict a : ℕ) → Route
 route_with verdict a =
-    record { number = 7; role = 1; neighbour = 65001; ground = 0; verdict = verdict; a = a; b = 0; path = 65001 ∷ 65002 ∷ [] }
+    record { number = 7; role = 1; neighbour = 65001; ground_code = 0; verdict = verdict; a = a; b = 0; path = 65001 ∷ 65002 ∷ [] }
 
 -- No record, and that route as Valid.
 abbrev pub stale : List ℕ

@@ -29,12 +29,12 @@ columns_first true true true true true f g = refl
 -- A route's rules: its columns, and then the path or the ground.
 route_columns : (r : Route)
     → route_ok r
-    ≡ ((is_role r.role && (leb 1 r.neighbour && (leb r.ground 3 && (leb r.verdict 2 && (leb r.a most_numbers && leb r.b most_numbers)))))
-    && cond (eqb r.ground 0) (path_ok r.role r.neighbour r.path) (ground_ok r))
+    ≡ ((is_role r.role && (leb 1 r.neighbour && (leb r.ground_code 3 && (leb r.verdict 2 && (leb r.a most_numbers && leb r.b most_numbers)))))
+    && cond (eqb r.ground_code 0) (path_ok r.role r.neighbour r.path) (ground_ok r))
 unfolding route_ok
 route_columns r =
-    columns_first (is_role r.role) (leb 1 r.neighbour) (leb r.ground 3) (leb r.verdict 2) (leb r.a most_numbers) (leb r.b most_numbers)
-    (cond (eqb r.ground 0) (path_ok r.role r.neighbour r.path) (ground_ok r))
+    columns_first (is_role r.role) (leb 1 r.neighbour) (leb r.ground_code 3) (leb r.verdict 2) (leb r.a most_numbers) (leb r.b most_numbers)
+    (cond (eqb r.ground_code 0) (path_ok r.role r.neighbour r.path) (ground_ok r))
 
 module _ {ws : List ℕ} {i from to : ℕ} (p : PathFrom ws i from to) where
   -- The slot of a route is within the words.

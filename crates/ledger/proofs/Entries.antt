@@ -123,7 +123,7 @@ module _ (ws : List ℕ) (s : Sound route_head route_tail ws) where
     neighbour_is = Typed.head_word typing ws s i h neighbour_word (omega arith)
 
     -- The fourth is the ground.
-    pub ground_is : get_or ws (slot_at i + ground_word) 0 ≡ (route_at (routes_of ws) i).ground
+    pub ground_is : get_or ws (slot_at i + ground_word) 0 ≡ (route_at (routes_of ws) i).ground_code
     unfolding routes_of
     ground_is = Typed.head_word typing ws s i h ground_word (omega arith)
 

@@ -72,11 +72,11 @@ unfolding route_ok
 has_role r e = both_left (is_role r.role) _ e
 
 -- What the rules ask of a route by its ground.
-pub rules_by_ground : (r : Route) → route_ok r ≡ true → cond (eqb r.ground 0) (path_ok r.role r.neighbour r.path) (ground_ok r) ≡ true
+pub rules_by_ground : (r : Route) → route_ok r ≡ true → cond (eqb r.ground_code 0) (path_ok r.role r.neighbour r.path) (ground_ok r) ≡ true
 unfolding route_ok
 rules_by_ground r e =
     both_right (leb r.b most_numbers) _
     (both_right (leb r.a most_numbers) _
     (both_right (leb r.verdict 2) _
-    (both_right (leb r.ground 3) _
+    (both_right (leb r.ground_code 3) _
     (both_right (leb 1 r.neighbour) _ (both_right (is_role r.role) _ e)))))

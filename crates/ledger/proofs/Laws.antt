@@ -98,7 +98,7 @@ path_rules role neighbour path = (to, from)
 -- On the path of a route that keeps the rules there are none.
 apart : (r : Route) → route_ok r ≡ true → (j : ℕ) → j + 1 < length r.path → get_or r.path j 0 ≡ get_or r.path (j + 1) 0 → ⊥
 unfolding ground_ok
-apart r ok j h q = go (eqb r.ground 0) (rules_by_ground r ok)
+apart r ok j h q = go (eqb r.ground_code 0) (rules_by_ground r ok)
   where
     go : (b : Bool) → cond b (path_ok r.role r.neighbour r.path) (ground_ok r) ≡ true → ⊥
     go true e = ((path_rules r.role r.neighbour r.path).0 e).no-runs j h q

@@ -26,10 +26,10 @@ use Rattle.ledger.proofs.Placing.{put_at, routes_new, paths_new, position_under,
 -- ---- a route goes in
 
 -- The words of a route's entry, each by what it is.
-pub entry_is : (r : Route) {role ground verdict a b : ℕ} → role ≡ r.role → ground ≡ r.ground → verdict ≡ r.verdict → a ≡ r.a → b ≡ r.b
-    → record { head = r.number ∷ role ∷ r.neighbour ∷ ground ∷ verdict ∷ a ∷ b ∷ []; body = r.path; tail = [] } ≡ entry_of r
-entry_is r role ground verdict a b =
-    λ i. record { head = r.number ∷ role i ∷ r.neighbour ∷ ground i ∷ verdict i ∷ a i ∷ b i ∷ []; body = r.path; tail = [] }
+pub entry_is : (r : Route) {role ground_code verdict a b : ℕ} → role ≡ r.role → ground_code ≡ r.ground_code → verdict ≡ r.verdict → a ≡ r.a → b ≡ r.b
+    → record { head = r.number ∷ role ∷ r.neighbour ∷ ground_code ∷ verdict ∷ a ∷ b ∷ []; body = r.path; tail = [] } ≡ entry_of r
+entry_is r role ground_code verdict a b =
+    λ i. record { head = r.number ∷ role i ∷ r.neighbour ∷ ground_code i ∷ verdict i ∷ a i ∷ b i ∷ []; body = r.path; tail = [] }
 
 -- A number that is taken.
 pub store_taken : (ws : List ℕ) (r : Route) → holds_route r.number (routes_of ws) ≡ true

@@ -65,7 +65,7 @@ pub record Route : Type 0 where
   pub number : ℕ
   pub role : ℕ
   pub neighbour : ℕ
-  pub ground : ℕ
+  pub ground_code : ℕ
   pub verdict : ℕ
   pub a : ℕ
   pub b : ℕ
@@ -77,7 +77,7 @@ route_of e =
       number = get_or e.head number_word 0;
       role = get_or e.head role_word 0;
       neighbour = get_or e.head neighbour_word 0;
-      ground = get_or e.head ground_word 0;
+      ground_code = get_or e.head ground_word 0;
       verdict = get_or e.head verdict_word 0;
       a = get_or e.head a_word 0;
       b = get_or e.head b_word 0;
@@ -87,7 +87,7 @@ route_of e =
 abbrev pub entry_of : Route → Entry
 entry_of r =
     record {
-      head = r.number ∷ r.role ∷ r.neighbour ∷ r.ground ∷ r.verdict ∷ r.a ∷ r.b ∷ [];
+      head = r.number ∷ r.role ∷ r.neighbour ∷ r.ground_code ∷ r.verdict ∷ r.a ∷ r.b ∷ [];
       body = r.path;
       tail = [];
     }
@@ -104,7 +104,7 @@ key_of r = r.number
 
 -- Route i; past the end, one that no ledger holds.
 abbrev pub route_at : List Route → ℕ → Route
-route_at rs i = get_or rs i (record { number = 0; role = 0; neighbour = 0; ground = 0; verdict = 0; a = 0; b = 0; path = [] })
+route_at rs i = get_or rs i (record { number = 0; role = 0; neighbour = 0; ground_code = 0; verdict = 0; a = 0; b = 0; path = [] })
 
 -- Where a route stands, or would: how many come before it.
 unfoldable pub position_of : ℕ → List Route → ℕ
@@ -140,16 +140,16 @@ path_ok role neighbour path =
 -- With a ground: no path, Invalid, no places, and ground 2 never with role 4.
 unfoldable pub ground_ok : Route → Bool
 ground_ok r =
-    eqb (length r.path) 0 && (eqb r.verdict 1 && (eqb r.a 0 && (eqb r.b 0 && not (eqb r.ground 2 && is_route_server r.role))))
+    eqb (length r.path) 0 && (eqb r.verdict 1 && (eqb r.a 0 && (eqb r.b 0 && not (eqb r.ground_code 2 && is_route_server r.role))))
 
 unfoldable pub route_ok : Route → Bool
 route_ok r =
     is_role r.role
     && (leb 1 r.neighbour
-    && (leb r.ground 3
+    && (leb r.ground_code 3
     && (leb r.verdict 2
     && (leb r.a most_numbers
-    && (leb r.b most_numbers && cond (eqb r.ground 0) (path_ok r.role r.neighbour r.path) (ground_ok r))))))
+    && (leb r.b most_numbers && cond (eqb r.ground_code 0) (path_ok r.role r.neighbour r.path) (ground_ok r))))))
 
 -- Route i stands behind the one before it; the first stands behind none.
 unfoldable pub is_behind : List Route → ℕ → Bool

@@ -60,7 +60,7 @@ same_stamp v r e =
       number = r.number;
       role = r.role;
       neighbour = r.neighbour;
-      ground = r.ground;
+      ground_code = r.ground_code;
       verdict = sym word z;
       a = sym a z;
       b = sym b z;
@@ -69,9 +69,9 @@ same_stamp v r e =
 
 -- A route that does not differ from itself judged anew is that one.
 same_anew : (hop : HopFunction) (r : Route) → differs r (anew hop r) ≡ false → anew hop r ≡ r
-same_anew hop r e = go (eqb r.ground 0) refl
+same_anew hop r e = go (eqb r.ground_code 0) refl
   where
-    go : (b : Bool) → eqb r.ground 0 ≡ b → anew hop r ≡ r
+    go : (b : Bool) → eqb r.ground_code 0 ≡ b → anew hop r ≡ r
     go true t =
         let g = gets_verdict hop r (eqb-true _ _ t) in
         g ∙ same_stamp (verdict_of (judged hop r.path r.role)) r (ap (differs r) (sym g) ∙ e)

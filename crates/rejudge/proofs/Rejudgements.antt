@@ -33,18 +33,18 @@ not_differs r = rw (ordered_ℕ.same_self r.verdict, ordered_ℕ.same_self r.a, 
 
 module _ (hop : HopFunction) (r : Route) where
   -- A route with a ground is left as it is.
-  pub left_alone : (r.ground ≡ 0 → ⊥) → rejudged_route hop r ≡ r
-  left_alone k = rw (ne_eqb r.ground 0 k)
+  pub left_alone : (r.ground_code ≡ 0 → ⊥) → rejudged_route hop r ≡ r
+  left_alone k = rw (ne_eqb r.ground_code 0 k)
 
   -- One without gets the verdict of its role and path.
-  pub gets_verdict : r.ground ≡ 0 → rejudged_route hop r ≡ stamped (verdict_of (judged hop r.path r.role)) r
-  gets_verdict e = rw (eq-eqb r.ground 0 e)
+  pub gets_verdict : r.ground_code ≡ 0 → rejudged_route hop r ≡ stamped (verdict_of (judged hop r.path r.role)) r
+  gets_verdict e = rw (eq-eqb r.ground_code 0 e)
 
 module _ (r : Route) (e : route_ok r ≡ true) where
-  module _ (g : r.ground ≡ 0) where
+  module _ (g : r.ground_code ≡ 0) where
     -- Without a ground its path keeps the rules.
     pub path_fine : path_ok r.role r.neighbour r.path ≡ true
-    path_fine = rw (eq-eqb r.ground 0 g) at (rules_by_ground r e)
+    path_fine = rw (eq-eqb r.ground_code 0 g) at (rules_by_ground r e)
 
     -- It has a number.
     pub some_numbers : 1 ≤ length r.path
@@ -80,31 +80,31 @@ module _ (hop : HopFunction) where
 
     -- The number stays.
     pub number_stays : (anew r).number ≡ r.number
-    number_stays = stays_either (λ s. s.number) gets r refl (eqb r.ground 0)
+    number_stays = stays_either (λ s. s.number) gets r refl (eqb r.ground_code 0)
 
     -- The role stays.
     pub role_stays : (anew r).role ≡ r.role
-    role_stays = stays_either (λ s. s.role) gets r refl (eqb r.ground 0)
+    role_stays = stays_either (λ s. s.role) gets r refl (eqb r.ground_code 0)
 
     -- The neighbour stays.
     pub neighbour_stays : (anew r).neighbour ≡ r.neighbour
-    neighbour_stays = stays_either (λ s. s.neighbour) gets r refl (eqb r.ground 0)
+    neighbour_stays = stays_either (λ s. s.neighbour) gets r refl (eqb r.ground_code 0)
 
     -- The ground stays.
-    pub ground_stays : (anew r).ground ≡ r.ground
-    ground_stays = stays_either (λ s. s.ground) gets r refl (eqb r.ground 0)
+    pub ground_stays : (anew r).ground_code ≡ r.ground_code
+    ground_stays = stays_either (λ s. s.ground_code) gets r refl (eqb r.ground_code 0)
 
     -- The path stays.
     pub path_stays : (anew r).path ≡ r.path
-    path_stays = stays_either (λ s. s.path) gets r refl (eqb r.ground 0)
+    path_stays = stays_either (λ s. s.path) gets r refl (eqb r.ground_code 0)
 
     -- ---- a second time
 
     -- A route judged anew is left as it is by the next time.
     pub once_enough : anew (anew r) ≡ anew r
-    once_enough = go (eqb r.ground 0) refl
+    once_enough = go (eqb r.ground_code 0) refl
       where
-        go : (b : Bool) → eqb r.ground 0 ≡ b → anew (anew r) ≡ anew r
+        go : (b : Bool) → eqb r.ground_code 0 ≡ b → anew (anew r) ≡ anew r
         go true e =
             let g = eqb-true _ _ e in
             ap anew (gets_verdict hop r g) ∙ gets_verdict hop (stamped gets r) g ∙ sym (gets_verdict hop r g)
@@ -127,7 +127,7 @@ module _ (hop : HopFunction) where
       go false e = rw e (places_within hop r.path h).1
 
   -- A route without a ground keeps its rules with its verdict.
-  stamped_ok : (r : Route) → route_ok r ≡ true → r.ground ≡ 0 → route_ok (anew r) ≡ true
+  stamped_ok : (r : Route) → route_ok r ≡ true → r.ground_code ≡ 0 → route_ok (anew r) ≡ true
   unfolding route_ok
   stamped_ok r e g =
       let v = gets r in
@@ -141,9 +141,9 @@ module _ (hop : HopFunction) where
 
   -- A route judged anew keeps its rules.
   pub still_ok : (r : Route) → route_ok r ≡ true → route_ok (anew r) ≡ true
-  still_ok r e = go (eqb r.ground 0) refl
+  still_ok r e = go (eqb r.ground_code 0) refl
     where
-      go : (b : Bool) → eqb r.ground 0 ≡ b → route_ok (anew r) ≡ true
+      go : (b : Bool) → eqb r.ground_code 0 ≡ b → route_ok (anew r) ≡ true
       go true t = stamped_ok r e (eqb-true _ _ t)
       go false t = ap route_ok (left_alone hop r (eqb-false _ _ t)) ∙ e
 

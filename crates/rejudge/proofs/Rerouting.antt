@@ -34,12 +34,12 @@ module _ {ws : List ℕ} {i : ℕ} (p : RouteIn ws i) where
   stays hop e =
       rw (e, set-get_or (routes_of ws) i (route_at [] 0), not_differs route) (ap (effect false) (words_are ws p.sound p.size))
 
-  module _ {ground : ℕ} (its : ground ≡ route.ground) where
+  module _ {ground_code : ℕ} (its : ground_code ≡ route.ground_code) where
     -- A ground: nothing is stored.
-    pub grounded : (hop : HopFunction) → (ground ≡ 0 → ⊥) → Promised hop ws i ws false
+    pub grounded : (hop : HopFunction) → (ground_code ≡ 0 → ⊥) → Promised hop ws i ws false
     grounded hop k = stays hop (left_alone hop route (λ e. k (its ∙ e)))
 
-    module _ (none : ground ≡ 0) {path : List ℕ} (same : path ≡ route.path) where
+    module _ (none : ground_code ≡ 0) {path : List ℕ} (same : path ≡ route.path) where
       -- The path may be judged.
       pub may_judge : (1 ≤ length path) × (length path ≤ longest_path)
       may_judge =

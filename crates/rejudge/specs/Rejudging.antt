@@ -9,7 +9,7 @@ use Rattle.ledger.specs.Calls.{stamped, count_differing}
 
 -- A route without a ground gets the verdict and places of its role and path; another stays.
 abbrev pub rejudged_route : HopFunction → Route → Route
-rejudged_route hop r = cond (eqb r.ground 0) (stamped (verdict_of (judged hop r.path r.role)) r) r
+rejudged_route hop r = cond (eqb r.ground_code 0) (stamped (verdict_of (judged hop r.path r.role)) r) r
 
 -- Every route judged anew: how many changed, and the ledger with them.
 abbrev pub rejudged_effect : HopFunction → List ℕ → Effect ℕ

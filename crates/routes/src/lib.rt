@@ -185,7 +185,7 @@ pub fn path_words(led: &[u32]) -> usize
 // The ground of route i, 0 where it has none.
 pub fn ground(led: &[u32], i: usize) -> u32
     requires { RouteIn led.now i }
-    ensures { result ≡ (route_at (routes_of led.now) i).ground }
+    ensures { result ≡ (route_at (routes_of led.now) i).ground_code }
 {
     led[table::COUNTERS + i * ledger::WIDTH + GROUND]
 }

@@ -1,0 +1,18 @@
+use mathlib.Core.Path.{sym, ◌∙◌}
+use Rattle.calls.proofs.Parsing.{other_count, right_count, does, does_nothing}
+use Rattle.calls.specs.declared.Reply.TheVariants as reply
+use Rattle.calls.specs.Performing.{result_of}
+use Rattle.commands.proofs.choice.words.Goals as goal
+
+pub returns-then-n-ne2 : goal.returns-then-n-ne2
+returns-then-n-ne2 c =
+    let a = c.args in
+    let pre = c.requires in
+    does_nothing a.reg.now a.overrides.now a.led.now _ (other_count _ 2 _ (λ e. c.if-n-ne2.true (pre ∙ e)))
+
+pub returns : goal.returns
+returns c =
+    let a = c.args in
+    let pre = c.requires in
+    does a.reg.now a.overrides.now a.led.now _ (right_count _ 2 _ (sym (pre) ∙ c.if-n-ne2.false))
+    (λ i. result_of (reply.Sized (c.named.ensures i)) a.reg.now a.overrides.now a.led.now)
