@@ -6,8 +6,8 @@ ghost use Rattle.calls.specs.Commands.{most_line, most_lent};
 ghost use Rattle.protocol.specs.Feeding.{fed, fed_bytes, session_in, most_text, Ready};
 ghost use Rattle.protocol.specs.Sessions.{fed_all};
 
-use libc::{STDIN_FILENO, STDOUT_FILENO};
 use protocol::{Lent, State};
+use std::io::{Read, Stdin, Stdout};
 
 // A state, and whether there may be more to do: not where the input ended, or the output cannot be written.
 #[derive(Clone, Copy)]
@@ -25,14 +25,14 @@ pub struct Used {
 }
 
 // False where not all could be written.
-fn flush(out: &[u8], at: usize) -> bool
+fn flush(stdout: Stdout, out: &[u8], at: usize) -> bool
     requires { at ≤ length out.now }
 {
-    io::write_all(STDOUT_FILENO, &out[..at])
+    stdout.write_all(&out[..at]).is_ok()
 }
 
 // Whoever types a line waits for its answer, so the output is written before the next read.
-fn written(s: State, out: &[u8]) -> Served
+fn written(stdout: Stdout, s: State, out: &[u8]) -> Served
     requires { (s.out ≤ length out.now) × (most_text ≤ length out.now) }
     ensures { (result.state.lent ≡ s.lent) × (result.state.line ≡ s.line) × (result.state.out + most_text ≤ length out.now) }
 {
@@ -44,12 +44,12 @@ fn written(s: State, out: &[u8]) -> Served
             line: s.line,
             out: 0,
         },
-        more: flush(out, at),
+        more: flush(stdout, out, at),
     }
 }
 
 // Writes the output where it has no room for another answer.
-fn with_room(s: State, out: &[u8]) -> Served
+fn with_room(stdout: Stdout, s: State, out: &[u8]) -> Served
     requires { (s.out ≤ length out.now) × (most_text ≤ length out.now) }
     ensures { (result.state.lent ≡ s.lent) × (result.state.line ≡ s.line) × (result.state.out + most_text ≤ length out.now) }
 {
@@ -60,11 +60,12 @@ fn with_room(s: State, out: &[u8]) -> Served
             more: true,
         };
     }
-    written(s, out)
+    written(stdout, s, out)
 }
 
 // The bytes of a piece from index from on, up to the first newline.
 fn serve_line(
+    stdout: Stdout,
     piece: &[u8],
     from: usize,
     s: State,
@@ -82,7 +83,7 @@ fn serve_line(
 {
     let fed = protocol::feed(&piece[from..], s, line, reg, overrides, led, out);
     let next = fed.state;
-    let served = with_room(next, out);
+    let served = with_room(stdout, next, out);
     let state = served.state;
     Used {
         state,
@@ -93,6 +94,7 @@ fn serve_line(
 
 // Answers the lines of a piece: all its bytes are used, each once and in their order, unless the output cannot be written.
 fn serve_piece(
+    stdout: Stdout,
     piece: &[u8],
     first: State,
     line: &mut [u8],
@@ -110,7 +112,7 @@ fn serve_piece(
     let mut s = first;
     let mut from = 0;
     while from < piece.len() {
-        let used = serve_line(piece, from, s, line, reg, overrides, led, out);
+        let used = serve_line(stdout, piece, from, s, line, reg, overrides, led, out);
         s = used.state;
         if !used.more {
             return Served {
@@ -120,11 +122,13 @@ fn serve_piece(
         }
         from = used.to;
     }
-    written(s, out)
+    written(stdout, s, out)
 }
 
 // What a read that failed or found the end brings has no bytes.
 fn serve_some(
+    mut stdin: Stdin,
+    stdout: Stdout,
     s: State,
     input: &mut [u8],
     line: &mut [u8],
@@ -136,19 +140,20 @@ fn serve_some(
     requires { Ready s line.old reg.old overrides.old led.old out.old }
     ensures { Ready result.state line.new reg.new overrides.new led.new out.new }
 {
-    let got = libc::read(STDIN_FILENO, input);
-    let n = io::count(got, input);
+    let n = stdin.read(input).unwrap_or(0);
     if n == 0 {
         return Served {
             state: s,
             more: false,
         };
     }
-    serve_piece(&input[..n], s, line, reg, overrides, led, out)
+    serve_piece(stdout, &input[..n], s, line, reg, overrides, led, out)
 }
 
 // A proved loop has to end, and nothing says that the input does: so its turns are counted down from a number that no run uses up.
 fn serve(
+    stdin: Stdin,
+    stdout: Stdout,
     first: State,
     input: &mut [u8],
     line: &mut [u8],
@@ -163,7 +168,7 @@ fn serve(
     let mut s = first;
     let mut turns = u64::MAX;
     while 0 < turns {
-        let served = serve_some(s, input, line, reg, overrides, led, out);
+        let served = serve_some(stdin, stdout, s, input, line, reg, overrides, led, out);
         s = served.state;
         if !served.more {
             return s;
@@ -173,7 +178,16 @@ fn serve(
     s
 }
 
+// How much is read at a time.
+const INPUT: usize = 65536;
+
 // Arrays are made in functions of their own, so that no proof has to look at their elements.
+fn no_input() -> [u8; INPUT]
+    ensures { 65536 ≡ length result }
+{
+    [0; INPUT]
+}
+
 fn no_line() -> [u8; calls::MOST_LINE]
     ensures { most_line ≡ length result }
 {
@@ -195,8 +209,8 @@ fn no_output() -> [u8; OUTPUT]
     [0; OUTPUT]
 }
 
-fn main() {
-    let mut input = io::large_buffer();
+fn main(rt: HostRuntime) {
+    let mut input = no_input();
     let mut line = no_line();
     let mut reg = empty_table();
     let mut overrides = empty_table();
@@ -212,6 +226,8 @@ fn main() {
         out: 0,
     };
     let s = serve(
+        rt.stdin(),
+        rt.stdout(),
         first,
         &mut input,
         &mut line,
@@ -222,5 +238,5 @@ fn main() {
     );
     let last = protocol::finish(s, &line, &mut reg, &mut overrides, &mut led, &mut out);
     let at = last.out;
-    flush(&out, at);
+    flush(rt.stdout(), &out, at);
 }
