@@ -6,41 +6,41 @@ use Rattle.commands.proofs.choice.overriding.Goals as goal
 pub returns-then-is_word : goal.returns-then-is_word
 returns-then-is_word c =
     let a = c.args in
-    let is_IsWord = c.is_IsWord in
+    let is_word = c.is_word in
     let if1 = c.if-is_word in
     let file = c.file in
-    rw (is_dfile (words_of a.line.now) (sym is_IsWord.ensures ∙ if1.true)) file.ensures
+    rw (is_dfile (words_of a.line.now) (sym is_word.ensures ∙ if1.true)) file.ensures
 
 pub returns-then-is_word-2 : goal.returns-then-is_word-2
 returns-then-is_word-2 c =
     let a = c.args in
-    let is_IsWord = c.is_IsWord in
+    let is_word = c.is_word in
     let if1 = c.if-is_word in
     let is-word2 = c.is_word-2 in
     let if2 = c.if-is_word-2 in
     let withdraw = c.withdraw in
-    rw (is_dwithdraw (words_of a.line.now) (sym is_IsWord.ensures ∙ if1.false) (sym is-word2.ensures ∙ if2.true)) withdraw.ensures
+    rw (is_dwithdraw (words_of a.line.now) (sym is_word.ensures ∙ if1.false) (sym is-word2.ensures ∙ if2.true)) withdraw.ensures
 
 pub returns-then-is_word-3 : goal.returns-then-is_word-3
 returns-then-is_word-3 c =
     let a = c.args in
-    let is_IsWord = c.is_IsWord in
+    let is_word = c.is_word in
     let if1 = c.if-is_word in
     let is-word2 = c.is_word-2 in
     let if2 = c.if-is_word-2 in
     let is-word3 = c.is_word-3 in
     let if3 = c.if-is_word-3 in
     let clear = c.clear in
-    rw (is_dclear (words_of a.line.now) (sym is_IsWord.ensures ∙ if1.false) (sym is-word2.ensures ∙ if2.false) (sym is-word3.ensures ∙ if3.true)) clear.ensures
+    rw (is_dclear (words_of a.line.now) (sym is_word.ensures ∙ if1.false) (sym is-word2.ensures ∙ if2.false) (sym is-word3.ensures ∙ if3.true)) clear.ensures
 
 pub returns : goal.returns
 returns c =
     let a = c.args in
-    let is_IsWord = c.is_IsWord in
+    let is_word = c.is_word in
     let if1 = c.if-is_word in
     let is-word2 = c.is_word-2 in
     let if2 = c.if-is_word-2 in
     let is-word3 = c.is_word-3 in
     let if3 = c.if-is_word-3 in
     let ask = c.ask in
-    rw (is_ask (words_of a.line.now) (sym is_IsWord.ensures ∙ if1.false) (sym is-word2.ensures ∙ if2.false) (sym is-word3.ensures ∙ if3.false)) ask.ensures
+    rw (is_ask (words_of a.line.now) (sym is_word.ensures ∙ if1.false) (sym is-word2.ensures ∙ if2.false) (sym is-word3.ensures ∙ if3.false)) ask.ensures
