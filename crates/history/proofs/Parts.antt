@@ -29,7 +29,7 @@ use Rattle.effects.proofs.Overridden.{entry, judges}
 use Rattle.effects.proofs.Local.{from_numbers, by_path, ten, holding_ten_twenty}
 use Rattle.history.specs.Calls.{Call, Tables, Formed, find_record, providers_of}
 use Rattle.history.specs.Filings.{FiledLists, filed_list, hop_filed, hop_filed_over, hops_at}
-use Rattle.history.specs.Parts.{HoldsPart, PartLaws, Parts, everybody, of_fifty, start_ten, PartVectors}
+use Rattle.history.specs.Parts.{HoldsPart, Parts, everybody, of_fifty, start_ten, PartVectors}
 use Rattle.history.proofs.Simulating.{blank_formed}
 use Rattle.history.proofs.Theorems.{demand2}
 

@@ -56,7 +56,7 @@ use Rattle.effects.specs.Calls.{Keeping, table_rows, kept_route, keep_rows, keep
 use Rattle.effects.proofs.KeptRoutes.{kept_ok}
 use Rattle.history.specs.Calls.{Call, file, withdraw, clear, keep, drop, rejudge, rejudged, Tables, Formed, route_read, says, rewritten, with_register, leaves, blank, call_at, tables, said, last, known, find_route}
 use Rattle.history.specs.Replies.{ModelReply, refused, done, replaced, new, shown_filed, shown_removal, shown_cleared, shown_judged, shown_rejudged, shown, accepted}
-use Rattle.history.specs.Model.{Lists, lists_of, with_lists, Model, refiled, held_by, number_of, holds_kept, put_kept, argument_rows, held_rows, room_rows, room_for_routes, refusal, answer, change, reply_unless, change_unless, reply_to, next, after, reply_at, final, judged_kept, written}
+use Rattle.history.specs.Model.{Lists, lists_of, with_lists, Model, refiled, held_by, number_of, holds_kept, put_kept, argument_rows, held_rows, room_rows, room_for_routes, refusal, change, reply_unless, change_unless, reply_to, next, after, reply_at, final, judged_kept, written}
 use Rattle.history.specs.Filings.{stored_by}
 use Rattle.history.proofs.Origins.{of_each, both_formed}
 use Rattle.history.proofs.Keys.{either_way}

@@ -17,7 +17,6 @@ pub use Rattle.ledger.specs.Calls.{find_route}
 use Rattle.register.specs.Calls.{file_effect, withdraw_effect, clear_effect}
 use Rattle.registers.specs.Registers.{Registers, lent, chosen}
 use Rattle.ledger.specs.Routes.{ledger_words, Route, ledger_ok}
-use Rattle.ledger.specs.Routes as ledger
 use Rattle.ledger.specs.Calls.{drop_effect}
 use Rattle.effects.specs.Calls.{path_in, Keeping, keep_effect, rejudge_effect}
 

@@ -1,4 +1,3 @@
-use Prim.Native.Nat.{◌-◌}
 use Rattle.rejudge.proofs.Turns.{turns, turned_all, may_turn, turns_changed, turns_same}
 use Rattle.rejudge.proofs.rejudge_routes.Goals as goal
 

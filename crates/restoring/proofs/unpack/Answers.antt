@@ -1,4 +1,3 @@
-use Prim.Native.Nat.{◌-◌}
 use native.Mathlib.Omega.{arith}
 use Rattle.snapshot.proofs.Copying.{unpacks_on, unpack_ends}
 use Rattle.restoring.proofs.unpack.Goals as goal

@@ -1,4 +1,3 @@
-use Prim.Native.Nat.{◌-◌}
 use Rattle.verdict.proofs.Passing.{passes, passes_on, passed}
 use Rattle.verdict.proofs.ramps_alone.Goals as goal
 

@@ -1,4 +1,3 @@
-use Prim.Native.Nat.{◌-◌}
 use mathlib.Core.Path.{sym, ◌∙◌}
 use Rattle.verdict.proofs.Rising.{rises_refused, rises_on, risen_unknown, risen_valid}
 use Rattle.verdict.proofs.upstream_alone.Goals as goal
