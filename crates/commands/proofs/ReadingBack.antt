@@ -10,7 +10,7 @@ use Rattle.text.specs.Ascii.{ascii}
 use Rattle.text.specs.Bytes.{same_bytes, hex_digit, hex_text}
 use Rattle.text.proofs.HexTexts.{hex_laws}
 use Rattle.lines.specs.Words.{split, words_of}
-use Rattle.calls.specs.Commands.{read, of_words, with_bytes}
+use Rattle.calls.specs.Commands.{of_words, with_bytes}
 use Rattle.commands.specs.Commands.{command_of, lent_command, route_command, snapshot_command}
 use Rattle.commands.specs.Laws.{ReadsBack}
 
