@@ -1,3 +1,4 @@
+-- `answers::put_answer` meets its contract. Assumes nothing.
 use mir.Syntax.{w32}
 use mir.ValLaws.{to_z-of_z}
 use mathlib.Core.List.{◌++◌}

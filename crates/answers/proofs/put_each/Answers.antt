@@ -1,3 +1,4 @@
+-- `answers::put_each` meets its contract. Assumes nothing.
 use Rattle.answers.proofs.Listing.{goes_on, ends}
 use Rattle.answers.proofs.put_each.Goals as goal
 

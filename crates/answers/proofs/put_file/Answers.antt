@@ -1,3 +1,4 @@
+-- `answers::put_file` meets its contract. Assumes nothing.
 use native.Mathlib.Omega.{arith}
 use mathlib.Core.List.{◌++◌}
 use lib.ListN.{take}

@@ -1,3 +1,4 @@
+-- `answers::put_origin` meets its contract. Assumes nothing.
 use mathlib.Core.List.{◌++◌}
 use native.Mathlib.Omega.{arith}
 use Rattle.text.specs.Ascii.{ascii}

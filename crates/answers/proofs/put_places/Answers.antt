@@ -1,3 +1,4 @@
+-- `answers::put_places` meets its contract. Assumes nothing.
 use mathlib.Core.List.{◌∷◌, ◌++◌, append_assoc}
 use native.Mathlib.Omega.{arith}
 use Rattle.text.specs.Numbers.{decimal_of}

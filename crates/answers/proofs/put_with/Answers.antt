@@ -1,3 +1,4 @@
+-- `answers::put_with` meets its contract. Assumes nothing.
 use native.Mathlib.Omega.{arith}
 use Rattle.text.specs.Numbers.{decimal_of}
 use Rattle.answers.proofs.Writing.{writes_on}

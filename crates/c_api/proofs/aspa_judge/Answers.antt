@@ -1,3 +1,4 @@
+-- `c_api::aspa_judge` meets its contract. Assumes nothing.
 use Rattle.c_api.proofs.Tellings.{judge_below}
 use Rattle.c_api.proofs.aspa_judge.Goals as goal
 

@@ -1,3 +1,4 @@
+-- `c_api::aspa_keep` meets its contract. Assumes nothing.
 use mathlib.Core.Path.{ap}
 use Rattle.c_api.proofs.Tellings.{keep_below}
 use Rattle.c_api.proofs.aspa_keep.Goals as goal

@@ -1,3 +1,4 @@
+-- `c_api::aspa_lookup` meets its contract. Assumes nothing.
 use Rattle.registers.specs.Registers.{lent}
 use Rattle.effects.proofs.Looking.{cut_is}
 use Rattle.c_api.proofs.aspa_lookup.Goals as goal

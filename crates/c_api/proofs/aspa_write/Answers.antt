@@ -1,3 +1,4 @@
+-- `c_api::aspa_write` meets its contract. Assumes nothing.
 use mathlib.Core.Path.{ap}
 use Rattle.c_api.proofs.Tellings.{write_below}
 use Rattle.c_api.proofs.aspa_write.Goals as goal

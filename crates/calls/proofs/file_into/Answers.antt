@@ -1,3 +1,4 @@
+-- `calls::file_into` meets its contract. Assumes nothing.
 use mathlib.Core.Path.{sym, ◌∙◌}
 use native.Mathlib.Omega.{arith}
 use Rattle.lines.specs.Words.{words_of}

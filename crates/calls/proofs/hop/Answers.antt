@@ -1,3 +1,4 @@
+-- `calls::hop` meets its contract. Assumes nothing.
 use mathlib.Core.Path.{sym, ◌∙◌}
 use Rattle.calls.proofs.Parsing.{other_count, right_count, number_is, no_number, is_zero, not_zero, does, does_nothing}
 use Rattle.calls.specs.declared.Reply.TheVariants as reply

@@ -1,3 +1,4 @@
+-- `calls::judge_into` meets its contract. Assumes nothing.
 use mathlib.Core.Path.{sym, ◌∙◌}
 use Rattle.lines.specs.Words.{words_of, word_at}
 use Rattle.calls.proofs.Parsing.{other_count, right_count, number_is, no_number, no_bytes, does_nothing, buffered, judges}

@@ -1,3 +1,4 @@
+-- `calls::lookup` meets its contract. Assumes nothing.
 use mathlib.Core.Path.{refl, sym, ◌∙◌}
 use Rattle.calls.proofs.Parsing.{other_count, right_count, number_is, no_number, does, does_nothing}
 use Rattle.calls.proofs.lookup.Goals as goal

@@ -1,3 +1,4 @@
+-- `calls::read` meets its contract. Assumes nothing.
 use mathlib.Core.Path.{sym, ◌∙◌}
 use Rattle.lines.specs.Words.{words_of, word_at}
 use Rattle.calls.proofs.Parsing.{other_count, right_count, no_bytes, does_nothing, buffered, reads}

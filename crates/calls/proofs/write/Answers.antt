@@ -1,3 +1,4 @@
+-- `calls::write` meets its contract. Assumes nothing.
 use mathlib.Core.Path.{refl, sym, ◌∙◌}
 use Rattle.calls.proofs.Parsing.{other_count, right_count, number_is, no_number, too_many, not_too_many, does, does_nothing}
 use Rattle.calls.proofs.write.Goals as goal

@@ -1,3 +1,4 @@
+-- `console::main` meets its contract. Assumes nothing.
 use mathlib.Core.Path.{sym}
 use native.Mathlib.Omega.{arith}
 use Rattle.console.proofs.Serving.{starts}

@@ -1,4 +1,4 @@
-use mathlib.Core.Path.{◌≡◌}
+-- `console::serve` meets its contract. Assumes nothing.
 use mathlib.Core.Path.{◌≡◌}
 use lib.ListN.{length}
 use Rattle.protocol.specs.Feeding.{Ready}

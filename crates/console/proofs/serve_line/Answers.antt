@@ -1,3 +1,4 @@
+-- `console::serve_line` meets its contract. Assumes nothing.
 use mathlib.Core.Path.{ap, ◌∙◌}
 use native.Mathlib.Omega.{arith}
 use Rattle.protocol.specs.Feeding.{fed_bytes}

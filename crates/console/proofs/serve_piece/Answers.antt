@@ -1,3 +1,4 @@
+-- `console::serve_piece` meets its contract. Assumes nothing.
 use mathlib.Core.Path.{refl, ◌∙◌}
 use native.Mathlib.Omega.{arith}
 use Rattle.console.proofs.Serving.{ready, same_session, rest_used, takes, takes_on, all_taken}

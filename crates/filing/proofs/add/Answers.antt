@@ -1,3 +1,4 @@
+-- `filing::add` meets its contract. Assumes nothing.
 use native.Mathlib.Omega.{arith}
 use mathlib.Core.Path.{sym}
 use Rattle.register.proofs.Filing.{count-word, body_word, little, full_records, full_lists, new_fits, new_done}

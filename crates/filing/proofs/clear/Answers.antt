@@ -1,3 +1,4 @@
+-- `filing::clear` meets its contract. Assumes nothing.
 use native.Mathlib.Omega.{arith}
 use mathlib.Core.Path.{sym, ◌∙◌}
 use Rattle.table.specs.Table.{decode}

@@ -1,3 +1,4 @@
+-- `filing::file` meets its contract. Assumes nothing.
 use mathlib.Core.Path.{sym, ◌∙◌}
 use Rattle.register.proofs.Filing.{file_length, file_malformed, file_source, file_customer, file_list}
 use Rattle.filing.proofs.file.Goals as goal

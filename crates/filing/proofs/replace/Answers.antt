@@ -1,3 +1,4 @@
+-- `filing::replace` meets its contract. Assumes nothing.
 use native.Mathlib.Omega.{arith}
 use mathlib.Core.Path.{sym}
 use Rattle.register.proofs.Filing.{body_word, few, little, position_under, old_slot, old_word, old_within, full_over, old_goes, over_fits, over_done}

@@ -1,3 +1,4 @@
+-- `filing::withdraw` meets its contract. Assumes nothing.
 use mathlib.Core.Path.{sym, ◌∙◌}
 use Rattle.register.proofs.Filing.{withdraw_length, withdraw_malformed, withdraw_source, withdraw_customer, withdraw_none, withdraw_goes, withdraw_done}
 use Rattle.filing.proofs.withdraw.Goals as goal

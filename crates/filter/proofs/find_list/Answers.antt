@@ -1,3 +1,4 @@
+-- `filter::find_list` meets its contract. Assumes nothing.
 use mathlib.Core.Path.{sym, ◌∙◌}
 use Rattle.registers.specs.Registers.{lent}
 use Rattle.effects.proofs.Looking.{part_none, look_formed, part_found}

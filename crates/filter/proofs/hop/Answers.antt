@@ -1,3 +1,4 @@
+-- `filter::hop` meets its contract. Assumes nothing.
 use mathlib.Core.Path.{sym, ◌∙◌}
 use Rattle.registers.specs.Registers.{lent}
 use Rattle.effects.proofs.Looking.{hop_length, hop_malformed, hop_answered}

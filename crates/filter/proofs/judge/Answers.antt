@@ -1,3 +1,4 @@
+-- `filter::judge` meets its contract. Assumes nothing.
 use mathlib.Core.Path.{sym, ◌∙◌}
 use Rattle.registers.specs.Registers.{lent}
 use Rattle.effects.proofs.Judgings.{judge_length, judge_malformed, judge_answers}

@@ -1,3 +1,4 @@
+-- `filter::judge_known` meets its contract. Assumes nothing.
 use lib.ListN.{replicate}
 use lib.Dec.{lit≤}
 use Rattle.rules.specs.Verdicts.{judged}

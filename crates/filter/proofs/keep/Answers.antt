@@ -1,3 +1,4 @@
+-- `filter::keep` meets its contract. Assumes nothing.
 use mathlib.Core.Path.{sym, ◌∙◌}
 use Rattle.effects.specs.Calls.{keeping}
 use Rattle.registers.specs.Registers.{lent, hop_in}

@@ -1,3 +1,4 @@
+-- `filter::keep_answer` meets its contract. Assumes nothing.
 use Rattle.types.specs.declared.Verdict.{Verdict}
 use Rattle.ledger.specs.Routes.{Route}
 use mathlib.Core.Path.{◌∙◌, ap}

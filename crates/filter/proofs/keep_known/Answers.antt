@@ -1,3 +1,4 @@
+-- `filter::keep_known` meets its contract. Assumes nothing.
 use native.Mathlib.Omega.{arith}
 use mathlib.Core.Path.{sym, ◌∙◌, ap}
 use lib.ListN.{replicate}

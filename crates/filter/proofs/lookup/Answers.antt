@@ -1,3 +1,4 @@
+-- `filter::lookup` meets its contract. Assumes nothing.
 use native.Mathlib.Omega.{arith}
 use Rattle.registers.specs.Registers.{lent}
 use Rattle.effects.proofs.Looking.{cut_order, cut_small, cut_within, cut_list}

@@ -1,3 +1,4 @@
+-- `filter::may_look` meets its contract. Assumes nothing.
 use mathlib.Core.Path.{sym, ◌∙◌}
 use Rattle.registers.specs.Registers.{lent}
 use Rattle.effects.proofs.Looking.{look_length, look_malformed, look_source, look_customer}

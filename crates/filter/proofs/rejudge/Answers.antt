@@ -1,3 +1,4 @@
+-- `filter::rejudge` meets its contract. Assumes nothing.
 use native.Mathlib.Omega.{arith}
 use mathlib.Core.Path.{sym, ◌∙◌, ap}
 use Rattle.registers.specs.Registers.{lent}

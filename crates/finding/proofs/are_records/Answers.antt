@@ -1,10 +1,10 @@
+-- `finding::are_records` meets its contract. Assumes nothing.
 use mathlib.Core.Path.{sym, ◌∙◌, ap}
 use native.Mathlib.Omega.{arith}
 use lib.Dec.{eqb}
 use lib.ListN.{length-take, length-drop}
 use Rattle.providers.proofs.Descending.{no_fall, one_fall}
-use Rattle.finding.proofs.Checking.{checks, lists_few, lists_inside, all_checked, slot_inside, list_inside, no_record, list_some, first_inside}
-use Rattle.finding.proofs.Checking.{no_order, no_own, checks_first, checks_next}
+use Rattle.finding.proofs.Checking.{checks, lists_few, lists_inside, all_checked, slot_inside, list_inside, no_record, list_some, first_inside, no_order, no_own, checks_first, checks_next}
 use Rattle.finding.proofs.are_records.Goals as goal
 use Rattle.finding.proofs.are_records.Goals.{then-bodies-from+then-reg-from, then-bodies-from+else-reg-from, else-bodies-from}
 

@@ -1,3 +1,4 @@
+-- `finding::find` meets its contract. Assumes nothing.
 use native.Mathlib.Omega.{arith}
 use Rattle.register.specs.Register.{records_of}
 use Rattle.register.proofs.Holding.{ordered}

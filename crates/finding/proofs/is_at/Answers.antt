@@ -1,3 +1,4 @@
+-- `finding::is_at` meets its contract. Assumes nothing.
 use native.Mathlib.Omega.{arith}
 use Rattle.register.proofs.Looking.{head_within, past, there_in, there, other}
 use Rattle.finding.proofs.is_at.Goals as goal

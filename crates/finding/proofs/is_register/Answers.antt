@@ -1,3 +1,4 @@
+-- `finding::is_register` meets its contract. Assumes nothing.
 use mathlib.Core.Path.{sym, ◌∙◌}
 use native.Mathlib.Omega.{arith}
 use Rattle.register.specs.Register.{record_head, record_tail}

@@ -1,3 +1,4 @@
+-- `finding::search` meets its contract. Assumes nothing.
 use native.Mathlib.Omega.{arith}
 use Rattle.halves.proofs.Searches.{searchable}
 use Rattle.register.specs.Register.{record_head, record_tail}

@@ -1,3 +1,4 @@
+-- `finding::stands_before` meets its contract. Assumes nothing.
 use mathlib.Core.Path.{◌∙◌}
 use native.Mathlib.Omega.{arith}
 use Rattle.keyed.specs.Keyed.{before_pair}

@@ -1,3 +1,4 @@
+-- `halves::search` meets its contract. Assumes nothing.
 use native.Mathlib.Omega.{arith}
 use mathlib.Core.Path.{sym}
 use Rattle.keyed.specs.Keyed.{before_pair}

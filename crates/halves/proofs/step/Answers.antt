@@ -1,3 +1,4 @@
+-- `halves::step` meets its contract. Assumes nothing.
 use mathlib.Core.Path.{refl}
 use Rattle.halves.specs.Halves.{stepped}
 use Rattle.halves.proofs.Steps.{does}

@@ -1,3 +1,4 @@
+-- `hints::advance` meets its contract. Assumes nothing.
 use Rattle.std.proofs.Common.{sym, ◌∙◌, arith}
 use Rattle.halves.proofs.Positions.{over}
 use Rattle.register.specs.Register.{records_of}

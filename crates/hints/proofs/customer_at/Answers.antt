@@ -1,3 +1,4 @@
+-- `hints::customer_at` meets its contract. Assumes nothing.
 use Rattle.std.proofs.Common.{arith}
 use Rattle.register.proofs.Holding.{sound}
 use Rattle.register.proofs.Entries.{customer_is}

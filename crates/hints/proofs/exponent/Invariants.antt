@@ -1,3 +1,4 @@
+-- `hints::exponent` meets its contract. Assumes nothing.
 use Rattle.std.proofs.Common.{◌-◌, ◌≤◌}
 use Rattle.hints.proofs.exponent.Given as goal
 

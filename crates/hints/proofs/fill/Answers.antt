@@ -1,3 +1,4 @@
+-- `hints::fill` meets its contract. Assumes nothing.
 use Rattle.std.proofs.Common.{arith}
 use Rattle.register.proofs.Looking.{head_within, count_is, few}
 use Rattle.hints.proofs.fill.Goals as goal

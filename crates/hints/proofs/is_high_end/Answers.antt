@@ -1,3 +1,4 @@
+-- `hints::is_high_end` meets its contract. Assumes nothing.
 use Rattle.std.proofs.Common.{sym, ◌∙◌, arith}
 use borrow.Author.Tests.{not-true}
 use Rattle.halves.proofs.Positions.{under}

@@ -1,3 +1,4 @@
+-- `hints::mark` meets its contract. Assumes nothing.
 use Rattle.std.proofs.Common.{refl, ◌∙◌, arith}
 use Rattle.register.proofs.Looking.{head_within, count_is, few}
 use Rattle.hints.proofs.mark.Goals as goal

@@ -1,3 +1,4 @@
+-- `hints::spread` meets its contract. Assumes nothing.
 use Rattle.std.proofs.Common.{◌≡◌, ◌-◌, length}
 use Rattle.hints.proofs.spread.Given as goal
 

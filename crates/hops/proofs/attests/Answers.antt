@@ -1,3 +1,4 @@
+-- `hops::attests` meets its contract. Assumes nothing.
 use native.Mathlib.Omega.{arith}
 use Rattle.register.proofs.Looking.{head_within}
 use Rattle.hops.proofs.Hopping.{attests_none, attests_slot, attests_by}

@@ -1,3 +1,4 @@
+-- `hops::hops_from` meets its contract. Assumes nothing.
 use mathlib.Core.Path.{◌≡◌, refl, ◌∙◌}
 use mathlib.Core.Bool.{false}
 use lib.ListN.{drop}

@@ -1,3 +1,4 @@
+-- `hops::list_span` meets its contract. Assumes nothing.
 use mathlib.Core.Path.{sym, ◌∙◌}
 use native.Mathlib.Omega.{arith}
 use Rattle.register.proofs.Looking.{head_within}

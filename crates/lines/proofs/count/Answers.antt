@@ -1,3 +1,4 @@
+-- `lines::count` meets its contract. Assumes nothing.
 use Rattle.lines.proofs.Marks.{counts_space, counts_other, counted}
 use Rattle.lines.proofs.count.Goals as goal
 use Rattle.lines.proofs.count.Goals.{then-line-i-eq32, else-line-i-eq32}

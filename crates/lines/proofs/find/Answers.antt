@@ -1,3 +1,4 @@
+-- `lines::find` meets its contract. Assumes nothing.
 use Rattle.lines.proofs.Marks.{looks_on, found, none_found}
 use Rattle.lines.proofs.find.Goals as goal
 

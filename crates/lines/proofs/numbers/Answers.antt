@@ -1,3 +1,4 @@
+-- `lines::numbers` meets its contract. Assumes nothing.
 use mathlib.Core.Path.{◌∙◌, sym}
 use Rattle.lines.proofs.Lists.{no_number, goes_on, ends}
 use Rattle.lines.proofs.numbers.Goals as goal

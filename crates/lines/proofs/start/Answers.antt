@@ -1,3 +1,4 @@
+-- `lines::start` meets its contract. Assumes nothing.
 use Rattle.lines.proofs.Words.{starts, passes_all, passes}
 use Rattle.lines.proofs.start.Goals as goal
 

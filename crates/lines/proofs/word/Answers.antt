@@ -1,3 +1,4 @@
+-- `lines::word` meets its contract. Assumes nothing.
 use Rattle.lines.proofs.Words.{no_such_word, such_word}
 use Rattle.lines.proofs.word.Goals as goal
 

@@ -1,3 +1,4 @@
+-- `protocol::tables::cut` meets its contract. Assumes nothing.
 use Rattle.protocol.proofs.Holding.{cuts}
 use mathlib.Core.Path.{◌∙◌}
 use Rattle.protocol.proofs.cut.Goals as goal

@@ -1,3 +1,4 @@
+-- `protocol::end_line` meets its contract. Assumes nothing.
 use mathlib.Core.Path.{refl, ap}
 use Rattle.calls.specs.Performing.{Result}
 use Rattle.protocol.specs.Feeding.{command_in, lent_tables, line_in}

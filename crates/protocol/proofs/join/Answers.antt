@@ -1,3 +1,4 @@
+-- `protocol::join` meets its contract. Assumes nothing.
 use Rattle.protocol.proofs.Joining.{joins_none, joins_too_long, joins}
 use Rattle.protocol.proofs.join.Goals as goal
 

@@ -1,3 +1,4 @@
+-- `protocol::perform` meets its contract. Assumes nothing.
 use mathlib.Core.Path.{sym, ◌∙◌}
 use lib.ListN.{take}
 use Rattle.lines.specs.Words.{words_of}

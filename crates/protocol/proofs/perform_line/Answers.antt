@@ -1,3 +1,4 @@
+-- `protocol::perform_line` meets its contract. Assumes nothing.
 use native.Mathlib.Omega.{arith}
 use lib.ListN.{take}
 use Rattle.protocol.proofs.Joining.{command_too_long, command_is}

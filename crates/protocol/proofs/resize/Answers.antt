@@ -1,3 +1,4 @@
+-- `protocol::resize` meets its contract. Assumes nothing.
 use mathlib.Core.Path.{sym, ap, ◌∙◌}
 use lib.ListN.{take}
 use Rattle.calls.proofs.Parsing.{other_count, right_count, number_is, no_number, too_many, not_too_many, does, does_nothing}

@@ -1,3 +1,4 @@
+-- `protocol::resize_named` meets its contract. Assumes nothing.
 use mathlib.Core.Path.{refl, ap}
 use lib.ListN.{take}
 use Rattle.protocol.proofs.Holding.{lends_resized}

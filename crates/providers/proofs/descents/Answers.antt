@@ -1,3 +1,4 @@
+-- `providers::descents` meets its contract. Assumes nothing.
 use native.Mathlib.Omega.{arith}
 use Rattle.providers.proofs.Descending.{no_fall, one_fall, descents_first, descents_on, descents_whole}
 use Rattle.providers.proofs.descents.Goals as goal

@@ -1,3 +1,4 @@
+-- `providers::holds` meets its contract. Assumes nothing.
 use native.Mathlib.Omega.{arith}
 use Rattle.providers.proofs.Halving.{upper, lower, halved}
 use Rattle.providers.proofs.holds.Goals as goal

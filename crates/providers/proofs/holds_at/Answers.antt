@@ -1,3 +1,4 @@
+-- `providers::holds_at` meets its contract. Assumes nothing.
 use Rattle.providers.proofs.Halving.{not_among}
 use Rattle.providers.proofs.holds_at.Goals as goal
 

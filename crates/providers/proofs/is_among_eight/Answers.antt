@@ -1,3 +1,4 @@
+-- `providers::is_among_eight` meets its contract. Assumes nothing.
 use Rattle.providers.proofs.Halving.{eight_are}
 use Rattle.providers.proofs.is_among_eight.Goals as goal
 

@@ -1,3 +1,4 @@
+-- `providers::is_list` meets its contract. Assumes nothing.
 use mathlib.Core.Path.{sym, ◌∙◌}
 use Rattle.providers.proofs.Lists.{list_empty, list_long, list_falls, list_own}
 use Rattle.providers.proofs.is_list.Goals as goal

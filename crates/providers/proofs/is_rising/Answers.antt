@@ -1,3 +1,4 @@
+-- `providers::is_rising` meets its contract. Assumes nothing.
 use Rattle.providers.proofs.Lists.{rises_empty, rises_first, falls, rises_on, rises_whole}
 use Rattle.providers.proofs.is_rising.Goals as goal
 

@@ -1,3 +1,4 @@
+-- `providers::scan` meets its contract. Assumes nothing.
 use native.Mathlib.Omega.{arith}
 use Rattle.providers.proofs.Seeking.{raised, stays, ended}
 use Rattle.providers.proofs.scan.Goals as goal

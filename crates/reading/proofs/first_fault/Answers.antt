@@ -1,3 +1,4 @@
+-- `reading::first_fault` meets its contract. Assumes nothing.
 use mathlib.Core.Path.{refl, sym, ◌∙◌}
 use native.Mathlib.Omega.{arith}
 use Rattle.as_path.specs.Segments.{number_bytes}

@@ -1,3 +1,4 @@
+-- `reading::ground` meets its contract. Assumes nothing.
 use Rattle.as_path.specs.Segments.{number_bytes}
 use Rattle.types.specs.Numbers.{role_number}
 use native.Mathlib.Omega.{arith}

@@ -1,3 +1,4 @@
+-- `reading::has_set` meets its contract. Assumes nothing.
 use native.Mathlib.Omega.{arith}
 use Rattle.as_path.specs.Segments.{number_bytes}
 use Rattle.as_path.proofs.Grounding.{seeks, not_found, here, found, goes_on}

@@ -1,3 +1,4 @@
+-- `reading::is_not_neighbour` meets its contract. Assumes nothing.
 use Rattle.as_path.specs.Segments.{number_bytes}
 use Rattle.types.specs.Numbers.{role_number}
 use mathlib.Core.Path.{sym, ◌∙◌, ap}

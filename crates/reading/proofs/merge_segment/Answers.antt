@@ -1,3 +1,4 @@
+-- `reading::merge_segment` meets its contract. Assumes nothing.
 use Rattle.as_path.specs.Segments.{number_bytes}
 use Rattle.as_path.proofs.Storing.{skips, stores, segment_stored}
 use Rattle.reading.proofs.merge_segment.Goals as goal

@@ -1,3 +1,4 @@
+-- `reading::number_at` meets its contract. Assumes nothing.
 use Rattle.as_path.proofs.Scanning.{four_bytes}
 use Rattle.reading.proofs.number_at.Goals as goal
 

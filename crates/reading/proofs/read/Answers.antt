@@ -1,3 +1,4 @@
+-- `reading::read` meets its contract. Assumes nothing.
 use Rattle.types.specs.Numbers.{role_number}
 use mathlib.Core.Path.{refl, sym, ◌∙◌}
 use Rattle.as_path.proofs.Contents.{content_faulty, content_grounded, content_merged, too_long, short_enough}

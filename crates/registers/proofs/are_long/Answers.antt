@@ -1,3 +1,4 @@
+-- `registers::are_long` meets its contract. Assumes nothing.
 use Rattle.registers.proofs.Choosing.{short_public, by_overrides}
 use Rattle.registers.proofs.are_long.Goals as goal
 

@@ -1,3 +1,4 @@
+-- `registers::are_registers` meets its contract. Assumes nothing.
 use mathlib.Core.Path.{sym, ◌∙◌}
 use Rattle.registers.proofs.Choosing.{malformed_public, formed_by_overrides}
 use Rattle.registers.proofs.are_registers.Goals as goal

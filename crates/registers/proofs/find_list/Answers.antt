@@ -1,3 +1,4 @@
+-- `registers::find_list` meets its contract. Assumes nothing.
 use mathlib.Core.Path.{◌∙◌, ap}
 use Rattle.register.specs.Register.{register_ok}
 use Rattle.registers.specs.Registers.{lent}

@@ -1,3 +1,4 @@
+-- `registers::hop_between` meets its contract. Assumes nothing.
 use Rattle.registers.specs.Registers.{lent}
 use Rattle.registers.proofs.Choosing.{words_ok, words_position, words_hop}
 use Rattle.registers.proofs.hop_between.Goals as goal

@@ -1,3 +1,4 @@
+-- `registers::hops_between` meets its contract. Assumes nothing.
 use Rattle.registers.specs.Registers.{lent}
 use Rattle.registers.proofs.Choosing.{words_ok, words_position, words_hop}
 use Rattle.registers.proofs.hops_between.Goals as goal

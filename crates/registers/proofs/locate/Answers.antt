@@ -1,3 +1,4 @@
+-- `registers::locate` meets its contract. Assumes nothing.
 use Rattle.registers.specs.Registers.{lent}
 use Rattle.registers.proofs.Choosing.{public_ok, overrides_ok}
 use Rattle.registers.proofs.locate.Goals as goal

@@ -1,3 +1,4 @@
+-- `rejudge::rejudge_all` meets its contract. Assumes nothing.
 use native.Mathlib.Omega.{arith}
 use Rattle.register.proofs.Looking.{head_within}
 use Rattle.registers.specs.Registers.{lent}

@@ -1,3 +1,4 @@
+-- `rejudge::rejudge_route` meets its contract. Assumes nothing.
 use Rattle.registers.specs.Registers.{lent, hop_in}
 use Rattle.rejudge.proofs.Rerouting.{grounded, may_judge}
 use Rattle.rejudge.proofs.rejudge_route.Goals as goal

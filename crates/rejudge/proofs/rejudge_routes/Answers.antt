@@ -1,3 +1,4 @@
+-- `rejudge::rejudge_routes` meets its contract. Assumes nothing.
 use Rattle.rejudge.proofs.Turns.{turns, turned_all, may_turn, turns_changed, turns_same}
 use Rattle.rejudge.proofs.rejudge_routes.Goals as goal
 

@@ -1,3 +1,4 @@
+-- `replies::nonzero` meets its contract. Assumes nothing.
 use Rattle.replies.proofs.Trimming.{trims_on, trimmed, all_trimmed}
 use Rattle.replies.proofs.nonzero.Goals as goal
 

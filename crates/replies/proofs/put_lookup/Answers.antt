@@ -1,3 +1,4 @@
+-- `replies::put_lookup` meets its contract. Assumes nothing.
 use Rattle.registers.specs.Registers.{lent}
 use Rattle.replies.proofs.Lookups.{list_room, writes_list}
 use Rattle.replies.proofs.put_lookup.Goals as goal

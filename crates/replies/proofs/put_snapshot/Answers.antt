@@ -1,3 +1,4 @@
+-- `replies::put_snapshot` meets its contract. Assumes nothing.
 use Rattle.calls.specs.Commands.{most_output}
 use Rattle.replies.proofs.Snapshots.{writes_snapshot}
 use Rattle.replies.proofs.put_snapshot.Goals as goal

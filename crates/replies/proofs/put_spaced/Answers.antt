@@ -1,3 +1,4 @@
+-- `replies::put_spaced` meets its contract. Assumes nothing.
 use Rattle.replies.proofs.Spacing.{writes_words}
 use Rattle.replies.proofs.put_spaced.Goals as goal
 

@@ -1,3 +1,4 @@
+-- `restoring::field` meets its contract. Assumes nothing.
 use mathlib.Core.Path.{◌∙◌}
 use Rattle.snapshot.proofs.Copying.{field_at}
 use borrow.Author.Rules.{rules}

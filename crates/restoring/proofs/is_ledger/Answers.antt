@@ -1,3 +1,4 @@
+-- `restoring::is_ledger` meets its contract. Assumes nothing.
 use Rattle.snapshot.proofs.Accepting.{told}
 use Rattle.snapshot.proofs.Padding.{ledger_filled}
 use Rattle.restoring.proofs.is_ledger.Goals as goal

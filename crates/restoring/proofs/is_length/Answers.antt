@@ -1,3 +1,4 @@
+-- `restoring::is_length` meets its contract. Assumes nothing.
 use borrow.Author.Tests.{lt-leb, le-leb, eq-eqb, ne_eqb}
 use Rattle.snapshot.specs.Snapshot.{length_ok}
 use Rattle.restoring.proofs.is_length.Goals as goal

@@ -1,3 +1,4 @@
+-- `restoring::is_register` meets its contract. Assumes nothing.
 use Rattle.snapshot.proofs.Accepting.{told}
 use Rattle.snapshot.proofs.Padding.{register_filled}
 use Rattle.restoring.proofs.is_register.Goals as goal

@@ -1,3 +1,4 @@
+-- `restoring::load` meets its contract. Assumes nothing.
 use Rattle.snapshot.proofs.Accepting.{told, denied}
 use Rattle.snapshot.proofs.Reading.{register_wrong, ledger_wrong, loaded}
 use Rattle.restoring.proofs.load.Goals as goal

@@ -1,3 +1,4 @@
+-- `restoring::read` meets its contract. Assumes nothing.
 use mathlib.Core.Path.{sym, ◌∙◌}
 use Rattle.snapshot.proofs.Reading.{register_length_wrong, ledger_length_wrong, contents_refused}
 use Rattle.restoring.proofs.read.Goals as goal

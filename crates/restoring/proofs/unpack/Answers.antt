@@ -1,3 +1,4 @@
+-- `restoring::unpack` meets its contract. Assumes nothing.
 use native.Mathlib.Omega.{arith}
 use Rattle.snapshot.proofs.Copying.{unpacks_on, unpack_ends}
 use Rattle.restoring.proofs.unpack.Goals as goal

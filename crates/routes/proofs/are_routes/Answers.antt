@@ -1,3 +1,4 @@
+-- `routes::are_routes` meets its contract. Assumes nothing.
 use mathlib.Core.Path.{sym, ◌∙◌}
 use native.Mathlib.Omega.{arith}
 use Rattle.ledger.proofs.Checking.{path_inside}

@@ -1,3 +1,4 @@
+-- `routes::count` meets its contract. Assumes nothing.
 use mathlib.Core.Path.{◌∙◌}
 use native.Mathlib.Omega.{arith}
 use Rattle.ledger.proofs.Looking.{head_within, count_is, few}

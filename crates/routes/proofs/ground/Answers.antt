@@ -1,3 +1,4 @@
+-- `routes::ground` meets its contract. Assumes nothing.
 use native.Mathlib.Omega.{arith}
 use Rattle.ledger.proofs.Entries.{ground_is}
 use Rattle.routes.proofs.Stamping.{slot_in}

@@ -1,3 +1,4 @@
+-- `routes::has_no_runs` meets its contract. Assumes nothing.
 use Rattle.routes.proofs.Paths.{compares, run_there, runs_on, runs_none}
 use Rattle.routes.proofs.has_no_runs.Goals as goal
 

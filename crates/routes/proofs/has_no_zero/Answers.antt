@@ -1,3 +1,4 @@
+-- `routes::has_no_zero` meets its contract. Assumes nothing.
 use Rattle.routes.proofs.Paths.{zero_there, zeros_on, zeros_none}
 use Rattle.routes.proofs.has_no_zero.Goals as goal
 

@@ -1,3 +1,4 @@
+-- `routes::is_behind` meets its contract. Assumes nothing.
 use native.Mathlib.Omega.{arith}
 use Rattle.routes.proofs.Checking.{first_behind, behind_in, next_behind}
 use Rattle.routes.proofs.is_behind.Goals as goal

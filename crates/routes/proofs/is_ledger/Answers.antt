@@ -1,3 +1,4 @@
+-- `routes::is_ledger` meets its contract. Assumes nothing.
 use mathlib.Core.Path.{sym, ◌∙◌}
 use native.Mathlib.Omega.{arith}
 use Rattle.table.proofs.Exact.{passes_sound}

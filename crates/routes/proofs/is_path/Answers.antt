@@ -1,3 +1,4 @@
+-- `routes::is_path` meets its contract. Assumes nothing.
 use mathlib.Core.Path.{sym, ◌∙◌}
 use Rattle.ledger.proofs.Paths.{path_empty, path_long, path_zero, path_run, path_first}
 use Rattle.routes.proofs.is_path.Goals as goal

@@ -1,3 +1,4 @@
+-- `routes::is_route` meets its contract. Assumes nothing.
 use mathlib.Core.Path.{◌∙◌}
 use native.Mathlib.Omega.{arith}
 use Rattle.ledger.proofs.Checking.{slot_inside, path_inside, out_of_range, by_path, by_ground}

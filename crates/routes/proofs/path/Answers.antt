@@ -1,3 +1,4 @@
+-- `routes::path` meets its contract. Assumes nothing.
 use native.Mathlib.Omega.{arith}
 use Rattle.routes.proofs.Accessing.{its_part}
 use Rattle.ledger.proofs.Checking.{path_inside, part_is}

@@ -1,3 +1,4 @@
+-- `routes::path_words` meets its contract. Assumes nothing.
 use mathlib.Core.Path.{◌∙◌}
 use native.Mathlib.Omega.{arith}
 use Rattle.ledger.proofs.Entries.{path_count}

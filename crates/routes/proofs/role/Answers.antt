@@ -1,3 +1,4 @@
+-- `routes::role` meets its contract. Assumes nothing.
 use mathlib.Core.Path.{sym, ◌∙◌}
 use native.Mathlib.Omega.{arith}
 use Rattle.routes.proofs.Accessing.{no_role, its_role}

@@ -1,3 +1,4 @@
+-- `routes::stamp` meets its contract. Assumes nothing.
 use lib.ListN.{length-set}
 use native.Mathlib.Omega.{arith}
 use Rattle.routes.proofs.Stamping.{slot_in, stamped_effect}

@@ -1,3 +1,4 @@
+-- `words::copy_down` meets its contract. The invariant: what is left to do makes of the slice what was to be made of it at the start. Assumes nothing.
 use mathlib.Core.Path.{◌≡◌, sym, ap, ◌∙◌}
 use Prim.Native.Nat.{ℕ, suc, ◌+◌, ◌-◌}
 use native.Mathlib.Omega.{arith}

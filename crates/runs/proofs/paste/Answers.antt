@@ -1,3 +1,4 @@
+-- `words::paste` meets its contract: the laws of `lib.Seq`'s `paste`. Assumes nothing.
 use mathlib.Core.Path.{sym, ap, ◌∙◌}
 use mathlib.Core.List.{List}
 use Prim.Native.Nat.{ℕ, ◌+◌}

@@ -1,3 +1,4 @@
+-- `words::splice` meets its contract: what `open_room` and `paste` ensure, one after the other. Assumes nothing.
 use mathlib.Core.Path.{ap, ◌∙◌}
 use mathlib.Core.List.{List}
 use Prim.Native.Nat.{ℕ}

@@ -1,3 +1,4 @@
+-- `words::zero` meets its contract. The invariant: what is left to do makes of the slice what was to be made of it at the start. Assumes nothing.
 use mathlib.Core.Path.{sym, ◌∙◌}
 use native.Mathlib.Omega.{arith}
 use lib.ListN.{length-set}

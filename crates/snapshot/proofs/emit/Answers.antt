@@ -1,3 +1,4 @@
+-- `snapshot::emit` meets its contract. Assumes nothing.
 use mathlib.Core.Path.{sym}
 use native.Mathlib.Omega.{arith}
 use Rattle.snapshot.proofs.Writing.{bounds, room_first, room_second, emitted}

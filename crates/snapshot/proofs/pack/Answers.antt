@@ -1,3 +1,4 @@
+-- `snapshot::pack` meets its contract. Assumes nothing.
 use Rattle.snapshot.proofs.Copying.{packs_on, pack_ends}
 use Rattle.snapshot.proofs.pack.Goals as goal
 

@@ -1,3 +1,4 @@
+-- `snapshot::put` meets its contract. Assumes nothing.
 use Rattle.snapshot.proofs.Copying.{put_four}
 use Rattle.snapshot.proofs.put.Goals as goal
 

@@ -1,3 +1,4 @@
+-- `snapshot::write` meets its contract. Assumes nothing.
 use mathlib.Core.Path.{sym, ◌∙◌}
 use Rattle.snapshot.proofs.Padding.{register_filled, ledger_filled}
 use Rattle.snapshot.proofs.Writing.{tables, register_length_wrong, ledger_length_wrong, register_wrong, ledger_wrong, short, writable, written_whole}

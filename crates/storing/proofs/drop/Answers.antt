@@ -1,3 +1,4 @@
+-- `storing::drop` meets its contract. Assumes nothing.
 use mathlib.Core.Path.{sym, ◌∙◌}
 use Rattle.ledger.proofs.Storing.{drop-length, drop_malformed, drop_none, drop_goes, drop_done}
 use Rattle.storing.proofs.drop.Goals as goal

@@ -1,3 +1,4 @@
+-- `storing::find` meets its contract. Assumes nothing.
 use native.Mathlib.Omega.{arith}
 use Rattle.ledger.proofs.Looking.{begins}
 use Rattle.storing.proofs.find.Goals as goal

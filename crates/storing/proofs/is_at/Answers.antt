@@ -1,3 +1,4 @@
+-- `storing::is_at` meets its contract. Assumes nothing.
 use native.Mathlib.Omega.{arith}
 use Rattle.ledger.proofs.Looking.{head_within, past, there_in, there}
 use Rattle.storing.proofs.is_at.Goals as goal

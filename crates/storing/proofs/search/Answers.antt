@@ -1,3 +1,4 @@
+-- `storing::search` meets its contract. Assumes nothing.
 use native.Mathlib.Omega.{arith}
 use Rattle.halves.proofs.Searches.{searchable}
 use Rattle.ledger.specs.Routes.{route_head, route_tail}

@@ -1,3 +1,4 @@
+-- `storing::store` meets its contract. Assumes nothing.
 use mathlib.Core.Path.{sym, ◌∙◌}
 use Rattle.ledger.specs.Calls.{route_for}
 use Rattle.types.specs.Numbers.{role_number}

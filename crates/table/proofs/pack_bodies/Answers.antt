@@ -1,3 +1,4 @@
+-- `table::pack_bodies` meets its contract. The invariant is `Packed`: the entries from i on are left to do. Assumes nothing.
 use native.Mathlib.Omega.{arith}
 use Rattle.table.proofs.Staying.{packed, pack_room, pack_fits, pack_in, pack_out, pack_done}
 use Rattle.table.proofs.pack_bodies.Goals as goal

@@ -1,3 +1,4 @@
+-- `table::pack_slots` meets its contract. The invariant is `Thinned`: the slots from i on are left to do. Assumes nothing.
 use native.Mathlib.Omega.{arith}
 use Rattle.table.proofs.Clearing.{thin_counts, thin_in, thin_out, thin_done}
 use Rattle.table.proofs.pack_slots.Goals as goal

@@ -1,3 +1,4 @@
+-- `table::put_slot` meets its contract: the gap is written over with the head, the start, the count and the tail. Assumes nothing.
 use mathlib.Core.Path.{ap, ◌∙◌}
 use mathlib.Core.List.{List}
 use Prim.Native.Nat.{ℕ, ◌+◌}

@@ -1,3 +1,5 @@
+-- `table::restart` meets its contract. The invariant: what is left to do makes of the slice what was to be made of it at the start.
+-- Assumes nothing.
 use mathlib.Core.Path.{sym, ◌∙◌}
 use Prim.Native.Nat.{◌+◌, ◌≤◌}
 use native.Mathlib.Omega.{arith}

@@ -1,3 +1,4 @@
+-- `table::start_of` meets its contract. Assumes nothing.
 use mathlib.Core.Path.{◌∙◌}
 use Prim.Native.Nat.{◌+◌, ◌*◌, ◌≤◌, ◌<◌}
 use native.Mathlib.Omega.{arith}
@@ -8,31 +9,31 @@ use Rattle.table.proofs.start_of.Goals as goal
 
 pub overflow_add-h : goal.overflow_add-h
 overflow_add-h c =
-    let less : (c).args.i < length (decode (c).args.h (c).args.t (c).args.s.now) = omega (arith, count_is (c).args.h (c).args.t (c).args.s.now (c).requires.0) in
-    let slot : counters + (c).args.i * width (c).args.h (c).args.t + width (c).args.h (c).args.t ≤ length (c).args.s.now = in_slot (c).args.h (c).args.t (c).args.s.now (c).requires.0 (c).args.i (less) in
+    let less : c.args.i < length (decode c.args.h c.args.t c.args.s.now) = omega (arith, count_is c.args.h c.args.t c.args.s.now c.requires.0) in
+    let slot : counters + c.args.i * width c.args.h c.args.t + width c.args.h c.args.t ≤ length c.args.s.now = in_slot c.args.h c.args.t c.args.s.now c.requires.0 c.args.i (less) in
     omega (arith, slot)
 
 pub overflow_add-h-then-i-word : goal.overflow_add-h-then-i-word
 overflow_add-h-then-i-word c =
-    let less : (c).args.i < length (decode (c).args.h (c).args.t (c).args.s.now) = omega (arith, count_is (c).args.h (c).args.t (c).args.s.now (c).requires.0) in
-    let slot : counters + (c).args.i * width (c).args.h (c).args.t + width (c).args.h (c).args.t ≤ length (c).args.s.now = in_slot (c).args.h (c).args.t (c).args.s.now (c).requires.0 (c).args.i (less) in
+    let less : c.args.i < length (decode c.args.h c.args.t c.args.s.now) = omega (arith, count_is c.args.h c.args.t c.args.s.now c.requires.0) in
+    let slot : counters + c.args.i * width c.args.h c.args.t + width c.args.h c.args.t ≤ length c.args.s.now = in_slot c.args.h c.args.t c.args.s.now c.requires.0 c.args.i (less) in
     omega (arith, slot)
 
 pub overflow_add-i-then-i-word : goal.overflow_add-i-then-i-word
 overflow_add-i-then-i-word c =
-    let less : (c).args.i < length (decode (c).args.h (c).args.t (c).args.s.now) = omega (arith, count_is (c).args.h (c).args.t (c).args.s.now (c).requires.0) in
-    let slot : counters + (c).args.i * width (c).args.h (c).args.t + width (c).args.h (c).args.t ≤ length (c).args.s.now = in_slot (c).args.h (c).args.t (c).args.s.now (c).requires.0 (c).args.i (less) in
+    let less : c.args.i < length (decode c.args.h c.args.t c.args.s.now) = omega (arith, count_is c.args.h c.args.t c.args.s.now c.requires.0) in
+    let slot : counters + c.args.i * width c.args.h c.args.t + width c.args.h c.args.t ≤ length c.args.s.now = in_slot c.args.h c.args.t c.args.s.now c.requires.0 c.args.i (less) in
     omega (arith, slot)
 
 pub word-requires-then-i-word : goal.word-requires-then-i-word
 word-requires-then-i-word c =
-    let less : (c).args.i < length (decode (c).args.h (c).args.t (c).args.s.now) = omega (arith, count_is (c).args.h (c).args.t (c).args.s.now (c).requires.0) in
-    let slot : counters + (c).args.i * width (c).args.h (c).args.t + width (c).args.h (c).args.t ≤ length (c).args.s.now = in_slot (c).args.h (c).args.t (c).args.s.now (c).requires.0 (c).args.i (less) in
+    let less : c.args.i < length (decode c.args.h c.args.t c.args.s.now) = omega (arith, count_is c.args.h c.args.t c.args.s.now c.requires.0) in
+    let slot : counters + c.args.i * width c.args.h c.args.t + width c.args.h c.args.t ≤ length c.args.s.now = in_slot c.args.h c.args.t c.args.s.now c.requires.0 c.args.i (less) in
     omega (arith, slot)
 
 pub returns-then-i-word : goal.returns-then-i-word
 returns-then-i-word c =
-    let less : (c).args.i < length (decode (c).args.h (c).args.t (c).args.s.now) = omega (arith, count_is (c).args.h (c).args.t (c).args.s.now (c).requires.0) in
+    let less : c.args.i < length (decode c.args.h c.args.t c.args.s.now) = omega (arith, count_is c.args.h c.args.t c.args.s.now c.requires.0) in
     let a = c.args in
     c.word-then-i-word.ensures.0 ∙ start_is a.h a.t a.s.now c.requires.0 a.i (less)
 

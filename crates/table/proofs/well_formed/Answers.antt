@@ -1,3 +1,4 @@
+-- `table::well_formed` meets its contract. Assumes nothing.
 use mathlib.Core.Path.{sym, ◌∙◌}
 use native.Mathlib.Omega.{arith}
 use Rattle.table.proofs.Checking.{wf_short, wf_long, wf_slots, wf_zeros}

@@ -1,3 +1,4 @@
+-- `table::zeros_from` meets its contract. Assumes nothing.
 use Rattle.table.proofs.Checking.{zero_no, zero_step, zero_done}
 use Rattle.table.proofs.zeros_from.Goals as goal
 

@@ -1,3 +1,4 @@
+-- `text::hex_value` meets its contract. Assumes nothing.
 use Rattle.text.proofs.Pairs.{low, decimal, between, letter, high}
 use borrow.Author.Rules.{rules}
 use Rattle.text.proofs.hex_value.Goals as goal

@@ -1,3 +1,4 @@
+-- `text::pair_value` meets its contract. Assumes nothing.
 use Rattle.text.proofs.Pairs.{no_first, no_second, both}
 use borrow.Author.Rules.{rules}
 use Rattle.text.proofs.pair_value.Goals as goal

@@ -1,3 +1,4 @@
+-- `text::put` meets its contract. Assumes nothing.
 use Prim.Native.Nat.{◌-◌}
 use lib.ListN.{length}
 use Rattle.text.proofs.Words.{Putting}

@@ -1,3 +1,4 @@
+-- `text::put_hex` meets its contract. Assumes nothing.
 use Rattle.text.proofs.HexTexts.{puts_on, are_put}
 use Rattle.text.proofs.put_hex.Goals as goal
 

@@ -1,3 +1,4 @@
+-- `text::read_hex` meets its contract. Assumes nothing.
 use native.Mathlib.Omega.{arith}
 use Rattle.text.proofs.Pairs.{alone, no_byte, goes_on, ends}
 use Rattle.text.proofs.read_hex.Goals as goal

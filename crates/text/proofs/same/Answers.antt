@@ -1,3 +1,4 @@
+-- `text::same` meets its contract. Assumes nothing.
 use Rattle.text.proofs.Words.{other_length, differs, agrees, all_same}
 use Rattle.text.proofs.same.Goals as goal
 

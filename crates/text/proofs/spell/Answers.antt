@@ -1,3 +1,4 @@
+-- `text::spell` meets its contract. Assumes nothing.
 use Rattle.text.proofs.Spelling.{is_last, goes_on, no_room}
 use Rattle.text.proofs.spell.Goals as goal
 

@@ -1,3 +1,4 @@
+-- `text::value` meets its contract. Assumes nothing.
 use Rattle.text.proofs.Digits.{below, above, past, goes_on, ends}
 use Rattle.text.proofs.value.Goals as goal
 

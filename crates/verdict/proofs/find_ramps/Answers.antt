@@ -1,3 +1,4 @@
+-- `verdict::find_ramps` meets its contract. Assumes nothing.
 use mathlib.Core.Path.{sym, ◌∙◌, ap}
 use native.Mathlib.Omega.{arith}
 use Rattle.register.proofs.Looking.{head_within}

@@ -1,3 +1,4 @@
+-- `verdict::ramps_alone` meets its contract. Assumes nothing.
 use Rattle.verdict.proofs.Passing.{passes, passes_on, passed}
 use Rattle.verdict.proofs.ramps_alone.Goals as goal
 

@@ -1,3 +1,4 @@
+-- `verdict::upstream` meets its contract. Assumes nothing.
 use mathlib.Core.Path.{sym, ◌∙◌, ap}
 use native.Mathlib.Omega.{arith}
 use Rattle.rules.specs.Verdicts.{upstream}

@@ -1,3 +1,4 @@
+-- `commands::choice::named` meets its contract. Assumes nothing.
 use mathlib.Core.Path.{sym, ◌∙◌}
 use Rattle.lines.specs.Words.{word_at}
 use Rattle.commands.proofs.Choosing.{names_register, names_overrides, names_ledger, names_neither}

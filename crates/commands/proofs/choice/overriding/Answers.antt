@@ -1,3 +1,4 @@
+-- `commands::choice::overriding` meets its contract. Assumes nothing.
 use mathlib.Core.Path.{sym, ◌∙◌}
 use Rattle.lines.specs.Words.{words_of}
 use Rattle.commands.proofs.Choosing.{is_dfile, is_dwithdraw, is_dclear, is_ask}

@@ -1,3 +1,4 @@
+-- `commands::choice::poke` meets its contract. Assumes nothing.
 use mathlib.Core.Path.{refl, sym, ap, ◌∙◌}
 use Rattle.calls.proofs.Parsing.{other_count, right_count, number_is, no_number, does, does_nothing}
 use Rattle.calls.specs.Performing.{result_of}

@@ -1,3 +1,4 @@
+-- `commands::choice::route` meets its contract. Assumes nothing.
 use mathlib.Core.Path.{sym, ◌∙◌}
 use Rattle.lines.specs.Words.{words_of}
 use Rattle.commands.proofs.Choosing.{is_keep, is_drop, is_rejudge, is_snapshot}

@@ -1,3 +1,4 @@
+-- `commands::choice::run` meets its contract. Assumes nothing.
 use mathlib.Core.Path.{sym, ◌∙◌}
 use Rattle.lines.specs.Words.{words_of}
 use Rattle.commands.proofs.Choosing.{is_file, is_withdraw, is_clear, is_judge, is_route}

@@ -1,3 +1,4 @@
+-- `commands::choice::snapshot` meets its contract. Assumes nothing.
 use mathlib.Core.Path.{sym, ◌∙◌}
 use Rattle.lines.specs.Words.{words_of}
 use Rattle.commands.proofs.Choosing.{is_read, is_write, is_overriding}

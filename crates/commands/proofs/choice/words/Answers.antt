@@ -1,3 +1,4 @@
+-- `commands::choice::words` meets its contract. Assumes nothing.
 use mathlib.Core.Path.{sym, ◌∙◌}
 use Rattle.calls.proofs.Parsing.{other_count, right_count, does, does_nothing}
 use Rattle.calls.specs.declared.Reply.TheVariants as reply

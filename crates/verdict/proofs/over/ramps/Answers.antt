@@ -1,3 +1,4 @@
+-- `verdict::over::ramps` meets its contract. Assumes nothing.
 use Rattle.verdict.proofs.Passing.{passes, passes_on, passed}
 use Rattle.verdict.proofs.over.ramps.Goals as goal
 

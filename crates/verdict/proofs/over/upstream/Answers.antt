@@ -1,3 +1,4 @@
+-- `verdict::over::upstream` meets its contract. Assumes nothing.
 use mathlib.Core.Path.{sym, ◌∙◌}
 use Rattle.verdict.proofs.Rising.{rises_refused, rises_on, risen_unknown, risen_valid}
 use Rattle.verdict.proofs.over.upstream.Goals as goal
