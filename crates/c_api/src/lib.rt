@@ -16,8 +16,7 @@ use told::{ANSWER_WORDS, HOP_WORDS, PART_WORDS};
 use types::{AsNumber, RouteNumber};
 
 // File: out[0] is 0 for new, 1 for replaced, NOT_FILED on a refusal. Rows 1, 2, 4, 5, 6, 8.
-#[unsafe(no_mangle)]
-pub extern "C" fn aspa_file(
+pub fn aspa_file(
     register: &mut [u32],
     source: u32,
     customer: u32,
@@ -34,16 +33,14 @@ pub extern "C" fn aspa_file(
 }
 
 // Withdraw. Rows 1, 2, 4, 5, 7.
-#[unsafe(no_mangle)]
-pub extern "C" fn aspa_withdraw(register: &mut [u32], source: u32, customer: u32) -> u32
+pub fn aspa_withdraw(register: &mut [u32], source: u32, customer: u32) -> u32
     ensures { effect result register.new ≡ telling removal_told (withdraw_effect register.old source customer) }
 {
     told::tell_removal(filter::withdraw(register, source, AsNumber(customer)))
 }
 
 // Clear: out[0] is how many records went, NO_COUNT on a refusal. Rows 1, 2, 4.
-#[unsafe(no_mangle)]
-pub extern "C" fn aspa_clear(register: &mut [u32], source: u32, out: &mut [u32; 1]) -> u32
+pub fn aspa_clear(register: &mut [u32], source: u32, out: &mut [u32; 1]) -> u32
     ensures { effect (told result out.new) register.new
         ≡ telling cleared_told (clear_effect register.old source) }
 {
@@ -51,8 +48,7 @@ pub extern "C" fn aspa_clear(register: &mut [u32], source: u32, out: &mut [u32; 
 }
 
 // Judge: the answer's words in out, the gap beside them; NO_VERDICT and the place on a refusal. Rows 1, 2, 9, 10, 11, 12 to 16, 17.
-#[unsafe(no_mangle)]
-pub extern "C" fn aspa_judge<'a>(
+pub fn aspa_judge<'a>(
     public: &'a [u32],
     overrides: &'a [u32],
     role: u32,
@@ -72,8 +68,7 @@ pub extern "C" fn aspa_judge<'a>(
 }
 
 // Keep: answers as Judge, and stores the route. Rows 1, 2, 3, 9, 10, 11, 12 to 16, 17, 18, 20.
-#[unsafe(no_mangle)]
-pub extern "C" fn aspa_keep<'a>(
+pub fn aspa_keep<'a>(
     public: &'a [u32],
     overrides: &'a [u32],
     ledger: &mut [u32],
@@ -104,16 +99,14 @@ pub extern "C" fn aspa_keep<'a>(
 }
 
 // Drop. Rows 1, 3, 19.
-#[unsafe(no_mangle)]
-pub extern "C" fn aspa_drop(ledger: &mut [u32], number: u32) -> u32
+pub fn aspa_drop(ledger: &mut [u32], number: u32) -> u32
     ensures { effect result ledger.new ≡ telling removal_told (drop_effect ledger.old number) }
 {
     told::tell_removal(filter::drop(ledger, RouteNumber(number)))
 }
 
 // Re-judge: out[0] is how many routes changed, NO_COUNT on a refusal. Rows 1, 2, 3.
-#[unsafe(no_mangle)]
-pub extern "C" fn aspa_rejudge<'a>(
+pub fn aspa_rejudge<'a>(
     public: &'a [u32],
     overrides: &'a [u32],
     ledger: &mut [u32],
@@ -126,8 +119,7 @@ pub extern "C" fn aspa_rejudge<'a>(
 }
 
 // Hop: out is the hop, the number of its register and its source; NO_HOP on a refusal. Rows 1, 2.
-#[unsafe(no_mangle)]
-pub extern "C" fn aspa_hop<'a>(
+pub fn aspa_hop<'a>(
     public: &'a [u32],
     overrides: &'a [u32],
     x: u32,
@@ -144,8 +136,7 @@ pub extern "C" fn aspa_hop<'a>(
 
 // Look-up: out is the number of the register that the source's list for the customer stands in, where it starts there and how many numbers it has;
 // all 0 where there is none, or where row 1, 2, 4 or 5 is given.
-#[unsafe(no_mangle)]
-pub extern "C" fn aspa_lookup<'a>(
+pub fn aspa_lookup<'a>(
     public: &'a [u32],
     overrides: &'a [u32],
     source: u32,
@@ -161,13 +152,7 @@ pub extern "C" fn aspa_lookup<'a>(
 }
 
 // Write: the file of the register and the ledger goes to the start of the output. out[0] is its length in bytes, NO_BYTES on a refusal. Rows 1, 2, 3, 21.
-#[unsafe(no_mangle)]
-pub extern "C" fn aspa_write(
-    register: &[u32],
-    ledger: &[u32],
-    output: &mut [u8],
-    out: &mut [u32; 1],
-) -> u32
+pub fn aspa_write(register: &[u32], ledger: &[u32], output: &mut [u8], out: &mut [u32; 1]) -> u32
     ensures { effect (told result out.new) output.new
         ≡ telling written_told (write_effect register.now ledger.now output.old) }
 {
@@ -175,8 +160,7 @@ pub extern "C" fn aspa_write(
 }
 
 // Read: both tables get the words of the file. Rows 1, 24 of a file under 20 bytes, 22, 23, 24, 2, 3.
-#[unsafe(no_mangle)]
-pub extern "C" fn aspa_read(file: &[u8], register: &mut [u32], ledger: &mut [u32]) -> u32
+pub fn aspa_read(file: &[u8], register: &mut [u32], ledger: &mut [u32]) -> u32
     ensures { told_tables result register.new ledger.new
         ≡ reading_told (read_effect file.now register.old ledger.old) }
 {
