@@ -1,5 +1,5 @@
 -- The answers as the console writes them ("The console").
-use Rattle.std.specs.Prelude.{ℕ, List, [], ◌∷◌, ◌++◌, take}
+use Rattle.std.specs.Prelude.{ℕ, List, [], ◌∷◌, ◌++◌, take, Err, None, Ok, Option, Result, Some}
 use Rattle.types.specs.declared.Answer.{Answer}
 use Rattle.types.specs.declared.Answer.TheVariants.{Plain, WithGap}
 use Rattle.types.specs.declared.Origin.{Origin}
@@ -13,28 +13,12 @@ use Rattle.types.specs.declared.Cause.TheVariants.{ByGround, ByHops}
 use Rattle.types.specs.declared.Verdict.{Verdict}
 use Rattle.types.specs.declared.Verdict.TheVariants.{Valid, Invalid, Unknown}
 use Rattle.types.specs.declared.Refusal.{Refusal}
-use Rattle.types.specs.declared.Place.{Place}
-use Rattle.types.specs.declared.Place.TheVariants.{Nowhere, Byte}
-use Rattle.types.specs.declared.Hopped.{Hopped}
-use Rattle.types.specs.declared.Hopped.TheVariants as hopped
-use Rattle.types.specs.declared.Filed.{Filed}
-use Rattle.types.specs.declared.Filed.TheVariants as filed
-use Rattle.types.specs.declared.Removal.{Removal}
-use Rattle.types.specs.declared.Removal.TheVariants as removal
-use Rattle.types.specs.declared.Cleared.{Cleared}
-use Rattle.types.specs.declared.Cleared.TheVariants as cleared
-use Rattle.types.specs.declared.Judged.{Judged}
-use Rattle.types.specs.declared.Judged.TheVariants as judged
-use Rattle.types.specs.declared.Rejudged.{Rejudged}
-use Rattle.types.specs.declared.Rejudged.TheVariants as rejudged
-use Rattle.types.specs.declared.Written.{Written}
-use Rattle.types.specs.declared.Written.TheVariants as written
-use Rattle.types.specs.declared.Restored.{Restored}
-use Rattle.types.specs.declared.Restored.TheVariants as restored
 use Rattle.types.specs.Numbers.{ground_number, refusal_number, refusal_place}
 use Rattle.text.specs.Ascii.{ascii}
 use Rattle.text.specs.Numbers.{decimal_of, signed_of}
 use Rattle.text.specs.Bytes.{hex_text}
+use Rattle.types.specs.declared.Filed.{Filed}
+use Rattle.types.specs.declared.Filed.TheVariants.{New, Replaced}
 
 -- Bytes that are room enough for the text of a verdict, and of an answer.
 abbrev pub verdict_room : ℕ
@@ -74,58 +58,60 @@ answer_text (WithGap v g) = verdict_text v ++ (ascii " gap " ++ signed_of g)
 
 -- ---- refusals: rows 12 to 16 have a place
 
-abbrev pub place_text : Place → List ℕ
-place_text Nowhere = []
-place_text (Byte p) = ascii " at " ++ decimal_of p
+abbrev pub place_text : Option ℕ → List ℕ
+place_text None = []
+place_text (Some p) = ascii " at " ++ decimal_of p
 
 abbrev pub refusal_text : Refusal → List ℕ
 refusal_text r = (ascii "refused " ++ decimal_of (refusal_number r)) ++ place_text (refusal_place r)
 
 -- ---- the answers of the calls
 
-abbrev pub judged_text : Judged → List ℕ
-judged_text (judged.Answered a) = answer_text a
-judged_text (judged.Refused r) = refusal_text r
+-- Of a refusal where there is one.
+abbrev pub result_text : {A : Type 0} → (A → List ℕ) → Result A Refusal → List ℕ
+result_text text (Ok x) = text x
+result_text text (Err r) = refusal_text r
+
+abbrev pub judged_text : Result Answer Refusal → List ℕ
+judged_text = result_text answer_text
 
 abbrev pub hop_text : Hop → List ℕ
 hop_text NoAttestation = ascii "none"
 hop_text (ProviderPlus o source) = (ascii "provider " ++ origin_text o) ++ (ascii " " ++ decimal_of source)
 hop_text (NotProviderPlus o) = ascii "other " ++ origin_text o
 
-abbrev pub hopped_text : Hopped → List ℕ
-hopped_text (hopped.Answered h) = hop_text h
-hopped_text (hopped.Refused r) = refusal_text r
+abbrev pub hopped_text : Result Hop Refusal → List ℕ
+hopped_text = result_text hop_text
 
-abbrev pub filed_text : Filed → List ℕ
-filed_text filed.New = ascii "new"
-filed_text filed.Replaced = ascii "replaced"
-filed_text (filed.Refused r) = refusal_text r
+abbrev pub filing_text : Filed → List ℕ
+filing_text New = ascii "new"
+filing_text Replaced = ascii "replaced"
 
-abbrev pub removal_text : Removal → List ℕ
-removal_text removal.Done = ascii "done"
-removal_text (removal.Refused r) = refusal_text r
+abbrev pub filed_text : Result Filed Refusal → List ℕ
+filed_text = result_text filing_text
 
-abbrev pub cleared_text : Cleared → List ℕ
-cleared_text (cleared.Gone n) = ascii "cleared " ++ decimal_of n
-cleared_text (cleared.Refused r) = refusal_text r
+-- Of Remove and Restore.
+abbrev pub done_text : Result Unit Refusal → List ℕ
+done_text = result_text (λ u. ascii "done")
 
-abbrev pub rejudged_text : Rejudged → List ℕ
-rejudged_text (rejudged.Changed n) = ascii "changed " ++ decimal_of n
-rejudged_text (rejudged.Refused r) = refusal_text r
+-- What is counted: a word and how many.
+abbrev pub counted_text : List ℕ → Result ℕ Refusal → List ℕ
+counted_text word = result_text (λ n. word ++ decimal_of n)
+
+abbrev pub cleared_text : Result ℕ Refusal → List ℕ
+cleared_text = counted_text (ascii "cleared ")
+
+abbrev pub rejudged_text : Result ℕ Refusal → List ℕ
+rejudged_text = counted_text (ascii "changed ")
 
 -- ---- snapshots
-
-abbrev pub restored_text : Restored → List ℕ
-restored_text restored.Done = ascii "done"
-restored_text (restored.Refused r) = refusal_text r
 
 -- A file of n bytes, which stand at the start of an output.
 abbrev pub file_text : ℕ → List ℕ → List ℕ
 file_text n output = (ascii "written " ++ decimal_of n) ++ (ascii " " ++ hex_text (take n output))
 
-abbrev pub written_text : List ℕ → Written → List ℕ
-written_text output (written.Bytes n) = file_text n output
-written_text output (written.Refused r) = refusal_text r
+abbrev pub written_text : List ℕ → Result ℕ Refusal → List ℕ
+written_text output = result_text (λ n. file_text n output)
 
 -- ---- words of a table
 

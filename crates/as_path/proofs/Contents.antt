@@ -4,54 +4,30 @@ use mathlib.Core.Path.{◌≡◌, refl, ◌∙◌, ap}
 use mathlib.Core.Bool.{Bool, true, false}
 use mathlib.Core.List.{List}
 use native.Mathlib.Omega.{arith}
-use borrow.Author.Tests.{lt-ltb, le-ltb, ltb-true, ltb-false}
+use borrow.Author.Tests.{ltb-true, ltb-false}
 use lib.Dec.{ltb}
 use lib.ListN.{length}
 use Rattle.types.specs.declared.Ground.{Ground}
 use Rattle.types.specs.declared.Fault.{Fault}
-use Rattle.types.specs.declared.Refusal.TheVariants.{PathLength}
-use Rattle.as_path.specs.declared.Reading.TheVariants.{Path, Refused}
-use Rattle.as_path.specs.declared.Scan.{Scan}
-use Rattle.as_path.specs.declared.Scan.TheVariants.{Clean, Faulty}
 use Rattle.types.specs.declared.Ground.TheVariants.{Empty}
 use Rattle.types.proofs.Clashes.{clash}
-use Rattle.as_path.specs.declared.Grounded.{Grounded}
-use Rattle.as_path.specs.declared.Grounded.TheVariants.{By, Not}
 use Rattle.as_path.specs.Segments.{number_bytes, segments}
 use Rattle.as_path.specs.Faults.{first_fault}
 use Rattle.as_path.specs.Grounds.{ground_of}
 use Rattle.as_path.specs.Merging.{merged_path}
-use Rattle.as_path.specs.Reading.{most_numbers, faulty, grounded, merged, after_ground, after_scan, content_of, reading_of}
-use Rattle.as_path.specs.Helpers.{Stored}
+use Rattle.as_path.specs.Reading.{faulty, grounded, merged, after_ground, after_scan, content_of}
 use Rattle.as_path.proofs.Grounding.{ground_empty}
+use Rattle.std.specs.Prelude.{Option, Some, None}
 
-module _ (role : ℕ) (neighbour : ℕ) (xs : List ℕ) where
-  pub content_faulty : {f : Fault} {p : ℕ} → first_fault number_bytes xs ≡ Faulty f p → content_of role neighbour xs ≡ faulty f p
-  unfolding content_of
-  content_faulty e = rw e
-
-  module _ (e : first_fault number_bytes xs ≡ Clean) where
-    pub content_grounded : {g : Ground} → ground_of role neighbour (segments number_bytes xs) ≡ By g → content_of role neighbour xs ≡ grounded g
-    unfolding content_of
-    content_grounded e' = rw (e, e')
-
-    pub content_merged : ground_of role neighbour (segments number_bytes xs) ≡ Not → content_of role neighbour xs ≡ merged (merged_path (segments number_bytes xs))
-    unfolding content_of
-    content_merged e' = rw (e, e')
-
--- How many numbers a merged path has decides row 17.
-module _ {before l after : List ℕ} {n : ℕ} (s : Stored before 0 l after n) where
-  pub too_long : most_numbers < n → Refused PathLength ≡ reading_of (merged l)
-  too_long h = rw (lt-ltb most_numbers (length l) (omega (arith, s.index)))
-
-  pub short_enough : n ≤ most_numbers → Path n ≡ reading_of (merged l)
-  short_enough h =
-      let e' : n ≡ length l = omega (arith, s.index) in
-      rw (e', le-ltb most_numbers (length l) (omega arith))
+pub content_merged :
+    (role neighbour : ℕ) (xs : List ℕ) → first_fault number_bytes xs ≡ None → ground_of role neighbour (segments number_bytes xs) ≡ None
+    → content_of role neighbour xs ≡ merged (merged_path (segments number_bytes xs))
+unfolding content_of
+content_merged role neighbour xs e e' = rw (e, e')
 
 -- What a merged path shows: no fault, at least a byte, and which path it is.
 pub record Merged (xs l : List ℕ) : Type 0 where
-  pub clean : first_fault number_bytes xs ≡ Clean
+  pub clean : first_fault number_bytes xs ≡ None
   pub some : 0 < length xs
   pub same : l ≡ merged_path (segments number_bytes xs)
 
@@ -62,39 +38,39 @@ merged_means role neighbour xs l = scan (first_fault number_bytes xs) refl
     empty_is : ltb 0 (length xs) ≡ false → length xs ≡ 0
     empty_is t = let h : length xs ≤ 0 = ltb-false 0 (length xs) t in omega arith
 
-    bytes : ground_of role neighbour (segments number_bytes xs) ≡ Not → (b : Bool) → ltb 0 (length xs) ≡ b → 0 < length xs
+    bytes : ground_of role neighbour (segments number_bytes xs) ≡ None → (b : Bool) → ltb 0 (length xs) ≡ b → 0 < length xs
     bytes g true t = ltb-true 0 (length xs) t
-    bytes g false t = clash (let z : By Empty ≡ Not = ground_empty number_bytes xs role neighbour (empty_is t) ∙ g in cc)
+    bytes g false t = clash (let z : Some Empty ≡ None = ground_empty number_bytes xs role neighbour (empty_is t) ∙ g in cc)
 
-    ground : first_fault number_bytes xs ≡ Clean → (g : Grounded) → ground_of role neighbour (segments number_bytes xs) ≡ g
+    ground : first_fault number_bytes xs ≡ None → (g : Option Ground) → ground_of role neighbour (segments number_bytes xs) ≡ g
         → after_ground g (merged_path (segments number_bytes xs)) ≡ merged l → Merged xs l
-    ground f (By g) e h = clash (cc)
-    ground f Not e h = record { clean = f; some = bytes e (ltb 0 (length xs)) refl; same = cc }
+    ground f (Some g) e h = clash (cc)
+    ground f None e h = record { clean = f; some = bytes e (ltb 0 (length xs)) refl; same = cc }
 
-    scan : (s : Scan) → first_fault number_bytes xs ≡ s → after_scan s (after_ground (ground_of role neighbour (segments number_bytes xs)) (merged_path (segments number_bytes xs))) ≡ merged l → Merged xs l
-    scan Clean e h = ground e (ground_of role neighbour (segments number_bytes xs)) refl h
-    scan (Faulty f p) e h = clash (cc)
+    scan : (s : Option (Fault × ℕ)) → first_fault number_bytes xs ≡ s → after_scan s (after_ground (ground_of role neighbour (segments number_bytes xs)) (merged_path (segments number_bytes xs))) ≡ merged l → Merged xs l
+    scan None e h = ground e (ground_of role neighbour (segments number_bytes xs)) refl h
+    scan (Some (f, p)) e h = clash (cc)
 
 -- What is read as a ground has it; what is read as a merged path has none.
-pub content_ground : (role neighbour : ℕ) (xs : List ℕ) (s : Scan) (g : Grounded) → first_fault number_bytes xs ≡ s → ground_of role neighbour (segments number_bytes xs) ≡ g
-    → ((h : Ground) → content_of role neighbour xs ≡ grounded h → ground_of role neighbour (segments number_bytes xs) ≡ By h)
-    × ((l : List ℕ) → content_of role neighbour xs ≡ merged l → ground_of role neighbour (segments number_bytes xs) ≡ Not)
+pub content_ground : (role neighbour : ℕ) (xs : List ℕ) (s : Option (Fault × ℕ)) (g : Option Ground) → first_fault number_bytes xs ≡ s → ground_of role neighbour (segments number_bytes xs) ≡ g
+    → ((h : Ground) → content_of role neighbour xs ≡ grounded h → ground_of role neighbour (segments number_bytes xs) ≡ Some h)
+    × ((l : List ℕ) → content_of role neighbour xs ≡ merged l → ground_of role neighbour (segments number_bytes xs) ≡ None)
 unfolding content_of
-content_ground role neighbour xs (Faulty f p) g e e' = ((λ h c. clash (let z = rw e at c in cc)), (λ l c. clash (let z = rw e at c in cc)))
-content_ground role neighbour xs Clean (By g) e e' =
-    ((λ h c. let z : grounded g ≡ grounded h = rw (e, e') at c in let y : g ≡ h = cc in e' ∙ ap By y), (λ l c. clash (let z = rw (e, e') at c in cc)))
-content_ground role neighbour xs Clean Not e e' = ((λ h c. clash (let z = rw (e, e') at c in cc)), (λ l c. e'))
+content_ground role neighbour xs (Some (f, p)) g e e' = ((λ h c. clash (let z = rw e at c in cc)), (λ l c. clash (let z = rw e at c in cc)))
+content_ground role neighbour xs None (Some g) e e' =
+    ((λ h c. let z : grounded g ≡ grounded h = rw (e, e') at c in let y : g ≡ h = cc in e' ∙ ap Some y), (λ l c. clash (let z = rw (e, e') at c in cc)))
+content_ground role neighbour xs None None e e' = ((λ h c. clash (let z = rw (e, e') at c in cc)), (λ l c. e'))
 
 -- What is read as a fault has it.
-pub content_fault : (role neighbour : ℕ) (xs : List ℕ) (f : Fault) (p : ℕ) → content_of role neighbour xs ≡ faulty f p → first_fault number_bytes xs ≡ Faulty f p
+pub content_fault : (role neighbour : ℕ) (xs : List ℕ) (f : Fault) (p : ℕ) → content_of role neighbour xs ≡ faulty f p → first_fault number_bytes xs ≡ Some (f, p)
 unfolding content_of
 content_fault role neighbour xs f p = scan (first_fault number_bytes xs) refl (ground_of role neighbour (segments number_bytes xs))
   where
-    scan : (s : Scan) → first_fault number_bytes xs ≡ s → (g : Grounded) → after_scan s (after_ground g (merged_path (segments number_bytes xs))) ≡ faulty f p
-        → first_fault number_bytes xs ≡ Faulty f p
-    scan Clean e (By g) h = clash (cc)
-    scan Clean e Not h = clash (cc)
-    scan (Faulty f' p') e g h =
+    scan : (s : Option (Fault × ℕ)) → first_fault number_bytes xs ≡ s → (g : Option Ground) → after_scan s (after_ground g (merged_path (segments number_bytes xs))) ≡ faulty f p
+        → first_fault number_bytes xs ≡ Some (f, p)
+    scan None e (Some g) h = clash (cc)
+    scan None e None h = clash (cc)
+    scan (Some (f', p')) e g h =
         let y : f' ≡ f = cc in
         let z : p' ≡ p = cc in
         rw (← y, ← z) e

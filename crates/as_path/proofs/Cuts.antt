@@ -10,8 +10,6 @@ use lib.ListN.{length, get_or}
 use Rattle.types.specs.declared.Ground.TheVariants.{Empty, NotNeighbour}
 use Rattle.types.proofs.Clashes.{clash}
 use Rattle.types.specs.Roles.{is_route_server}
-use Rattle.as_path.specs.declared.Grounded.{Grounded}
-use Rattle.as_path.specs.declared.Grounded.TheVariants.{By, Not}
 use Rattle.as_path.specs.Segments.{number_bytes, type_at, count_at, numbers_at, segments}
 use Rattle.as_path.specs.Grounds.{has_set, ground_of}
 use Rattle.as_path.specs.Merging.{numbers_in, merged_path}
@@ -19,11 +17,13 @@ use Rattle.as_path.specs.Reading.{content_of}
 use Rattle.as_path.specs.Laws.{Sequences}
 use Rattle.as_path.proofs.MergedPaths.{segments_none, segments_some}
 use Rattle.as_path.proofs.Grounding.{first_whole}
+use Rattle.std.specs.Prelude.{None, Option, Some}
+use Rattle.types.specs.declared.Ground.{Ground}
 
 -- The ground of sequences goes by their numbers.
-abbrev ground_by : ℕ → ℕ → List ℕ → Grounded
-ground_by role neighbour [] = By Empty
-ground_by role neighbour (x ∷ l) = cond (not (is_route_server role) && not (eqb x neighbour)) (By NotNeighbour) Not
+abbrev ground_by : ℕ → ℕ → List ℕ → Option Ground
+ground_by role neighbour [] = Some Empty
+ground_by role neighbour (x ∷ l) = cond (not (is_route_server role) && not (eqb x neighbour)) (Some NotNeighbour) None
 
 -- A type that is a set's or a sequence's, and no set's.
 sequence : (kind : ℕ) (rest : Bool) → (kind ≡ 0 → ⊥) → kind ≤ 2 → (eqb kind 1 || rest) ≡ false → kind ≡ 2
@@ -42,7 +42,7 @@ module _ (role neighbour : ℕ) (a : List ℕ) (s : Sequences a) where
       rw (segments_some number_bytes a h, e, eq-eqb (type_at a 0) 2 (sequence (type_at a 0) _ w.typed w.known e)) (go (count_at a 0) w.some _)
     where
       go : (n : ℕ) → (n ≡ 0 → ⊥) → (m : List ℕ)
-          → cond (not (is_route_server role) && not (eqb (get_or (numbers_at number_bytes n a 2) 0 0) neighbour)) (By NotNeighbour) Not
+          → cond (not (is_route_server role) && not (eqb (get_or (numbers_at number_bytes n a 2) 0 0) neighbour)) (Some NotNeighbour) None
           ≡ ground_by role neighbour (numbers_at number_bytes n a 2 ++ m)
       go zero some m = absurd (some refl)
       go (suc n) some m = refl

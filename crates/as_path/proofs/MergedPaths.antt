@@ -8,14 +8,14 @@ use native.Mathlib.Numerals.{add-one}
 use borrow.Author.Tests.{eqb-false, ne_eqb}
 use lib.Dec.{eqb}
 use lib.ListN.{length, get_or}
-use Rattle.as_path.specs.declared.Scan.{Scan}
-use Rattle.as_path.specs.declared.Scan.TheVariants.{Clean}
 use Rattle.as_path.specs.Segments.{number_at, numbers_at, count_at, starts, Segment, segment_at, segments}
 use Rattle.as_path.specs.Faults.{numbers_fault, first_fault}
 use Rattle.as_path.specs.Merging.{numbers_in, runs_after, merge_runs, merged_path}
 use Rattle.as_path.proofs.Walking.{clean_test, left, first, next, none_left, one_more, whole_here}
 use Rattle.as_path.proofs.CleanWalks.{Walked, walked}
 use Rattle.as_path.proofs.CleanWalks.Walked.{done, step}
+use Rattle.std.specs.Prelude.{None, Option}
+use Rattle.types.specs.declared.Fault.{Fault}
 
 -- A list without the number 0.
 pub data NoZero : List ℕ → Type 0 where
@@ -56,7 +56,7 @@ none_before none = refl
 none_before (more {x} n r) = rw (ne_eqb x 0 n)
 
 -- Numbers without a fault are not 0.
-pub no_zero_numbers : (w n : ℕ) (a : List ℕ) (p : ℕ) (rest : Scan) → numbers_fault w n a p rest ≡ Clean → NoZero (numbers_at w n a p)
+pub no_zero_numbers : (w n : ℕ) (a : List ℕ) (p : ℕ) (rest : Option (Fault × ℕ)) → numbers_fault w n a p rest ≡ None → NoZero (numbers_at w n a p)
 unfolding numbers_fault numbers_at
 no_zero_numbers w zero a p rest e = none
 no_zero_numbers w (suc n) a p rest e =
@@ -76,7 +76,7 @@ no_zero_walked (done e) = none
 no_zero_walked (step s r) = no_zero_append (no_zero_numbers _ _ _ _ _ s.numbers) (no_zero_walked r)
 
 -- The merged path of an attribute without a fault has no number 0.
-pub merged_no_zero : (w : ℕ) (a : List ℕ) → first_fault w a ≡ Clean → (i : ℕ) → i < length (merged_path (segments w a))
+pub merged_no_zero : (w : ℕ) (a : List ℕ) → first_fault w a ≡ None → (i : ℕ) → i < length (merged_path (segments w a))
     → get_or (merged_path (segments w a)) i 0 ≡ 0 → ⊥
 unfolding segments merged_path
 merged_no_zero w a e = no_zero_at (no_zero_runs (no_zero_walked (walked w a e)))
@@ -113,7 +113,7 @@ unfolding segments starts
 segments_some w a h = rw (one_more (first w a) h)
 
 -- The merged path of an attribute with bytes and without a fault is not empty, and begins with the first segment's first number.
-pub merged_first : (w : ℕ) (a : List ℕ) → first_fault w a ≡ Clean → 0 < length a
+pub merged_first : (w : ℕ) (a : List ℕ) → first_fault w a ≡ None → 0 < length a
     → (0 < length (merged_path (segments w a))) × (get_or (merged_path (segments w a)) 0 0 ≡ number_at w a 2)
 unfolding first_fault starts merged_path numbers_in merge_runs numbers_at
 merged_first w a e h = rw (segments_some w a h) (go (count_at a 0) (whole_here (first w a) h e).some _)

@@ -9,17 +9,17 @@ use borrow.Author.Tests.{le-ltb, le-leb, lt-leb, leb-true, leb-false, ne_eqb}
 use lib.Dec.{leb, ltb, eqb}
 use lib.ListN.{length, length-append, get_or-append}
 use lib.Seq.{get_or-append-add}
-use Rattle.as_path.specs.declared.Scan.{Scan}
-use Rattle.as_path.specs.declared.Scan.TheVariants.{Clean}
 use Rattle.as_path.specs.Segments.{number_at, numbers_at, type_at, count_at, end_of, starts_from, starts, segment_at, segments}
 use Rattle.as_path.specs.Faults.{numbers_fault, segment_fault, fault_among, first_fault}
 use Rattle.as_path.specs.Laws.{moved}
 use Rattle.as_path.proofs.Walking.{Whole, clean_test, Stand, one_more}
 use Rattle.as_path.proofs.CleanWalks.{Walked, walked}
 use Rattle.as_path.proofs.CleanWalks.Walked.{done, step}
+use Rattle.std.specs.Prelude.{None, Option}
+use Rattle.types.specs.declared.Fault.{Fault}
 
 -- Moving along goes into both arms of a test.
-pub moved_cond : (q : ℕ) (b : Bool) (x y : Scan) → moved q (cond b x y) ≡ cond b (moved q x) (moved q y)
+pub moved_cond : (q : ℕ) (b : Bool) (x y : Option (Fault × ℕ)) → moved q (cond b x y) ≡ cond b (moved q x) (moved q y)
 moved_cond q true x y = refl
 moved_cond q false x y = refl
 
@@ -61,7 +61,7 @@ module _ (w : ℕ) (a b : List ℕ) where
   numbers_after (suc n) p = rw (number_after a b w p, add_assoc (length a) p w, numbers_after n (p + w))
 
   -- After any bytes, the first number 0 of what follows is its own, moved along.
-  pub numbers_fault_after : (n p : ℕ) (rest : Scan)
+  pub numbers_fault_after : (n p : ℕ) (rest : Option (Fault × ℕ))
       → numbers_fault w n (a ++ b) (length a + p) (moved (length a) rest) ≡ moved (length a) (numbers_fault w n b p rest)
   unfolding numbers_fault
   numbers_fault_after zero p rest = refl
@@ -69,7 +69,7 @@ module _ (w : ℕ) (a b : List ℕ) where
       rw (moved_cond, number_after a b w p, add_assoc (length a) p w, numbers_fault_after n (p + w) rest)
 
   -- After any bytes, the fault of a segment of what follows is its own, moved along.
-  pub segment_fault_after : (p : ℕ) (rest : Scan)
+  pub segment_fault_after : (p : ℕ) (rest : Option (Fault × ℕ))
       → segment_fault w (a ++ b) (length a + p) (moved (length a) rest) ≡ moved (length a) (segment_fault w b p rest)
   unfolding segment_fault
   segment_fault_after p rest =
@@ -135,7 +135,7 @@ module _ (w : ℕ) (a b : List ℕ) where
   numbers_before (suc n) p h = rw (number_before a b w p (omega arith), numbers_before n (p + w) (omega arith))
 
   -- Before any bytes, numbers without a fault have none.
-  pub numbers_fault_before : (n p : ℕ) (x y : Scan) → p + w * n ≤ length a → numbers_fault w n a p x ≡ Clean → numbers_fault w n (a ++ b) p y ≡ y
+  pub numbers_fault_before : (n p : ℕ) (x y : Option (Fault × ℕ)) → p + w * n ≤ length a → numbers_fault w n a p x ≡ None → numbers_fault w n (a ++ b) p y ≡ y
   unfolding numbers_fault
   numbers_fault_before zero p x y h e = refl
   numbers_fault_before (suc n) p x y h e =
@@ -143,7 +143,7 @@ module _ (w : ℕ) (a b : List ℕ) where
       rw (number_before a b w p (omega arith), t.0) (numbers_fault_before n (p + w) x y (omega arith) t.1)
 
   -- Before any bytes, a whole segment has no fault.
-  pub segment_fault_before : (p : ℕ) (x y : Scan) → Whole w a p x → segment_fault w (a ++ b) p y ≡ y
+  pub segment_fault_before : (p : ℕ) (x y : Option (Fault × ℕ)) → Whole w a p x → segment_fault w (a ++ b) p y ≡ y
   unfolding segment_fault
   segment_fault_before p x y s =
       rw (
@@ -188,7 +188,7 @@ module _ (w : ℕ) (a b : List ℕ) where
         segments_before r,
       )
 
-  module _ (e : first_fault w a ≡ Clean) where
+  module _ (e : first_fault w a ≡ None) where
     -- After bytes without a fault, the starts are theirs, then those of what follows, moved along.
     pub starts_append : starts w (a ++ b) ≡ starts w a ++ map (λ p. length a + p) (starts w b)
     unfolding starts

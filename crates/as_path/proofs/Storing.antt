@@ -7,10 +7,9 @@ use native.Mathlib.Omega.{arith}
 use native.Mathlib.Numerals.{add-one}
 use borrow.Author.Tests.{eq-eqb, ne_eqb}
 use lib.Dec.{eqb}
-use lib.ListN.{length, set, take, drop, length-append, length-take, length-drop, length-set}
+use lib.ListN.{length, set, take, drop, length-append, length-set}
 use lib.Seq.{sets, length-sets}
-use Rattle.as_path.specs.declared.Scan.TheVariants.{Clean}
-use Rattle.as_path.specs.Segments.{number_at, numbers_at, count_at, starts, segment_at, segments}
+use Rattle.as_path.specs.Segments.{number_at, numbers_at, count_at, end_of, starts, segment_at, segments}
 use Rattle.as_path.specs.Faults.{fault_among, first_fault}
 use Rattle.as_path.specs.Merging.{numbers_in, runs_after, merge_runs, merged_path}
 use Rattle.as_path.specs.Helpers.{Stored, last_after}
@@ -19,6 +18,7 @@ use Rattle.as_path.proofs.Scanning.{numbers_part}
 use Rattle.as_path.proofs.CleanWalks.{walked}
 use Rattle.as_path.proofs.Runs.{runs_append}
 use Rattle.as_path.proofs.MergedPaths.{none_before, no_zero_walked}
+use Rattle.std.specs.Prelude.{None}
 
 -- ---- a segment's numbers
 
@@ -124,10 +124,6 @@ merged_shorter (x ∷ l) = omega (arith, runs_shorter x l)
 
 -- ---- the segments
 
--- The length of a segment's body.
-pub body_length : (xs : List ℕ) (from size : ℕ) → from + size ≤ length xs → length (take (from + size - from) (drop from xs)) ≡ size
-body_length xs from size h = rw (length-take, length-drop) (omega arith)
-
 pub sets_append : (p : List ℕ) (n : ℕ) (l m : List ℕ) → sets p n (l ++ m) ≡ sets (sets p n l) (n + length l) m
 sets_append p n [] m = ap (λ k. sets p k m) (omega arith)
 sets_append p n (x ∷ l) m = sets_append (set p n x) (suc n) l m ∙ ap (λ k. sets (sets (set p n x) (suc n) l) k m) (omega arith)
@@ -138,7 +134,7 @@ remaining {w} {xs} s last = runs_after last (numbers_in (map (segment_at w xs) (
 
 pub record Gathering (w : ℕ) (xs path₀ path : List ℕ) (n last at : ℕ) : Type 0 where
   pub stand : Stand w xs at
-  pub clean : fault_among w xs (left stand) ≡ Clean
+  pub clean : fault_among w xs (left stand) ≡ None
   pub within : at ≤ length xs
   pub bound : n ≤ at
   pub same_length : length path ≡ length path₀
@@ -146,7 +142,7 @@ pub record Gathering (w : ℕ) (xs path₀ path : List ℕ) (n last at : ℕ) : 
   pub index : length (merged_path (segments w xs)) ≡ n + length (remaining stand last)
 
 -- Nothing is stored yet. No number is 0, so none repeats it.
-pub gathers : (w : ℕ) (xs path : List ℕ) → first_fault w xs ≡ Clean → Gathering w xs path path 0 0 0
+pub gathers : (w : ℕ) (xs path : List ℕ) → first_fault w xs ≡ None → Gathering w xs path path 0 0 0
 unfolding first_fault starts segments merged_path
 gathers w xs path e =
     record {
@@ -186,17 +182,17 @@ module _ {w : ℕ} {xs path₀ path : List ℕ} {n last at : ℕ} (g : Gathering
 
     -- One segment more, handed on as its own part.
     pub gathers_on :
-        (part path' : List ℕ) (count m n' last' : ℕ) → count ≡ count_at xs at → count ≤ w * count → m ≡ count
-        → part ≡ take (at + 2 + w * count - (at + 2)) (drop (at + 2) xs)
+        {part path' : List ℕ} {m n' last' next' : ℕ} → next' ≡ end_of w xs at → m ≡ count_at xs at → count_at xs at ≤ w * count_at xs at
+        → part ≡ take (next' - (at + 2)) (drop (at + 2) xs)
         → Stored path n (runs_after last (numbers_at w m part 0)) path' n' × (last' ≡ last_after last (numbers_at w m part 0))
-        → Gathering w xs path₀ path' n' last' (at + 2 + w * count)
+        → Gathering w xs path₀ path' n' last' next'
     unfolding run numbers
-    gathers_on part path' count m n' last' e wide em ep r =
+    gathers_on {part} {path'} {m} {n'} {last'} e em wide ep r =
         rw e (record {
           stand = next g.stand;
           clean = here.rest;
           within = here.body;
-          bound = omega (arith, g.bound, index', runs_shorter last numbers, length_numbers w (count_at xs at) xs (at + 2), rw e at wide);
+          bound = omega (arith, g.bound, index', runs_shorter last numbers, length_numbers w (count_at xs at) xs (at + 2));
           same_length = ap length buffer' ∙ length-sets path n run ∙ g.same_length;
           buffer = g.buffer ∙ ap (sets path n) opens ∙ sets_append path n run _ ∙ rw (buffer', index', ending') refl;
           index = g.index ∙ ap (λ l. n + length l) opens ∙ rw ending' (omega (arith, index', length-append run (remaining (next g.stand) (last_after last numbers))));
@@ -205,7 +201,7 @@ module _ {w : ℕ} {xs path₀ path : List ℕ} {n last at : ℕ} (g : Gathering
         numbers_are : numbers_at w m part 0 ≡ numbers
         numbers_are =
             let z : at + 2 + 0 ≡ at + 2 = omega arith in
-            rw (em, ep, numbers_part w count xs (at + 2) (at + 2 + w * count - (at + 2)) 0 (omega arith), z, e)
+            rw (em, ep, e, numbers_part w (count_at xs at) xs (at + 2) (end_of w xs at - (at + 2)) 0 (omega arith), z)
 
         buffer' : path' ≡ sets path n run
         buffer' = r.0.buffer ∙ ap (λ l. sets path n (runs_after last l)) numbers_are

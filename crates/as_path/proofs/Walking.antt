@@ -8,33 +8,32 @@ use borrow.Author.Tests.{le-leb, lt-leb, ltb-false, eqb-false}
 use lib.Dec.{ltb, eqb}
 use lib.ListN.{length}
 use Rattle.types.specs.declared.Fault.{Fault}
-use Rattle.as_path.specs.declared.Scan.{Scan}
-use Rattle.as_path.specs.declared.Scan.TheVariants.{Clean, Faulty}
 use Rattle.as_path.specs.Segments.{number_at, type_at, count_at, end_of, starts_from}
 use Rattle.as_path.specs.Faults.{numbers_fault, segment_fault, fault_among}
+use Rattle.std.specs.Prelude.{None, Option, Some}
 
 -- A test whose fault was not found did not pass.
-pub clean_test : (b : Bool) (f : Fault) (p : ℕ) (x : Scan) → cond b (Faulty f p) x ≡ Clean → (b ≡ false) × (x ≡ Clean)
+pub clean_test : (b : Bool) (f : Fault) (p : ℕ) (x : Option (Fault × ℕ)) → cond b (Some (f, p)) x ≡ None → (b ≡ false) × (x ≡ None)
 clean_test true f p x e = let z : ◌≡◌ {A = ℕ} 0 1 = cc in absurd (omega arith)
 clean_test false f p x e = (refl, e)
 
-pub clean_numbers : (w n : ℕ) (xs : List ℕ) (p : ℕ) (next : Scan) → numbers_fault w n xs p next ≡ Clean → next ≡ Clean
+pub clean_numbers : (w n : ℕ) (xs : List ℕ) (p : ℕ) (next : Option (Fault × ℕ)) → numbers_fault w n xs p next ≡ None → next ≡ None
 unfolding numbers_fault
 clean_numbers w zero xs p next e = e
 clean_numbers w (suc n) xs p next e =
     clean_numbers w n xs (p + w) next (clean_test (eqb (number_at w xs p) 0) _ _ _ e).1
 
 -- What a segment at p without a fault shows.
-pub record Whole (w : ℕ) (xs : List ℕ) (p : ℕ) (next : Scan) : Type 0 where
+pub record Whole (w : ℕ) (xs : List ℕ) (p : ℕ) (next : Option (Fault × ℕ)) : Type 0 where
   pub head : p + 2 ≤ length xs
   pub typed : type_at xs p ≡ 0 → ⊥
   pub known : type_at xs p ≤ 2
   pub some : count_at xs p ≡ 0 → ⊥
   pub body : end_of w xs p ≤ length xs
-  pub numbers : numbers_fault w (count_at xs p) xs (p + 2) next ≡ Clean
-  pub rest : next ≡ Clean
+  pub numbers : numbers_fault w (count_at xs p) xs (p + 2) next ≡ None
+  pub rest : next ≡ None
 
-pub whole : (w : ℕ) (xs : List ℕ) (p : ℕ) (next : Scan) → segment_fault w xs p next ≡ Clean → Whole w xs p next
+pub whole : (w : ℕ) (xs : List ℕ) (p : ℕ) (next : Option (Fault × ℕ)) → segment_fault w xs p next ≡ None → Whole w xs p next
 unfolding segment_fault
 whole w xs p next e =
     let t1 = clean_test (ltb (length xs - p) 2) _ _ _ e in
@@ -85,6 +84,6 @@ module _ {w : ℕ} {xs : List ℕ} {at : ℕ} (s : Stand w xs at) where
       go zero e = absurd (omega arith)
       go (suc f) e = rw (lt-leb (length xs) at h)
 
-  pub whole_here : at < length xs → fault_among w xs (left s) ≡ Clean → Whole w xs at (fault_among w xs (left (next s)))
+  pub whole_here : at < length xs → fault_among w xs (left s) ≡ None → Whole w xs at (fault_among w xs (left (next s)))
   unfolding fault_among
   whole_here h e = whole w xs at _ (rw (one_more h) at e)

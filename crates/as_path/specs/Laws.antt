@@ -1,9 +1,7 @@
 -- What the documents say of reading an attribute, as statements. proofs/Laws.antt has the proof of each record.
-use Rattle.std.specs.Prelude.{ℕ, ◌+◌, ◌*◌, ◌≤◌, ◌<◌, ◌≡◌, List, ◌∷◌, ◌++◌, map, ◌⊎◌, false, length, get_or}
+use Rattle.std.specs.Prelude.{ℕ, ◌+◌, ◌*◌, ◌≤◌, ◌<◌, ◌≡◌, List, ◌∷◌, ◌++◌, map, ◌⊎◌, false, length, get_or, None, Option, Some}
 use Rattle.types.specs.declared.Fault.{Fault}
 use Rattle.types.specs.declared.Fault.TheVariants.{CutShort, UnknownType, Confederation, NoNumbers, ZeroNumber}
-use Rattle.as_path.specs.declared.Scan.{Scan}
-use Rattle.as_path.specs.declared.Scan.TheVariants.{Clean, Faulty}
 use Rattle.as_path.specs.Segments.{number_bytes, number_at, type_at, count_at, end_of, starts, Segment, segments}
 use Rattle.as_path.specs.Faults.{first_fault}
 use Rattle.as_path.specs.Grounds.{has_set}
@@ -13,15 +11,15 @@ use Rattle.as_path.specs.Reading.{content_of}
 -- ---- the segment rules at any position
 
 -- A result that names an offset, q bytes further on.
-abbrev pub moved : ℕ → Scan → Scan
-moved q Clean = Clean
-moved q (Faulty f p) = Faulty f (q + p)
+abbrev pub moved : ℕ → Option (Fault × ℕ) → Option (Fault × ℕ)
+moved q None = None
+moved q (Some (f, p)) = Some (f, q + p)
 
 -- After bytes a without a fault, what follows is read as it is by itself, moved along. w is the width of a number, whatever it is.
 pub record PositionLaws : Type 0 where
-  pub any_position : (w : ℕ) (a b : List ℕ) → first_fault w a ≡ Clean → first_fault w (a ++ b) ≡ moved (length a) (first_fault w b)
-  pub starts_append : (w : ℕ) (a b : List ℕ) → first_fault w a ≡ Clean → starts w (a ++ b) ≡ starts w a ++ map (λ p. length a + p) (starts w b)
-  pub segments_append : (w : ℕ) (a b : List ℕ) → first_fault w a ≡ Clean → segments w (a ++ b) ≡ segments w a ++ segments w b
+  pub any_position : (w : ℕ) (a b : List ℕ) → first_fault w a ≡ None → first_fault w (a ++ b) ≡ moved (length a) (first_fault w b)
+  pub starts_append : (w : ℕ) (a b : List ℕ) → first_fault w a ≡ None → starts w (a ++ b) ≡ starts w a ++ map (λ p. length a + p) (starts w b)
+  pub segments_append : (w : ℕ) (a b : List ℕ) → first_fault w a ≡ None → segments w (a ++ b) ≡ segments w a ++ segments w b
 
 -- ---- what a fault says
 
@@ -49,38 +47,38 @@ pub record FirstZero (w : ℕ) (b : List ℕ) (k : ℕ) : Type 0 where
 
 -- What the first fault says of the bytes at its offset, and the other way: bytes b, after a without a fault, whose first segment has the fault.
 pub record FaultLaws : Type 0 where
-  pub fault_means : (w : ℕ) (a : List ℕ) (f : Fault) (p : ℕ) → first_fault w a ≡ Faulty f p → Meaning w a f p
+  pub fault_means : (w : ℕ) (a : List ℕ) (f : Fault) (p : ℕ) → first_fault w a ≡ Some (f, p) → Meaning w a f p
   -- The offset lies within the attribute.
-  pub fault_within : (w : ℕ) (a : List ℕ) (f : Fault) (p : ℕ) → 1 ≤ w → first_fault w a ≡ Faulty f p → p < length a
+  pub fault_within : (w : ℕ) (a : List ℕ) (f : Fault) (p : ℕ) → 1 ≤ w → first_fault w a ≡ Some (f, p) → p < length a
   -- Row 12: one byte, or a body cut short.
-  pub one_byte : (w : ℕ) (a b : List ℕ) → first_fault w a ≡ Clean → length b ≡ 1 → first_fault w (a ++ b) ≡ Faulty CutShort (length a)
-  pub body_short : (w : ℕ) (a b : List ℕ) → first_fault w a ≡ Clean → Headed b → length b < end_of w b 0
-      → first_fault w (a ++ b) ≡ Faulty CutShort (length a)
+  pub one_byte : (w : ℕ) (a b : List ℕ) → first_fault w a ≡ None → length b ≡ 1 → first_fault w (a ++ b) ≡ Some (CutShort, length a)
+  pub body_short : (w : ℕ) (a b : List ℕ) → first_fault w a ≡ None → Headed b → length b < end_of w b 0
+      → first_fault w (a ++ b) ≡ Some (CutShort, length a)
   -- Rows 13 and 14, whatever the count is.
-  pub unknown_type : (w : ℕ) (a b : List ℕ) → first_fault w a ≡ Clean → 2 ≤ length b → (type_at b 0 ≡ 0) ⊎ (4 < type_at b 0)
-      → first_fault w (a ++ b) ≡ Faulty UnknownType (length a)
-  pub confederation : (w : ℕ) (a b : List ℕ) → first_fault w a ≡ Clean → 2 ≤ length b → 2 < type_at b 0 → type_at b 0 ≤ 4
-      → first_fault w (a ++ b) ≡ Faulty Confederation (length a)
+  pub unknown_type : (w : ℕ) (a b : List ℕ) → first_fault w a ≡ None → 2 ≤ length b → (type_at b 0 ≡ 0) ⊎ (4 < type_at b 0)
+      → first_fault w (a ++ b) ≡ Some (UnknownType, length a)
+  pub confederation : (w : ℕ) (a b : List ℕ) → first_fault w a ≡ None → 2 ≤ length b → 2 < type_at b 0 → type_at b 0 ≤ 4
+      → first_fault w (a ++ b) ≡ Some (Confederation, length a)
   -- Row 15, of a known type.
-  pub no_numbers : (w : ℕ) (a b : List ℕ) → first_fault w a ≡ Clean → 2 ≤ length b → 1 ≤ type_at b 0 → type_at b 0 ≤ 2 → count_at b 0 ≡ 0
-      → first_fault w (a ++ b) ≡ Faulty NoNumbers (length a)
+  pub no_numbers : (w : ℕ) (a b : List ℕ) → first_fault w a ≡ None → 2 ≤ length b → 1 ≤ type_at b 0 → type_at b 0 ≤ 2 → count_at b 0 ≡ 0
+      → first_fault w (a ++ b) ≡ Some (NoNumbers, length a)
   -- Row 16, at the number.
-  pub zero_number : (w : ℕ) (a b : List ℕ) (k : ℕ) → first_fault w a ≡ Clean → Headed b → FirstZero w b k
-      → first_fault w (a ++ b) ≡ Faulty ZeroNumber (length a + (2 + w * k))
+  pub zero_number : (w : ℕ) (a b : List ℕ) (k : ℕ) → first_fault w a ≡ None → Headed b → FirstZero w b k
+      → first_fault w (a ++ b) ≡ Some (ZeroNumber, length a + (2 + w * k))
 
 -- ---- the merged path
 
 -- Bytes without a fault whose segments are all sequences.
 pub record Sequences (a : List ℕ) : Type 0 where
-  pub clean : first_fault number_bytes a ≡ Clean
+  pub clean : first_fault number_bytes a ≡ None
   pub no_set : has_set (segments number_bytes a) ≡ false
 
 pub record PathLaws : Type 0 where
   -- Of an attribute without a fault: no number is 0;
-  pub no-zero : (w : ℕ) (a : List ℕ) → first_fault w a ≡ Clean → (i : ℕ) → i < length (merged_path (segments w a))
+  pub no-zero : (w : ℕ) (a : List ℕ) → first_fault w a ≡ None → (i : ℕ) → i < length (merged_path (segments w a))
       → get_or (merged_path (segments w a)) i 0 ≡ 0 → ⊥
   -- if it has bytes, its path has numbers, and the first is the attribute's first.
-  pub first_number : (w : ℕ) (a : List ℕ) → first_fault w a ≡ Clean → 0 < length a
+  pub first_number : (w : ℕ) (a : List ℕ) → first_fault w a ≡ None → 0 < length a
       → (0 < length (merged_path (segments w a))) × (get_or (merged_path (segments w a)) 0 0 ≡ number_at w a 2)
   -- No two neighbours are equal, wherever segments end.
   pub no-runs : (ss : List Segment) (i : ℕ) → i + 1 < length (merged_path ss) → get_or (merged_path ss) i 0 ≡ get_or (merged_path ss) (i + 1) 0 → ⊥

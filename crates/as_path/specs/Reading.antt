@@ -1,15 +1,12 @@
 -- What an attribute is read as: its first fault, else its ground, else its merged path. Row 17 arises only of a merged path.
-use Rattle.std.specs.Prelude.{ℕ, List, cond, length, ltb}
+use Rattle.std.specs.Prelude.{ℕ, List, cond, length, ltb, Option, Some, None, Result, Ok, Err}
 use Rattle.std.proofs.lemmas.List.Edits.{sets}
 use Rattle.types.specs.declared.Ground.{Ground}
 use Rattle.types.specs.declared.Fault.{Fault}
 use Rattle.types.specs.declared.Refusal.TheVariants.{Attribute, PathLength}
-use Rattle.as_path.specs.declared.Scan.{Scan}
-use Rattle.as_path.specs.declared.Scan.TheVariants.{Clean, Faulty}
-use Rattle.as_path.specs.declared.Grounded.{Grounded}
-use Rattle.as_path.specs.declared.Grounded.TheVariants.{By, Not}
+use Rattle.types.specs.declared.Refusal.{Refusal}
 use Rattle.as_path.specs.declared.Reading as reading
-use Rattle.as_path.specs.declared.Reading.TheVariants.{Path, OnGround, Refused}
+use Rattle.as_path.specs.declared.Reading.TheVariants.{Path, OnGround}
 use Rattle.as_path.specs.Segments.{number_bytes, segments}
 use Rattle.as_path.specs.Faults.{first_fault}
 use Rattle.as_path.specs.Grounds.{ground_of}
@@ -24,23 +21,23 @@ pub data Content : Type 0 where
   grounded : Ground → Content
   merged : List ℕ → Content
 
-abbrev pub after_ground : Grounded → List ℕ → Content
-after_ground (By g) path = grounded g
-after_ground Not path = merged path
+abbrev pub after_ground : Option Ground → List ℕ → Content
+after_ground (Some g) path = grounded g
+after_ground None path = merged path
 
-abbrev pub after_scan : Scan → Content → Content
-after_scan Clean c = c
-after_scan (Faulty f p) c = faulty f p
+abbrev pub after_scan : Option (Fault × ℕ) → Content → Content
+after_scan None c = c
+after_scan (Some (f, p)) c = faulty f p
 
 unfoldable pub content_of : ℕ → ℕ → List ℕ → Content
 content_of role neighbour xs =
     after_scan (first_fault number_bytes xs) (after_ground (ground_of role neighbour (segments number_bytes xs)) (merged_path (segments number_bytes xs)))
 
 -- What the reader answers: the refusal, the ground, or how many numbers the merged path has.
-abbrev pub reading_of : Content → reading.Reading
-reading_of (faulty f p) = Refused (Attribute f p)
-reading_of (grounded g) = OnGround g
-reading_of (merged l) = cond (ltb most_numbers (length l)) (Refused PathLength) (Path (length l))
+abbrev pub reading_of : Content → Result reading.Reading Refusal
+reading_of (faulty f p) = Err (Attribute f p)
+reading_of (grounded g) = Ok (OnGround g)
+reading_of (merged l) = cond (ltb most_numbers (length l)) (Err PathLength) (Ok (Path (length l)))
 
 -- What it leaves in the buffer: a merged path, as much of it as the buffer holds, and else what was there.
 abbrev pub buffer_after : Content → List ℕ → List ℕ

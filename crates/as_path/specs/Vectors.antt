@@ -1,7 +1,7 @@
 -- Attributes whose segments are all sequences, by computation: vector O's, and the same numbers in one sequence and in three. The most numbers.
-use Rattle.std.specs.Prelude.{ℕ, ◌≡◌, refl, List, [], ◌∷◌, replicate}
+use Rattle.std.specs.Prelude.{ℕ, ◌≡◌, refl, List, [], ◌∷◌, replicate, Ok, Err}
 use Rattle.types.specs.declared.Refusal.TheVariants.{PathLength}
-use Rattle.as_path.specs.declared.Reading.TheVariants.{Path, Refused}
+use Rattle.as_path.specs.declared.Reading.TheVariants.{Path}
 use Rattle.as_path.specs.Segments.{number_bytes, number_at, numbers_at, starts_from, starts, segments}
 use Rattle.as_path.specs.Faults.{numbers_fault, segment_fault, fault_among, first_fault}
 use Rattle.as_path.specs.Grounds.{has_set}
@@ -32,5 +32,5 @@ unfolding number_at numbers_at starts_from starts segments numbers_in
 same_numbers = (refl, refl, refl)
 
 -- 512 numbers are a path and 513 are not (P5): how many they are decides.
-pub up_to_512 : (reading_of (merged (replicate 512 20)) ≡ Path 512) × (reading_of (merged (replicate 513 20)) ≡ Refused PathLength)
+pub up_to_512 : (reading_of (merged (replicate 512 20)) ≡ Ok (Path 512)) × (reading_of (merged (replicate 513 20)) ≡ Err PathLength)
 up_to_512 = (refl, refl)

@@ -1,30 +1,31 @@
 -- What a refused call writes is no answer, as statements: who looks at the first word alone sees that the call was refused. And the words of a
 -- look-up lead to its list. proofs/Laws.antt has the proof.
-use Rattle.std.specs.Prelude.{ℕ, ◌≡◌, cond, List, [], eqb, get_or, take, drop}
+use Rattle.std.specs.Prelude.{ℕ, ◌≡◌, cond, List, [], eqb, get_or, take, drop, Result}
 use Rattle.types.specs.declared.Origin.TheVariants.{Public, Overrides}
-use Rattle.types.specs.declared.Hopped.{Hopped}
-use Rattle.types.specs.declared.Filed.{Filed}
-use Rattle.types.specs.declared.Judged.{Judged}
 use Rattle.register.specs.Calls.{clear_effect}
 use Rattle.types.specs.Numbers.{origin_number}
 use Rattle.registers.specs.Registers.{Registers}
 use Rattle.effects.specs.Calls.{rejudge_effect, lookup_part, lookup_list}
 use Rattle.snapshot.specs.Calls.{write_effect}
-use Rattle.told.specs.Answers.{no_verdict, no_hop, not_filed, no_count, no_bytes, filed_told, cleared_told, rejudged_told, judged_told, hopped_told, part_told, written_told}
+use Rattle.told.specs.Answers.{no_verdict, no_hop, not_filed, no_count, no_bytes, filed_told, counted_told, judged_told, hopped_told, part_told, written_told}
 use Rattle.told.specs.Marks.{Marks}
+use Rattle.types.specs.declared.Answer.{Answer}
+use Rattle.types.specs.declared.Filed.{Filed}
+use Rattle.types.specs.declared.Hop.{Hop}
+use Rattle.types.specs.declared.Refusal.{Refusal}
 
 pub record RefusalLaws : Type 0 where
   -- File, whatever it answers.
-  pub file : (f : Filed) → Marks not_filed (filed_told f).result (filed_told f).words
+  pub file : (f : Result Filed Refusal) → Marks not_filed (filed_told f).result (filed_told f).words
   -- Clear and Re-judge, of whatever words: a count is no larger than its table.
   pub clear : (reg : List ℕ) (source : ℕ)
-      → Marks no_count (cleared_told (clear_effect reg source).answer).result (cleared_told (clear_effect reg source).answer).words
+      → Marks no_count (counted_told (clear_effect reg source).answer).result (counted_told (clear_effect reg source).answer).words
   pub rejudge : (reg : Registers) (led : List ℕ)
-      → Marks no_count (rejudged_told (rejudge_effect reg led).answer).result (rejudged_told (rejudge_effect reg led).answer).words
+      → Marks no_count (counted_told (rejudge_effect reg led).answer).result (counted_told (rejudge_effect reg led).answer).words
   -- Judge and Keep, whatever they answer.
-  pub judge : (j : Judged) → Marks no_verdict (judged_told j).result (judged_told j).words
+  pub judge : (j : Result Answer Refusal) → Marks no_verdict (judged_told j).result (judged_told j).words
   -- Hop, whatever it answers.
-  pub hop : (h : Hopped) → Marks no_hop (hopped_told h).result (hopped_told h).words
+  pub hop : (h : Result Hop Refusal) → Marks no_hop (hopped_told h).result (hopped_told h).words
   -- Write, of whatever words and whatever output.
   pub write : (reg led output : List ℕ)
       → Marks no_bytes (written_told (write_effect reg led output).answer).result (written_told (write_effect reg led output).answer).words

@@ -9,7 +9,7 @@ ghost use Rattle.registers.specs.Registers.{lent};
 ghost use Rattle.effects.specs.Calls.{judge_answer, keeping, keep_effect, rejudge_effect, hop_answer, lookup_part};
 ghost use Rattle.snapshot.specs.Calls.{write_effect, read_effect};
 ghost use Rattle.told.specs.Answers.{told, told_route, told_tables, telling};
-ghost use Rattle.told.specs.Answers.{filed_told, removal_told, cleared_told, rejudged_told, judged_told, written_told, reading_told};
+ghost use Rattle.told.specs.Answers.{filed_told, done_told, counted_told, judged_told, written_told, reading_told};
 ghost use Rattle.told.specs.Answers.{hopped_told, part_told};
 
 use told::{ANSWER_WORDS, HOP_WORDS, PART_WORDS};
@@ -34,17 +34,17 @@ pub fn aspa_file(
 
 // Withdraw. Rows 1, 2, 4, 5, 7.
 pub fn aspa_withdraw(register: &mut [u32], source: u32, customer: u32) -> u32
-    ensures { effect result register.new ≡ telling removal_told (withdraw_effect register.old source customer) }
+    ensures { effect result register.new ≡ telling done_told (withdraw_effect register.old source customer) }
 {
-    told::tell_removal(filter::withdraw(register, source, AsNumber(customer)))
+    told::tell_done(filter::withdraw(register, source, AsNumber(customer)))
 }
 
 // Clear: out[0] is how many records went, NO_COUNT on a refusal. Rows 1, 2, 4.
 pub fn aspa_clear(register: &mut [u32], source: u32, out: &mut [u32; 1]) -> u32
     ensures { effect (told result out.new) register.new
-        ≡ telling cleared_told (clear_effect register.old source) }
+        ≡ telling counted_told (clear_effect register.old source) }
 {
-    told::tell_cleared(filter::clear(register, source), out)
+    told::tell_count(filter::clear(register, source), out)
 }
 
 // Judge: the answer's words in out, the gap beside them; NO_VERDICT and the place on a refusal. Rows 1, 2, 9, 10, 11, 12 to 16, 17.
@@ -100,9 +100,9 @@ pub fn aspa_keep<'a>(
 
 // Drop. Rows 1, 3, 19.
 pub fn aspa_drop(ledger: &mut [u32], number: u32) -> u32
-    ensures { effect result ledger.new ≡ telling removal_told (drop_effect ledger.old number) }
+    ensures { effect result ledger.new ≡ telling done_told (drop_effect ledger.old number) }
 {
-    told::tell_removal(filter::drop(ledger, RouteNumber(number)))
+    told::tell_done(filter::drop(ledger, RouteNumber(number)))
 }
 
 // Re-judge: out[0] is how many routes changed, NO_COUNT on a refusal. Rows 1, 2, 3.
@@ -113,9 +113,9 @@ pub fn aspa_rejudge<'a>(
     out: &mut [u32; 1],
 ) -> u32
     ensures { effect (told result out.new) ledger.new
-        ≡ telling rejudged_told (rejudge_effect (lent public.now overrides.now) ledger.old) }
+        ≡ telling counted_told (rejudge_effect (lent public.now overrides.now) ledger.old) }
 {
-    told::tell_rejudged(filter::rejudge(public, overrides, ledger), out)
+    told::tell_count(filter::rejudge(public, overrides, ledger), out)
 }
 
 // Hop: out is the hop, the number of its register and its source; NO_HOP on a refusal. Rows 1, 2.
@@ -164,5 +164,5 @@ pub fn aspa_read(file: &[u8], register: &mut [u32], ledger: &mut [u32]) -> u32
     ensures { told_tables result register.new ledger.new
         ≡ reading_told (read_effect file.now register.old ledger.old) }
 {
-    told::tell_restored(restoring::read(file, register, ledger))
+    told::tell_done(restoring::read(file, register, ledger))
 }

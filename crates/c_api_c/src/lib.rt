@@ -9,7 +9,7 @@ ghost use Rattle.registers.specs.Registers.{lent};
 ghost use Rattle.effects.specs.Calls.{judge_answer, keeping, keep_effect, rejudge_effect, hop_answer, lookup_part};
 ghost use Rattle.snapshot.specs.Calls.{write_effect, read_effect};
 ghost use Rattle.told.specs.Answers.{told, told_route, told_tables, telling};
-ghost use Rattle.told.specs.Answers.{filed_told, removal_told, cleared_told, rejudged_told, judged_told, written_told, reading_told};
+ghost use Rattle.told.specs.Answers.{filed_told, done_told, counted_told, judged_told, written_told, reading_told};
 ghost use Rattle.told.specs.Answers.{hopped_told, part_told};
 
 use told::{ANSWER_WORDS, HOP_WORDS, PART_WORDS};
@@ -32,7 +32,7 @@ pub extern "C" fn aspa_file(
 // Withdraw. Rows 1, 2, 4, 5, 7.
 #[unsafe(no_mangle)]
 pub extern "C" fn aspa_withdraw(register: &mut [u32], source: u32, customer: u32) -> u32
-    ensures { effect result register.new ≡ telling removal_told (withdraw_effect register.old source customer) }
+    ensures { effect result register.new ≡ telling done_told (withdraw_effect register.old source customer) }
 {
     c_api::aspa_withdraw(register, source, customer)
 }
@@ -41,7 +41,7 @@ pub extern "C" fn aspa_withdraw(register: &mut [u32], source: u32, customer: u32
 #[unsafe(no_mangle)]
 pub extern "C" fn aspa_clear(register: &mut [u32], source: u32, out: &mut [u32; 1]) -> u32
     ensures { effect (told result out.new) register.new
-        ≡ telling cleared_told (clear_effect register.old source) }
+        ≡ telling counted_told (clear_effect register.old source) }
 {
     c_api::aspa_clear(register, source, out)
 }
@@ -88,7 +88,7 @@ pub extern "C" fn aspa_keep<'a>(
 // Drop. Rows 1, 3, 19.
 #[unsafe(no_mangle)]
 pub extern "C" fn aspa_drop(ledger: &mut [u32], number: u32) -> u32
-    ensures { effect result ledger.new ≡ telling removal_told (drop_effect ledger.old number) }
+    ensures { effect result ledger.new ≡ telling done_told (drop_effect ledger.old number) }
 {
     c_api::aspa_drop(ledger, number)
 }
@@ -102,7 +102,7 @@ pub extern "C" fn aspa_rejudge<'a>(
     out: &mut [u32; 1],
 ) -> u32
     ensures { effect (told result out.new) ledger.new
-        ≡ telling rejudged_told (rejudge_effect (lent public.now overrides.now) ledger.old) }
+        ≡ telling counted_told (rejudge_effect (lent public.now overrides.now) ledger.old) }
 {
     c_api::aspa_rejudge(public, overrides, ledger, out)
 }

@@ -1,5 +1,6 @@
--- What a line's words ask for ("The console"). What is no command is bad, or speaks of a table that there is not: either answers `error` and changes nothing.
-use Rattle.std.specs.Prelude.{ℕ, ◌/◌, cond, List, [], eqb, ltb, length, get_or, drop}
+-- What a line's words ask for ("The console"). What is no command, or speaks of a table that there is not, is bad: it answers `error` and changes nothing.
+use Rattle.std.specs.Prelude.{ℕ, ◌/◌, cond, List, [], Option, Some, None, eqb, ltb, length, get_or, drop}
+use Rattle.std.specs.Option.{option_map_or}
 use Rattle.text.specs.Ascii.{ascii}
 use Rattle.text.specs.Numbers.{number_of, if_number}
 use Rattle.text.specs.Bytes.{bytes_of, bytes_in, if_bytes, same_bytes}
@@ -8,7 +9,7 @@ use Rattle.types.specs.declared.Origin.{Origin}
 use Rattle.effects.specs.Calls.{keeping}
 use Rattle.history.specs.Calls.{Call, file, withdraw, clear, keep, drop as drop_route, rejudge}
 use Rattle.calls.specs.declared.Named.{Named}
-use Rattle.calls.specs.declared.Named.TheVariants.{Register, Overrides, Ledger, Neither}
+use Rattle.calls.specs.declared.Named.TheVariants.{Register, Overrides, Ledger}
 
 pub data Command : Type 0 where
   call : Call → Command
@@ -35,24 +36,27 @@ abbrev pub most_parts : ℕ
 most_parts = most_line / 2
 
 -- The table that a word names.
-unfoldable pub named_by : List ℕ → Named
+unfoldable pub named_by : List ℕ → Option Named
 named_by word =
-    cond (same_bytes word (ascii "register")) Register
-    (cond (same_bytes word (ascii "drawer")) Overrides
-    (cond (same_bytes word (ascii "ledger")) Ledger
-    Neither))
+    cond (same_bytes word (ascii "register")) (Some Register)
+    (cond (same_bytes word (ascii "drawer")) (Some Overrides)
+    (cond (same_bytes word (ascii "ledger")) (Some Ledger)
+    None))
 
-unfoldable pub of_words : List (List ℕ) → ℕ → Command → Command
+abbrev pub of_words : List (List ℕ) → ℕ → Command → Command
 of_words ws n command = cond (eqb (length ws) n) command bad
 
-unfoldable pub with_number : List (List ℕ) → ℕ → (ℕ → Command) → Command
+abbrev pub with_number : List (List ℕ) → ℕ → (ℕ → Command) → Command
 with_number ws k f = if_number (number_of (get_or ws k [])) f bad
 
-unfoldable pub with_bytes : List (List ℕ) → ℕ → (List ℕ → Command) → Command
+abbrev pub with_bytes : List (List ℕ) → ℕ → (List ℕ → Command) → Command
 with_bytes ws k f = if_bytes (bytes_of (get_or ws k [])) (f (bytes_in (get_or ws k []))) bad
 
-unfoldable pub with_numbers : List (List ℕ) → ℕ → (List ℕ → Command) → Command
+abbrev pub with_numbers : List (List ℕ) → ℕ → (List ℕ → Command) → Command
 with_numbers ws k f = cond (all_numbers (drop k ws)) (f (numbers_in (drop k ws))) bad
+
+abbrev pub with_table : List (List ℕ) → ℕ → (Named → Command) → Command
+with_table ws k f = option_map_or f (named_by (get_or ws k [])) bad
 
 -- The most words that a table is lent with.
 abbrev pub most_lent : ℕ
@@ -62,10 +66,10 @@ most_lent = 16384
 abbrev pub most_output : ℕ
 most_output = 131072
 
-unfoldable pub up_to : ℕ → ℕ → Command → Command
+abbrev pub up_to : ℕ → ℕ → Command → Command
 up_to most n command = cond (ltb most n) bad command
 
-unfoldable pub from_one : ℕ → Command → Command
+abbrev pub from_one : ℕ → Command → Command
 from_one n command = cond (eqb n 0) bad command
 
 -- ---- the commands, each after its name was read
@@ -111,16 +115,16 @@ abbrev pub write_command : List (List ℕ) → Command
 write_command ws = of_words ws 2 (with_number ws 1 (λ capacity. up_to most_output capacity (write capacity)))
 
 abbrev pub show_command : List (List ℕ) → Command
-show_command ws = of_words ws 1 (show (named_by (get_or ws 0 [])))
+show_command ws = of_words ws 1 (with_table ws 0 (λ n. show n))
 
 abbrev pub poke_command : List (List ℕ) → Command
-poke_command ws = of_words ws 4 (with_number ws 2 (λ index. with_number ws 3 (λ value. poke (named_by (get_or ws 1 [])) index value)))
+poke_command ws = of_words ws 4 (with_table ws 1 (λ n. with_number ws 2 (λ index. with_number ws 3 (λ value. poke n index value))))
 
 abbrev pub resize_command : List (List ℕ) → Command
-resize_command ws = of_words ws 3 (with_number ws 2 (λ to. up_to most_lent to (resize (named_by (get_or ws 1 [])) to)))
+resize_command ws = of_words ws 3 (with_table ws 1 (λ n. with_number ws 2 (λ to. up_to most_lent to (resize n to))))
 
 abbrev pub words_command : List (List ℕ) → Command
-words_command ws = of_words ws 2 (words (named_by (get_or ws 1 [])))
+words_command ws = of_words ws 2 (with_table ws 1 (λ n. words n))
 
 abbrev pub empty_command : List (List ℕ) → Command
 empty_command ws = of_words ws 1 empty

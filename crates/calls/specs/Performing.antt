@@ -1,16 +1,14 @@
 -- What a command answers, and the tables as it leaves them ("The console").
-use Rattle.std.specs.Prelude.{ℕ, ◌≡◌, cond, List, ltb, length, take, set}
+use Rattle.std.specs.Prelude.{ℕ, cond, List, ltb, length, take, set}
 use Rattle.table.specs.Table.{pad}
-use Rattle.types.specs.declared.Origin.{Origin}
 use Rattle.types.specs.declared.Origin.TheVariants as origin
-use Rattle.types.specs.Rows.{Effect}
-use Rattle.registers.specs.Registers.{Registers, lent, chosen}
+use Rattle.registers.specs.Registers.{lent}
 use Rattle.effects.specs.Calls.{judge_answer, hop_answer}
 use Rattle.history.specs.Calls as calls
-use Rattle.history.specs.Calls.{Tables, says, rewritten, with_register, with_ledger, leaves, blank}
+use Rattle.history.specs.Calls.{Tables, says, with_register, with_ledger, leaves, blank}
 use Rattle.snapshot.specs.Calls.{read_effect}
 use Rattle.calls.specs.declared.Named.{Named}
-use Rattle.calls.specs.declared.Named.TheVariants.{Register, Overrides, Ledger, Neither}
+use Rattle.calls.specs.declared.Named.TheVariants.{Register, Overrides, Ledger}
 use Rattle.calls.specs.declared.Reply.{Reply}
 use Rattle.calls.specs.declared.Reply.TheVariants.{Done, Error, Filed, Removed, Cleared, Judged, Hopped, Rejudged, Restored, Written, Listed, Shown, Sized}
 use Rattle.calls.specs.Commands.{Command, call, judge, hop, lookup, read, write, show, words, poke, resize, empty, bad, most_lent}
@@ -32,7 +30,6 @@ abbrev pub named_reply : Named → Reply → Reply → Reply → Reply
 named_reply Register r o l = r
 named_reply Overrides r o l = o
 named_reply Ledger r o l = l
-named_reply Neither r o l = Error
 
 abbrev pub reply_to : Tables → Command → Reply
 reply_to t (call c) = of_call (says t c)
@@ -56,7 +53,6 @@ abbrev pub changed : Named → (List ℕ → List ℕ) → Tables → Tables
 changed Register f t = with_register t origin.Public (f t.registers.public)
 changed Overrides f t = with_register t origin.Overrides (f t.registers.overrides)
 changed Ledger f t = with_ledger t (f t.ledger)
-changed Neither f t = t
 
 -- Lent with another number of words: those past the old end are zero.
 abbrev pub resized : ℕ → List ℕ → List ℕ
@@ -81,10 +77,6 @@ after t (resize n to) = changed n (resized to) t
 after t empty = blank
 after t bad = t
 
--- A call on the register of an origin gives this answer, and leaves the registers so: the other one as it was.
-abbrev pub WorksOn : {A : Type 0} → Origin → (List ℕ → Effect A) → Registers → A → Registers → Type 0
-WorksOn o f reg answer reg' = (answer ≡ (f (chosen o reg)).answer) × (reg' ≡ rewritten o reg (f (chosen o reg)).words)
-
 -- ---- both
 
 pub record Result : Type 0 where
@@ -97,6 +89,3 @@ result_of r reg overrides led = record { reply = r; tables = tables_of reg overr
 -- The reply to a command, and the tables after it.
 abbrev pub performed : Tables → Command → Result
 performed t c = record { reply = reply_to t c; tables = after t c }
-
-abbrev pub performed_on : List ℕ → List ℕ → List ℕ → Command → Result
-performed_on reg overrides led c = performed (tables_of reg overrides led) c

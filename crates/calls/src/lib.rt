@@ -1,20 +1,17 @@
-// The calls of the filter and of the snapshot as the console's commands, each with its arguments read from a line of n words, and what a command
-// replies. What is no command changes nothing.
+// The calls of the filter and of the snapshot as the console's commands, each with its arguments read from a line, and what a command replies. A line
+// that has no reply is no command, and changes nothing.
 #![tactic(auto)]
 
 ghost use Rattle.std.specs.Prelude.{◌≡◌, ◌*◌, ◌≤◌, length};
+ghost use Rattle.std.specs.Fn.{FnOnceReturnsAtMut};
 ghost use Rattle.lines.specs.Words.{words_of};
+ghost use Rattle.registers.specs.Registers.{chosen};
 ghost use Rattle.calls.specs.Commands.{most_line, most_parts, file_command, withdraw_command, clear_command, judge_command, keep_command, drop_command};
-ghost use Rattle.register.specs.Calls.{file_effect, withdraw_effect, clear_effect};
-ghost use Rattle.registers.specs.Registers.{lent};
 ghost use Rattle.calls.specs.Commands.{rejudge_command, read_command, write_command, hop_command, lookup_command};
-ghost use Rattle.calls.specs.Performing.{result_of, performed_on, WorksOn};
+ghost use Rattle.calls.specs.Lent.{or_error, Performs, Replies, registers_in, Changes};
 
-use lines::List;
-use text::{Bytes, Number};
-use types::{
-    AsNumber, Cleared, Filed, Hopped, Judged, Origin, Rejudged, Removal, Restored, RouteNumber,
-};
+use lines::Line;
+use types::{Answer, AsNumber, Filed, Hop, Origin, Refusal, RouteNumber};
 
 // The most bytes of a line.
 pub const MOST_LINE: usize = 262144;
@@ -31,7 +28,6 @@ pub enum Named {
     Register,
     Overrides,
     Ledger,
-    Neither,
 }
 
 // Shown and Sized look at a table when they are put as text, Written at the public register and the ledger, and Listed at both registers. Written has
@@ -40,13 +36,13 @@ pub enum Named {
 pub enum Reply {
     Done,
     Error,
-    Filed(Filed),
-    Removed(Removal),
-    Cleared(Cleared),
-    Judged(Judged),
-    Hopped(Hopped),
-    Rejudged(Rejudged),
-    Restored(Restored),
+    Filed(Result<Filed, Refusal>),
+    Removed(Result<(), Refusal>),
+    Cleared(Result<u32, Refusal>),
+    Judged(Result<Answer, Refusal>),
+    Hopped(Result<Hop, Refusal>),
+    Rejudged(Result<u32, Refusal>),
+    Restored(Result<(), Refusal>),
     Written(usize),
     Listed(u32, u32),
     Shown(Named),
@@ -54,403 +50,276 @@ pub enum Reply {
 }
 
 // The most numbers, or bytes in hex, of a line: each takes two of its bytes.
-const MOST_PARTS: usize = crate::MOST_LINE / 2;
+const MOST_PARTS: usize = MOST_LINE / 2;
 
-// A File, a Judge or a Keep that no limit refuses fits in a line of this length. The parts of such a line have a small buffer, because clearing
-// the large one would take longer than the call.
+// The parts of a line of at most this length have a small buffer, because clearing the large one would take longer than the call: a File, a Judge or
+// a Keep that no limit refuses fits in such a line.
 const SHORT_LINE: usize = 4096;
 
 const SHORT_PARTS: usize = SHORT_LINE / 2;
 
-fn no_numbers() -> [u32; MOST_PARTS]
-    ensures { most_parts ≡ length result }
-{
-    [0; MOST_PARTS]
+// The tables that the commands work on, as they are lent.
+#[derive(Drop)]
+pub struct Tables<'a> {
+    pub register: &'a mut [u32],
+    pub overrides: &'a mut [u32],
+    pub ledger: &'a mut [u32],
 }
 
-fn no_bytes() -> [u8; MOST_PARTS]
-    ensures { most_parts ≡ length result }
-{
-    [0; MOST_PARTS]
+impl Tables<'_> {
+    // File, Withdraw and Clear work on the register of an origin, and are lent no other table.
+    fn change<R, F: FnOnce(&mut [u32]) -> R>(&mut self, origin: Origin, call: F) -> R
+        requires { F.IsAlwaysCallable call }
+        ensures called { FnOnceReturnsAtMut F.FnOnce call (chosen origin (registers_in self.old)) result
+            (chosen origin (registers_in self.new)) }
+        ensures others { Changes origin self.old self.new }
+    {
+        match origin {
+            Origin::Public => call(self.register),
+            Origin::Overrides => call(self.overrides),
+        }
+    }
 }
 
-fn few_numbers() -> [u32; SHORT_PARTS]
-    ensures { 2048 ≡ length result }
-{
-    [0; SHORT_PARTS]
-}
-
-fn few_bytes() -> [u8; SHORT_PARTS]
-    ensures { 2048 ≡ length result }
-{
-    [0; SHORT_PARTS]
-}
-
-// File, Withdraw and Clear work on the register of an origin, and are lent no other.
-fn file_in(
+// A File whose providers have room for N numbers.
+#[tactic(auto, using(lines::proofs::Readings::read_list, lines::proofs::Readings::read_all))]
+fn file_with<const N: usize>(
+    line: Line<'_>,
     origin: Origin,
-    reg: &mut [u32],
-    overrides: &mut [u32],
-    source: u32,
-    customer: AsNumber,
-    providers: &[u32],
-) -> Filed
-    ensures { WorksOn origin (λ words. file_effect words source customer.0 providers.now)
-        (lent reg.old overrides.old) result (lent reg.new overrides.new) }
+    tables: &mut Tables<'_>,
+) -> Option<Reply>
+    requires room { length line.bytes.now ≤ 2 * N }
+    requires small { N ≤ most_parts }
+    ensures { Performs tables.old tables.new (or_error result)
+        (file_command origin (words_of line.entry.bytes.now)) }
 {
-    match origin {
-        Origin::Public => filter::file(reg, source, customer, providers),
-        Origin::Overrides => filter::file(overrides, source, customer, providers),
+    if line.count < 3 {
+        return None;
+    }
+    let source = line.number(1)?;
+    let customer = line.number(2)?;
+    let mut buffer = [0; N];
+    let n = line.numbers(3, &mut buffer)?;
+    let providers = &buffer[..n];
+    let filed = tables.change(origin, |register| {
+        filter::file(register, source, AsNumber(customer), providers)
+    });
+    Some(Reply::Filed(filed))
+}
+
+pub fn file(line: Line<'_>, origin: Origin, tables: &mut Tables<'_>) -> Option<Reply>
+    requires { length line.bytes.now ≤ most_line }
+    ensures { Performs tables.old tables.new (or_error result)
+        (file_command origin (words_of line.entry.bytes.now)) }
+{
+    if line.bytes.len() <= SHORT_LINE {
+        file_with::<SHORT_PARTS>(line, origin, tables)
+    } else {
+        file_with::<MOST_PARTS>(line, origin, tables)
     }
 }
 
-fn withdraw_in(
-    origin: Origin,
-    reg: &mut [u32],
-    overrides: &mut [u32],
-    source: u32,
-    customer: AsNumber,
-) -> Removal
-    ensures { WorksOn origin (λ words. withdraw_effect words source customer.0)
-        (lent reg.old overrides.old) result (lent reg.new overrides.new) }
+pub fn withdraw(line: Line<'_>, origin: Origin, tables: &mut Tables<'_>) -> Option<Reply>
+    ensures { Performs tables.old tables.new (or_error result)
+        (withdraw_command origin (words_of line.entry.bytes.now)) }
 {
-    match origin {
-        Origin::Public => filter::withdraw(reg, source, customer),
-        Origin::Overrides => filter::withdraw(overrides, source, customer),
+    if line.count != 3 {
+        return None;
     }
+    let source = line.number(1)?;
+    let customer = line.number(2)?;
+    let removed = tables.change(origin, |register| {
+        filter::withdraw(register, source, AsNumber(customer))
+    });
+    Some(Reply::Removed(removed))
 }
 
-fn clear_in(origin: Origin, reg: &mut [u32], overrides: &mut [u32], source: u32) -> Cleared
-    ensures { WorksOn origin (λ words. clear_effect words source)
-        (lent reg.old overrides.old) result (lent reg.new overrides.new) }
+pub fn clear(line: Line<'_>, origin: Origin, tables: &mut Tables<'_>) -> Option<Reply>
+    ensures { Performs tables.old tables.new (or_error result)
+        (clear_command origin (words_of line.entry.bytes.now)) }
 {
-    match origin {
-        Origin::Public => filter::clear(reg, source),
-        Origin::Overrides => filter::clear(overrides, source),
+    if line.count != 2 {
+        return None;
     }
+    let source = line.number(1)?;
+    let cleared = tables.change(origin, |register| filter::clear(register, source));
+    Some(Reply::Cleared(cleared))
 }
 
-fn file_into(
-    line: &[u8],
-    n: usize,
-    origin: Origin,
-    providers: &mut [u32],
-    reg: &mut [u32],
-    overrides: &mut [u32],
-    led: &mut [u32],
-) -> Reply
-    requires { (length line.now ≤ 2 * length providers.old) × (n ≡ length (words_of line.now)) }
-    ensures { result_of result reg.new overrides.new led.new
-        ≡ performed_on reg.old overrides.old led.old (file_command origin (words_of line.now)) }
+// A Judge whose attribute has room for N bytes.
+#[tactic(auto, using(lines::proofs::Readings::read_bytes_in))]
+fn judge_with<const N: usize>(line: Line<'_>, tables: &Tables<'_>) -> Option<Reply>
+    requires room { length line.bytes.now ≤ 2 * N }
+    requires small { N ≤ most_parts }
+    ensures { Performs tables.now tables.now (or_error result)
+        (judge_command (words_of line.entry.bytes.now)) }
 {
-    if n < 3 {
-        return Reply::Error;
+    if line.count != 4 {
+        return None;
     }
-    let Number::Is(source) = lines::number(line, 1) else {
-        return Reply::Error;
-    };
-    let Number::Is(customer) = lines::number(line, 2) else {
-        return Reply::Error;
-    };
-    let List::Read(k) = lines::numbers(line, 3, providers) else {
-        return Reply::Error;
-    };
-    let filed = file_in(
-        origin,
-        reg,
-        overrides,
-        source,
-        AsNumber(customer),
-        &providers[..k],
+    let role = line.number(1)?;
+    let neighbour = line.number(2)?;
+    let mut attribute = [0; N];
+    let n = line.bytes_at(3, &mut attribute)?;
+    let judged = filter::judge(
+        tables.register,
+        tables.overrides,
+        role,
+        AsNumber(neighbour),
+        &attribute[..n],
     );
-    Reply::Filed(filed)
+    Some(Reply::Judged(judged))
 }
 
-pub fn file(
-    line: &[u8],
-    n: usize,
-    origin: Origin,
-    reg: &mut [u32],
-    overrides: &mut [u32],
-    led: &mut [u32],
-) -> Reply
-    requires { (length line.now ≤ most_line) × (n ≡ length (words_of line.now)) }
-    ensures { result_of result reg.new overrides.new led.new
-        ≡ performed_on reg.old overrides.old led.old (file_command origin (words_of line.now)) }
+pub fn judge(line: Line<'_>, tables: &Tables<'_>) -> Option<Reply>
+    requires { length line.bytes.now ≤ most_line }
+    ensures { Performs tables.now tables.now (or_error result)
+        (judge_command (words_of line.entry.bytes.now)) }
 {
-    if line.len() <= SHORT_LINE {
-        let mut providers = few_numbers();
-        return file_into(line, n, origin, &mut providers, reg, overrides, led);
+    if line.bytes.len() <= SHORT_LINE {
+        judge_with::<SHORT_PARTS>(line, tables)
+    } else {
+        judge_with::<MOST_PARTS>(line, tables)
     }
-    let mut providers = no_numbers();
-    file_into(line, n, origin, &mut providers, reg, overrides, led)
 }
 
-pub fn withdraw(
-    line: &[u8],
-    n: usize,
-    origin: Origin,
-    reg: &mut [u32],
-    overrides: &mut [u32],
-    led: &mut [u32],
-) -> Reply
-    requires { n ≡ length (words_of line.now) }
-    ensures { result_of result reg.new overrides.new led.new
-        ≡ performed_on reg.old overrides.old led.old (withdraw_command origin (words_of line.now)) }
+// A Keep whose attribute has room for N bytes.
+#[tactic(auto, using(lines::proofs::Readings::read_bytes_in))]
+fn keep_with<const N: usize>(line: Line<'_>, tables: &mut Tables<'_>) -> Option<Reply>
+    requires room { length line.bytes.now ≤ 2 * N }
+    requires small { N ≤ most_parts }
+    ensures { Performs tables.old tables.new (or_error result)
+        (keep_command (words_of line.entry.bytes.now)) }
 {
-    if n != 3 {
-        return Reply::Error;
+    if line.count != 5 {
+        return None;
     }
-    let Number::Is(source) = lines::number(line, 1) else {
-        return Reply::Error;
-    };
-    let Number::Is(customer) = lines::number(line, 2) else {
-        return Reply::Error;
-    };
-    let removal = withdraw_in(origin, reg, overrides, source, AsNumber(customer));
-    Reply::Removed(removal)
-}
-
-pub fn clear(
-    line: &[u8],
-    n: usize,
-    origin: Origin,
-    reg: &mut [u32],
-    overrides: &mut [u32],
-    led: &mut [u32],
-) -> Reply
-    requires { n ≡ length (words_of line.now) }
-    ensures { result_of result reg.new overrides.new led.new
-        ≡ performed_on reg.old overrides.old led.old (clear_command origin (words_of line.now)) }
-{
-    if n != 2 {
-        return Reply::Error;
-    }
-    let Number::Is(source) = lines::number(line, 1) else {
-        return Reply::Error;
-    };
-    let cleared = clear_in(origin, reg, overrides, source);
-    Reply::Cleared(cleared)
-}
-
-fn judge_into(
-    line: &[u8],
-    n: usize,
-    attribute: &mut [u8],
-    reg: &mut [u32],
-    overrides: &mut [u32],
-    led: &mut [u32],
-) -> Reply
-    requires { (length line.now ≤ 2 * length attribute.old) × (n ≡ length (words_of line.now)) }
-    ensures { result_of result reg.new overrides.new led.new
-        ≡ performed_on reg.old overrides.old led.old (judge_command (words_of line.now)) }
-{
-    if n != 4 {
-        return Reply::Error;
-    }
-    let Number::Is(role) = lines::number(line, 1) else {
-        return Reply::Error;
-    };
-    let Number::Is(neighbour) = lines::number(line, 2) else {
-        return Reply::Error;
-    };
-    let Bytes::Read(k) = lines::bytes(line, 3, attribute) else {
-        return Reply::Error;
-    };
-    let judged = filter::judge(reg, overrides, role, AsNumber(neighbour), &attribute[..k]);
-    Reply::Judged(judged)
-}
-
-pub fn judge(
-    line: &[u8],
-    n: usize,
-    reg: &mut [u32],
-    overrides: &mut [u32],
-    led: &mut [u32],
-) -> Reply
-    requires { (length line.now ≤ most_line) × (n ≡ length (words_of line.now)) }
-    ensures { result_of result reg.new overrides.new led.new
-        ≡ performed_on reg.old overrides.old led.old (judge_command (words_of line.now)) }
-{
-    if line.len() <= SHORT_LINE {
-        let mut attribute = few_bytes();
-        return judge_into(line, n, &mut attribute, reg, overrides, led);
-    }
-    let mut attribute = no_bytes();
-    judge_into(line, n, &mut attribute, reg, overrides, led)
-}
-
-fn keep_into(
-    line: &[u8],
-    n: usize,
-    attribute: &mut [u8],
-    reg: &mut [u32],
-    overrides: &mut [u32],
-    led: &mut [u32],
-) -> Reply
-    requires { (length line.now ≤ 2 * length attribute.old) × (n ≡ length (words_of line.now)) }
-    ensures { result_of result reg.new overrides.new led.new
-        ≡ performed_on reg.old overrides.old led.old (keep_command (words_of line.now)) }
-{
-    if n != 5 {
-        return Reply::Error;
-    }
-    let Number::Is(number) = lines::number(line, 1) else {
-        return Reply::Error;
-    };
-    let Number::Is(role) = lines::number(line, 2) else {
-        return Reply::Error;
-    };
-    let Number::Is(neighbour) = lines::number(line, 3) else {
-        return Reply::Error;
-    };
-    let Bytes::Read(k) = lines::bytes(line, 4, attribute) else {
-        return Reply::Error;
-    };
+    let number = line.number(1)?;
+    let role = line.number(2)?;
+    let neighbour = line.number(3)?;
+    let mut attribute = [0; N];
+    let n = line.bytes_at(4, &mut attribute)?;
+    // (Borrowed first: a call that reads two fields and writes a third behind one reference is not covered by the check.)
+    let register = &mut *tables.register;
+    let overrides = &mut *tables.overrides;
     let judged = filter::keep(
-        reg,
+        register,
         overrides,
-        led,
+        tables.ledger,
         RouteNumber(number),
         role,
         AsNumber(neighbour),
-        &attribute[..k],
+        &attribute[..n],
     );
-    Reply::Judged(judged)
+    Some(Reply::Judged(judged))
 }
 
-pub fn keep(line: &[u8], n: usize, reg: &mut [u32], overrides: &mut [u32], led: &mut [u32]) -> Reply
-    requires { (length line.now ≤ most_line) × (n ≡ length (words_of line.now)) }
-    ensures { result_of result reg.new overrides.new led.new
-        ≡ performed_on reg.old overrides.old led.old (keep_command (words_of line.now)) }
+pub fn keep(line: Line<'_>, tables: &mut Tables<'_>) -> Option<Reply>
+    requires { length line.bytes.now ≤ most_line }
+    ensures { Performs tables.old tables.new (or_error result)
+        (keep_command (words_of line.entry.bytes.now)) }
 {
-    if line.len() <= SHORT_LINE {
-        let mut attribute = few_bytes();
-        return keep_into(line, n, &mut attribute, reg, overrides, led);
+    if line.bytes.len() <= SHORT_LINE {
+        keep_with::<SHORT_PARTS>(line, tables)
+    } else {
+        keep_with::<MOST_PARTS>(line, tables)
     }
-    let mut attribute = no_bytes();
-    keep_into(line, n, &mut attribute, reg, overrides, led)
 }
 
-pub fn drop(line: &[u8], n: usize, reg: &mut [u32], overrides: &mut [u32], led: &mut [u32]) -> Reply
-    requires { n ≡ length (words_of line.now) }
-    ensures { result_of result reg.new overrides.new led.new
-        ≡ performed_on reg.old overrides.old led.old (drop_command (words_of line.now)) }
+pub fn drop(line: Line<'_>, tables: &mut Tables<'_>) -> Option<Reply>
+    ensures { Performs tables.old tables.new (or_error result)
+        (drop_command (words_of line.entry.bytes.now)) }
 {
-    if n != 2 {
-        return Reply::Error;
+    if line.count != 2 {
+        return None;
     }
-    let Number::Is(number) = lines::number(line, 1) else {
-        return Reply::Error;
-    };
-    let removal = filter::drop(led, RouteNumber(number));
-    Reply::Removed(removal)
+    let number = line.number(1)?;
+    let removed = filter::drop(tables.ledger, RouteNumber(number));
+    Some(Reply::Removed(removed))
 }
 
-pub fn rejudge(
-    line: &[u8],
-    n: usize,
-    reg: &mut [u32],
-    overrides: &mut [u32],
-    led: &mut [u32],
-) -> Reply
-    requires { n ≡ length (words_of line.now) }
-    ensures { result_of result reg.new overrides.new led.new
-        ≡ performed_on reg.old overrides.old led.old (rejudge_command (words_of line.now)) }
+pub fn rejudge(line: Line<'_>, tables: &mut Tables<'_>) -> Option<Reply>
+    ensures { Performs tables.old tables.new (or_error result)
+        (rejudge_command (words_of line.entry.bytes.now)) }
 {
-    if n != 1 {
-        return Reply::Error;
+    if line.count != 1 {
+        return None;
     }
-    let rejudged = filter::rejudge(reg, overrides, led);
-    Reply::Rejudged(rejudged)
+    let register = &mut *tables.register;
+    let overrides = &mut *tables.overrides;
+    let rejudged = filter::rejudge(register, overrides, tables.ledger);
+    Some(Reply::Rejudged(rejudged))
 }
 
-// A snapshot goes into the public register and the ledger.
-pub fn read(line: &[u8], n: usize, reg: &mut [u32], overrides: &mut [u32], led: &mut [u32]) -> Reply
-    requires { (length line.now ≤ most_line) × (n ≡ length (words_of line.now)) }
-    ensures { result_of result reg.new overrides.new led.new
-        ≡ performed_on reg.old overrides.old led.old (read_command (words_of line.now)) }
+// A Read whose file has room for N bytes. It goes into the public register and the ledger.
+#[tactic(auto, using(lines::proofs::Readings::read_bytes_in))]
+fn read_with<const N: usize>(line: Line<'_>, tables: &mut Tables<'_>) -> Option<Reply>
+    requires room { length line.bytes.now ≤ 2 * N }
+    requires small { N ≤ most_parts }
+    ensures { Performs tables.old tables.new (or_error result)
+        (read_command (words_of line.entry.bytes.now)) }
 {
-    if n != 2 {
-        return Reply::Error;
+    if line.count != 2 {
+        return None;
     }
-    let mut file = no_bytes();
-    let Bytes::Read(k) = lines::bytes(line, 1, &mut file) else {
-        return Reply::Error;
-    };
-    let restored = restoring::read(&file[..k], reg, led);
-    Reply::Restored(restored)
+    let mut file = [0; N];
+    let n = line.bytes_at(1, &mut file)?;
+    let restored = restoring::read(&file[..n], tables.register, tables.ledger);
+    Some(Reply::Restored(restored))
+}
+
+pub fn read(line: Line<'_>, tables: &mut Tables<'_>) -> Option<Reply>
+    requires { length line.bytes.now ≤ most_line }
+    ensures { Performs tables.old tables.new (or_error result)
+        (read_command (words_of line.entry.bytes.now)) }
+{
+    if line.bytes.len() <= SHORT_LINE {
+        read_with::<SHORT_PARTS>(line, tables)
+    } else {
+        read_with::<MOST_PARTS>(line, tables)
+    }
 }
 
 // The snapshot is written when the reply is put as text: it changes no table.
-pub fn write(
-    line: &[u8],
-    n: usize,
-    reg: &mut [u32],
-    overrides: &mut [u32],
-    led: &mut [u32],
-) -> Reply
-    requires { n ≡ length (words_of line.now) }
-    ensures { result_of result reg.new overrides.new led.new
-        ≡ performed_on reg.old overrides.old led.old (write_command (words_of line.now)) }
+pub fn write(line: Line<'_>) -> Option<Reply>
+    ensures { Replies (or_error result)
+        (write_command (words_of line.entry.bytes.now)) }
 {
-    if n != 2 {
-        return Reply::Error;
+    if line.count != 2 {
+        return None;
     }
-    let Number::Is(capacity) = lines::number(line, 1) else {
-        return Reply::Error;
-    };
-    let bytes = capacity as usize;
-    if crate::MOST_OUTPUT < bytes {
-        return Reply::Error;
+    let capacity = line.number(1)? as usize;
+    if MOST_OUTPUT < capacity {
+        return None;
     }
-    Reply::Written(bytes)
+    Some(Reply::Written(capacity))
 }
 
-pub fn hop(line: &[u8], n: usize, reg: &mut [u32], overrides: &mut [u32], led: &mut [u32]) -> Reply
-    requires { n ≡ length (words_of line.now) }
-    ensures { result_of result reg.new overrides.new led.new
-        ≡ performed_on reg.old overrides.old led.old (hop_command (words_of line.now)) }
+pub fn hop(line: Line<'_>, tables: &Tables<'_>) -> Option<Reply>
+    ensures { Performs tables.now tables.now (or_error result)
+        (hop_command (words_of line.entry.bytes.now)) }
 {
-    if n != 3 {
-        return Reply::Error;
+    if line.count != 3 {
+        return None;
     }
-    let Number::Is(x) = lines::number(line, 1) else {
-        return Reply::Error;
-    };
-    let Number::Is(y) = lines::number(line, 2) else {
-        return Reply::Error;
-    };
-    if x == 0 {
-        return Reply::Error;
+    let x = line.number(1)?;
+    let y = line.number(2)?;
+    if x == 0 || y == 0 {
+        return None;
     }
-    if y == 0 {
-        return Reply::Error;
-    }
-    let hopped = filter::hop(reg, overrides, AsNumber(x), AsNumber(y));
-    Reply::Hopped(hopped)
+    let hopped = filter::hop(tables.register, tables.overrides, AsNumber(x), AsNumber(y));
+    Some(Reply::Hopped(hopped))
 }
 
 // The list is looked up when the reply is put as text: that changes no table.
-pub fn lookup(
-    line: &[u8],
-    n: usize,
-    reg: &mut [u32],
-    overrides: &mut [u32],
-    led: &mut [u32],
-) -> Reply
-    requires { n ≡ length (words_of line.now) }
-    ensures { result_of result reg.new overrides.new led.new
-        ≡ performed_on reg.old overrides.old led.old (lookup_command (words_of line.now)) }
+pub fn lookup(line: Line<'_>) -> Option<Reply>
+    ensures { Replies (or_error result)
+        (lookup_command (words_of line.entry.bytes.now)) }
 {
-    if n != 3 {
-        return Reply::Error;
+    if line.count != 3 {
+        return None;
     }
-    let Number::Is(customer) = lines::number(line, 1) else {
-        return Reply::Error;
-    };
-    let Number::Is(source) = lines::number(line, 2) else {
-        return Reply::Error;
-    };
-    Reply::Listed(source, customer)
+    let customer = line.number(1)?;
+    let source = line.number(2)?;
+    Some(Reply::Listed(source, customer))
 }

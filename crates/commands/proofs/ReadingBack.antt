@@ -10,8 +10,7 @@ use Rattle.text.specs.Ascii.{ascii}
 use Rattle.text.specs.Bytes.{same_bytes, hex_digit, hex_text}
 use Rattle.text.proofs.HexTexts.{hex_laws}
 use Rattle.lines.specs.Words.{split, words_of}
-use Rattle.calls.specs.Commands.{of_words, with_bytes}
-use Rattle.commands.specs.Commands.{command_of, lent_command, route_command, snapshot_command}
+use Rattle.commands.specs.Commands.{command_of, lent_command}
 use Rattle.commands.specs.Laws.{ReadsBack}
 
 -- A digit is no space.
@@ -32,5 +31,5 @@ unfolding split
 two_words bs = ap (λ l. ascii "read" ∷ l) (one_word bs)
 
 pub reads_back : ReadsBack
-unfolding command_of lent_command route_command snapshot_command same_bytes of_words with_bytes
+unfolding command_of lent_command same_bytes
 reads_back bs h k = ap command_of (two_words bs) ∙ rw (hex_laws.reads bs h k, hex_laws.same bs h k)

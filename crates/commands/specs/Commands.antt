@@ -9,34 +9,6 @@ use Rattle.calls.specs.Commands.{Command, file_command, withdraw_command, clear_
 abbrev pub is : List (List ℕ) → String → Bool
 is ws name = same_bytes (get_or ws 0 []) (ascii name)
 
--- Those that look at a table or set a word.
-unfoldable pub look_command : List (List ℕ) → Command
-look_command ws = cond (is ws "poke") (poke_command ws) (cond (is ws "words") (words_command ws) (show_command ws))
-
--- Those that ask both registers.
-unfoldable pub ask_command : List (List ℕ) → Command
-ask_command ws = cond (is ws "hop") (hop_command ws) (cond (is ws "lookup") (lookup_command ws) (look_command ws))
-
--- Those that change the overrides.
-unfoldable pub overrides_command : List (List ℕ) → Command
-overrides_command ws =
-    cond (is ws "dfile") (file_command origin.Overrides ws)
-    (cond (is ws "dwithdraw") (withdraw_command origin.Overrides ws)
-    (cond (is ws "dclear") (clear_command origin.Overrides ws)
-    (ask_command ws)))
-
--- Those of the snapshot.
-unfoldable pub snapshot_command : List (List ℕ) → Command
-snapshot_command ws = cond (is ws "read") (read_command ws) (cond (is ws "write") (write_command ws) (overrides_command ws))
-
--- Those that are lent the ledger.
-unfoldable pub route_command : List (List ℕ) → Command
-route_command ws =
-    cond (is ws "keep") (keep_command ws)
-    (cond (is ws "drop") (drop_command ws)
-    (cond (is ws "rejudge") (rejudge_command ws)
-    (snapshot_command ws)))
-
 -- Those that leave the lengths as they are.
 unfoldable pub lent_command : List (List ℕ) → Command
 lent_command ws =
@@ -44,7 +16,19 @@ lent_command ws =
     (cond (is ws "withdraw") (withdraw_command origin.Public ws)
     (cond (is ws "clear") (clear_command origin.Public ws)
     (cond (is ws "judge") (judge_command ws)
-    (route_command ws))))
+    (cond (is ws "keep") (keep_command ws)
+    (cond (is ws "drop") (drop_command ws)
+    (cond (is ws "rejudge") (rejudge_command ws)
+    (cond (is ws "read") (read_command ws)
+    (cond (is ws "write") (write_command ws)
+    (cond (is ws "dfile") (file_command origin.Overrides ws)
+    (cond (is ws "dwithdraw") (withdraw_command origin.Overrides ws)
+    (cond (is ws "dclear") (clear_command origin.Overrides ws)
+    (cond (is ws "hop") (hop_command ws)
+    (cond (is ws "lookup") (lookup_command ws)
+    (cond (is ws "poke") (poke_command ws)
+    (cond (is ws "words") (words_command ws)
+    (show_command ws))))))))))))))))
 
 unfoldable pub command_of : List (List ℕ) → Command
 command_of ws = cond (is ws "resize") (resize_command ws) (cond (is ws "empty") (empty_command ws) (lent_command ws))

@@ -150,7 +150,7 @@ fn serve_some(
     serve_piece(stdout, &input[..n], s, line, reg, overrides, led, out)
 }
 
-// A proved loop has to end, and nothing says that the input does: so its turns are counted down from a number that no run uses up.
+// A proved loop has to end, and nothing says that the input does: so it has more turns than any run takes.
 fn serve(
     stdin: Stdin,
     stdout: Stdout,
@@ -166,14 +166,12 @@ fn serve(
     ensures { Ready result line.new reg.new overrides.new led.new out.new }
 {
     let mut s = first;
-    let mut turns = u64::MAX;
-    while 0 < turns {
+    for _ in 0..u64::MAX {
         let served = serve_some(stdin, stdout, s, input, line, reg, overrides, led, out);
         s = served.state;
         if !served.more {
             return s;
         }
-        turns -= 1;
     }
     s
 }
@@ -181,41 +179,24 @@ fn serve(
 // How much is read at a time.
 const INPUT: usize = 65536;
 
-// Arrays are made in functions of their own, so that no proof has to look at their elements.
-fn no_input() -> [u8; INPUT]
-    ensures { 65536 ≡ length result }
-{
-    [0; INPUT]
-}
-
-fn no_line() -> [u8; calls::MOST_LINE]
-    ensures { most_line ≡ length result }
-{
-    [0; calls::MOST_LINE]
-}
-
-fn empty_table() -> [u32; calls::MOST_LENT]
-    ensures { result ≡ replicate most_lent 0 }
-{
-    [0; calls::MOST_LENT]
-}
-
 // Room for the longest answer, that of a snapshot of 131,072 bytes, and for many short ones between two writes.
 const OUTPUT: usize = 524288;
 
-fn no_output() -> [u8; OUTPUT]
-    ensures { 524288 ≡ length result }
+// Arrays are made in a function of their own, of any length, so that no proof has to look at their elements.
+fn filled<T: Copy, const N: usize>(value: T) -> [T; N]
+    ensures all { result ≡ replicate N value }
+    ensures size { length result ≡ N }
 {
-    [0; OUTPUT]
+    [value; N]
 }
 
 fn main(rt: HostRuntime) {
-    let mut input = no_input();
-    let mut line = no_line();
-    let mut reg = empty_table();
-    let mut overrides = empty_table();
-    let mut led = empty_table();
-    let mut out = no_output();
+    let mut input = filled::<u8, INPUT>(0);
+    let mut line = filled::<u8, { calls::MOST_LINE }>(0);
+    let mut reg = filled::<u32, { calls::MOST_LENT }>(0);
+    let mut overrides = filled::<u32, { calls::MOST_LENT }>(0);
+    let mut led = filled::<u32, { calls::MOST_LENT }>(0);
+    let mut out = filled::<u8, OUTPUT>(0);
     let first = State {
         lent: Lent {
             register: register::WORDS,

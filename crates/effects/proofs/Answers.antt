@@ -3,15 +3,11 @@ use Prim.Native.Nat.{ℕ, zero, suc, ◌<◌}
 use mathlib.Core.Path.{◌≡◌, refl, sym, ◌∙◌, ap}
 use mathlib.Core.Bool.{true, cond}
 use mathlib.Core.List.{List, [], ◌∷◌, map}
-use mathlib.Core.Option.{Option, none, some}
 use native.Mathlib.Omega.{arith}
 use lib.Dec.{eqb}
 use lib.ListN.{length, get_or}
 use Rattle.types.specs.declared.Answer.{Answer}
 use Rattle.types.specs.declared.Refusal.{Refusal}
-use Rattle.types.specs.declared.Judged.TheVariants.{Answered}
-use Rattle.types.specs.declared.Rejudged.{Rejudged}
-use Rattle.types.specs.declared.Rejudged.TheVariants as rejudged
 use Rattle.types.specs.Rows.{first_given, Effect, unless_refused}
 use Rattle.registers.specs.Registers.{Registers, hop_in, BothFormed}
 use Rattle.ledger.specs.Routes.{Route, routes_of, ledger_of, route_at, route_ok, routes_ok}
@@ -30,6 +26,7 @@ use Rattle.effects.proofs.Judgings.{judge_answers}
 use Rattle.effects.proofs.Refusals.{keep_reads}
 use Rattle.effects.proofs.KeptRoutes.{kept_ok}
 use Rattle.effects.proofs.Tables.{Accepted, accepted, kept_routes_ok, passed_tables, rejudge_accepts, rejudge_preserves}
+use Rattle.std.specs.Prelude.{None, Ok, Option, Result, Some}
 
 -- Routes that keep the rules are read back from their words.
 pub read_back : (rs : List Route) → routes_ok rs ≡ true → routes_of (ledger_of rs) ≡ rs
@@ -37,9 +34,9 @@ read_back rs e = let room = has_room rs e in routes_of_words rs (room_routes rs 
 
 -- ---- Keep
 
-module _ (reg : Registers) (led : List ℕ) (k : Keeping) {answer : Answer} (h : (keep_effect reg led k).answer ≡ Answered answer) where
+module _ (reg : Registers) (led : List ℕ) (k : Keeping) {answer : Answer} (h : (keep_effect reg led k).answer ≡ Ok answer) where
   -- An accepted Keep is given no row.
-  pub keep_given : first_given (keep_rows reg led k) ≡ none
+  pub keep_given : first_given (keep_rows reg led k) ≡ None
   keep_given = sym (keep_reads reg led k) ∙ ap refusal_in h
 
   -- It had well-formed tables and room.
@@ -47,12 +44,12 @@ module _ (reg : Registers) (led : List ℕ) (k : Keeping) {answer : Answer} (h :
   keep_accepted = accepted reg led k keep_given
 
   -- It answers what its judging answers.
-  keep_judged : kept_answer reg k ≡ Answered answer
+  keep_judged : kept_answer reg k ≡ Ok answer
   unfolding keep_effect
   keep_judged = rw keep_given at h
 
   -- An accepted Keep answers what Judge answers.
-  pub keep_answers : judge_answer reg k.role k.neighbour k.attribute ≡ Answered answer
+  pub keep_answers : judge_answer reg k.role k.neighbour k.attribute ≡ Ok answer
   keep_answers =
       let w = keep_accepted.register in
       judge_answers reg k.role k.neighbour k.attribute w.long w.ok ∙ keep_judged
@@ -66,7 +63,7 @@ module _ (reg : Registers) (led : List ℕ) (k : Keeping) {answer : Answer} (h :
   -- Under its own number the kept route is found, and under every other what was found before.
   pub keep_stores : (number : ℕ)
       → find_route number (routes_of (keep_effect reg led k).words)
-      ≡ cond (eqb number k.number) (some (kept_route reg k)) (find_route number (routes_of led))
+      ≡ cond (eqb number k.number) (Some (kept_route reg k)) (find_route number (routes_of led))
   keep_stores number = ap (find_route number) keep_leaves_routes ∙ stored_finds number (kept_route reg k) (routes_of led)
 
   -- The kept route has the answer's ground, verdict and places, its role and neighbour, and the merged path.
@@ -104,16 +101,16 @@ module _ (reg : Registers) (led : List ℕ) (w : BothFormed reg) (l : Ledger led
 
   -- A second Re-judge changes nothing, and answers so.
   pub rejudge_twice :
-      rejudge_effect reg (rejudge_effect reg led).words ≡ record { answer = rejudged.Changed 0; words = (rejudge_effect reg led).words }
+      rejudge_effect reg (rejudge_effect reg led).words ≡ record { answer = Ok 0; words = (rejudge_effect reg led).words }
   rejudge_twice =
       rejudge_accepts reg (rejudge_effect reg led).words w (rejudge_preserves reg led l)
       ∙ ap step rejudge_leaves_routes
-      ∙ (λ i. record { answer = rejudged.Changed (second_none (hop_in reg) before i); words = words i })
+      ∙ (λ i. record { answer = Ok (second_none (hop_in reg) before i); words = words i })
     where
-      step : List Route → Effect Rejudged
+      step : List Route → Effect (Result ℕ Refusal)
       step rs =
           record {
-            answer = rejudged.Changed (count_differing rs (map (rejudged_route (hop_in reg)) rs));
+            answer = Ok (count_differing rs (map (rejudged_route (hop_in reg)) rs));
             words = ledger_of (map (rejudged_route (hop_in reg)) rs);
           }
 
@@ -121,18 +118,18 @@ module _ (reg : Registers) (led : List ℕ) (w : BothFormed reg) (l : Ledger led
       words = ap ledger_of (all_once (hop_in reg) before) ∙ sym (ap (λ s. s.words) (rejudge_accepts reg led w l))
 
 -- A Re-judge that is accepted had well-formed tables.
-pub rejudge_accepted : (reg : Registers) (led : List ℕ) {n : ℕ} → (rejudge_effect reg led).answer ≡ rejudged.Changed n → BothFormed reg × Ledger led
+pub rejudge_accepted : (reg : Registers) (led : List ℕ) {n : ℕ} → (rejudge_effect reg led).answer ≡ Ok n → BothFormed reg × Ledger led
 unfolding rejudge_effect
 rejudge_accepted reg led {n} = go (first_given (rejudge_rows reg led)) refl
   where
     go : (o : Option Refusal) → first_given (rejudge_rows reg led) ≡ o
-        → (unless_refused o rejudged.Refused led
+        → (unless_refused o led
         (record {
-          answer = rejudged.Changed (count_differing (routes_of led) (map (rejudged_route (hop_in reg)) (routes_of led)));
+          answer = Ok (count_differing (routes_of led) (map (rejudged_route (hop_in reg)) (routes_of led)));
           words = ledger_of (map (rejudged_route (hop_in reg)) (routes_of led));
-        })).answer ≡ rejudged.Changed n → BothFormed reg × Ledger led
-    go (some r) e h = let z : ◌≡◌ {A = ℕ} 0 1 = cc in absurd (omega arith)
-    go none e h = passed_tables reg led e
+        })).answer ≡ Ok n → BothFormed reg × Ledger led
+    go (Some r) e h = let z : ◌≡◌ {A = ℕ} 0 1 = cc in absurd (omega arith)
+    go None e h = passed_tables reg led e
 
 -- An element of a mapped list.
 at_map : {A : Type 0} (f : A → A) (xs : List A) (i : ℕ) (d : A) → i < length xs → get_or (map f xs) i d ≡ f (get_or xs i d)
@@ -140,7 +137,7 @@ at_map f [] i d h = absurd (omega arith)
 at_map f (x ∷ xs) zero d h = refl
 at_map f (x ∷ xs) (suc i) d h = at_map f xs i d (omega arith)
 
-module _ (reg : Registers) (led : List ℕ) {n : ℕ} (h : (rejudge_effect reg led).answer ≡ rejudged.Changed n) where
+module _ (reg : Registers) (led : List ℕ) {n : ℕ} (h : (rejudge_effect reg led).answer ≡ Ok n) where
   abbrev left : List Route
   left = routes_of (rejudge_effect reg led).words
 
@@ -152,7 +149,7 @@ module _ (reg : Registers) (led : List ℕ) {n : ℕ} (h : (rejudge_effect reg l
   pub rejudge_count : n ≡ count_below (λ i. differs (route_at (routes_of led) i) (route_at left i)) (length (routes_of led))
   rejudge_count =
       let t = rejudge_accepted reg led h in
-      let e : rejudged.Changed n ≡ rejudged.Changed (count_differing (routes_of led) (map (rejudged_route (hop_in reg)) (routes_of led))) =
+      let e : Ok n ≡ Ok (count_differing (routes_of led) (map (rejudged_route (hop_in reg)) (routes_of led))) =
       sym h ∙ ap (λ s. s.answer) (rejudge_accepts reg led t.0 t.1) in
       let m : n ≡ count_differing (routes_of led) (map (rejudged_route (hop_in reg)) (routes_of led)) = cc in
       m ∙ changed_is (hop_in reg) (routes_of led)

@@ -2,7 +2,6 @@
 use Prim.Native.Nat.{ℕ}
 use mathlib.Core.Path.{◌≡◌, refl, ◌∙◌, ap}
 use mathlib.Core.List.{List, [], ◌∷◌}
-use mathlib.Core.Option.{none}
 use lib.ListN.{replicate}
 use Rattle.types.specs.Rows.{first_given}
 use Rattle.as_path.specs.Grounds.{has_set}
@@ -20,8 +19,9 @@ use Rattle.register.specs.Calls.{file_effect}
 use Rattle.registers.specs.Registers.{both_long, both_ok}
 use Rattle.effects.specs.Calls.{register_rows, judge_answer}
 use Rattle.effects.specs.Vectors.{filed, filled, alone, records_none, over, WidestGaps}
+use Rattle.std.specs.Prelude.{None}
 
-empty_passes : first_given (register_rows (alone (replicate register_words 0))) ≡ none
+empty_passes : first_given (register_rows (alone (replicate register_words 0))) ≡ None
 unfolding first_given both_long both_ok decode_slots decode slots_ok all_zero well_formed ascends every records_of listed room_for records_ok register_ok
 empty_passes = refl
 
@@ -39,7 +39,7 @@ filings = (refl, refl)
 abbrev two : List Record
 two = record { customer = 20; source = 0; providers = 30 ∷ [] } ∷ record { customer = 30; source = 0; providers = 20 ∷ [] } ∷ []
 
-two_pass : (first_given (register_rows (alone after_two)) ≡ none) × (records_of after_two ≡ two)
+two_pass : (first_given (register_rows (alone after_two)) ≡ None) × (records_of after_two ≡ two)
 unfolding first_given both_long both_ok decode_slots decode slots_ok all_zero well_formed ascends_from ascends every records_of listed rises_from rises is_in list_ok record_ok room_for records_ok register_ok
 two_pass = (refl, refl)
 

@@ -3,7 +3,6 @@ use Prim.Native.Nat.{ℕ}
 use mathlib.Core.Path.{◌≡◌, sym, ◌∙◌, ap}
 use mathlib.Core.Bool.{true, false}
 use mathlib.Core.List.{List, [], ◌++◌}
-use mathlib.Core.Option.{Option, none, some}
 use borrow.Author.Tests.{eq-eqb, ne_eqb}
 use lib.ListN.{length}
 use Rattle.types.specs.Numbers.{verdict_of}
@@ -14,8 +13,6 @@ use Rattle.types.specs.declared.Answer.{Answer}
 use Rattle.types.specs.declared.Answer.TheVariants.{Plain}
 use Rattle.types.specs.declared.Refusal.{Refusal}
 use Rattle.types.specs.declared.Refusal.TheVariants.{TableLength, RegisterMalformed, RoutesMalformed}
-use Rattle.types.specs.declared.Judged.{Judged}
-use Rattle.types.specs.declared.Judged.TheVariants.{Answered, Refused}
 use Rattle.types.specs.Rows.{or_else, first_given, Effect, effect, unless_refused}
 use Rattle.types.proofs.Clashes.{clash}
 use Rattle.as_path.specs.declared.Reading.TheVariants as reading
@@ -25,35 +22,34 @@ use Rattle.rules.specs.Judging.{judge_rows, answer_to, judged_route, refusal_in}
 use Rattle.rules.proofs.Judges.{first_append}
 use Rattle.registers.specs.Registers.{Registers, hop_in, both_long, both_ok}
 use Rattle.ledger.specs.Routes.{ledger_words, Route, routes_of, ledger_of, ledger_ok}
-use Rattle.ledger.specs.declared.Kept.{Kept}
-use Rattle.ledger.specs.declared.Kept.TheVariants as kept
 use Rattle.ledger.specs.Calls.{route_for, put_route, store_rows, store_effect}
 use Rattle.effects.specs.Calls.{Keeping, keeping, table_rows, path_in, kept_answer, kept_route, keep_rows, keep_effect}
 use Rattle.effects.specs.Helpers.{stored_effect, Ready}
 use Rattle.effects.proofs.Judgings.{read_refused, read_ground, read_grounded, PathRead, path_judged, judged_row, judged_ready}
+use Rattle.std.specs.Prelude.{Err, None, Ok, Option, Result, Some}
 
 -- ---- rows 1, 2 and 3 of the tables
 
 module _ (reg : Registers) (led : List ℕ) where
-  pub register_length : both_long reg ≡ false → first_given (table_rows reg led) ≡ some TableLength
+  pub register_length : both_long reg ≡ false → first_given (table_rows reg led) ≡ Some TableLength
   unfolding first_given
   register_length a = rw a
 
   module _ (a : both_long reg ≡ true) where
-    pub ledger_length : (length led ≡ ledger_words → ⊥) → first_given (table_rows reg led) ≡ some TableLength
+    pub ledger_length : (length led ≡ ledger_words → ⊥) → first_given (table_rows reg led) ≡ Some TableLength
     unfolding first_given
     ledger_length b = rw (a, ne_eqb (length led) ledger_words b)
 
     module _ (b : length led ≡ ledger_words) where
-      pub register_malformed : both_ok reg ≡ false → first_given (table_rows reg led) ≡ some RegisterMalformed
+      pub register_malformed : both_ok reg ≡ false → first_given (table_rows reg led) ≡ Some RegisterMalformed
       unfolding first_given
       register_malformed c = rw (a, eq-eqb (length led) ledger_words b, c)
 
-      pub ledger_malformed : both_ok reg ≡ true → ledger_ok led ≡ false → first_given (table_rows reg led) ≡ some RoutesMalformed
+      pub ledger_malformed : both_ok reg ≡ true → ledger_ok led ≡ false → first_given (table_rows reg led) ≡ Some RoutesMalformed
       unfolding first_given
       ledger_malformed c d = rw (a, eq-eqb (length led) ledger_words b, c, d)
 
-      pub tables_none : both_ok reg ≡ true → ledger_ok led ≡ true → first_given (table_rows reg led) ≡ none
+      pub tables_none : both_ok reg ≡ true → ledger_ok led ≡ true → first_given (table_rows reg led) ≡ None
       unfolding first_given
       tables_none c d = rw (a, eq-eqb (length led) ledger_words b, c, d)
 
@@ -71,34 +67,34 @@ module _ (reg : Registers) (led : List ℕ) (k : Keeping) where
       (first_append (judge_rows k.role k.neighbour k.attribute) (store_rows led (kept_route reg k)))
 
   -- A row of the tables refuses.
-  keep_table : {r : Refusal} → first_given (table_rows reg led) ≡ some r → effect (Refused r) led ≡ keep_effect reg led k
+  keep_table : {r : Refusal} → first_given (table_rows reg led) ≡ Some r → effect (Err r) led ≡ keep_effect reg led k
   unfolding keep_effect
   keep_table e = rw (keep_first, e)
 
-  pub keep_register_length : both_long reg ≡ false → effect (Refused TableLength) led ≡ keep_effect reg led k
+  pub keep_register_length : both_long reg ≡ false → effect (Err TableLength) led ≡ keep_effect reg led k
   keep_register_length a = keep_table (register_length reg led a)
 
   module _ (a : both_long reg ≡ true) where
-    pub keep_ledger_length : (length led ≡ ledger_words → ⊥) → effect (Refused TableLength) led ≡ keep_effect reg led k
+    pub keep_ledger_length : (length led ≡ ledger_words → ⊥) → effect (Err TableLength) led ≡ keep_effect reg led k
     keep_ledger_length b = keep_table (ledger_length reg led a b)
 
     module _ (b : length led ≡ ledger_words) where
-      pub keep_register_malformed : both_ok reg ≡ false → effect (Refused RegisterMalformed) led ≡ keep_effect reg led k
+      pub keep_register_malformed : both_ok reg ≡ false → effect (Err RegisterMalformed) led ≡ keep_effect reg led k
       keep_register_malformed c = keep_table (register_malformed reg led a b c)
 
       module _ (c : both_ok reg ≡ true) where
-        pub keep_ledger_malformed : ledger_ok led ≡ false → effect (Refused RoutesMalformed) led ≡ keep_effect reg led k
+        pub keep_ledger_malformed : ledger_ok led ≡ false → effect (Err RoutesMalformed) led ≡ keep_effect reg led k
         keep_ledger_malformed d = keep_table (ledger_malformed reg led a b c d)
 
         module _ (d : ledger_ok led ≡ true) where
           -- Rows 9 to 17.
-          pub keep_refused : {r : Refusal} → kept_answer reg k ≡ Refused r → effect (Refused r) led ≡ keep_effect reg led k
+          pub keep_refused : {r : Refusal} → kept_answer reg k ≡ Err r → effect (Err r) led ≡ keep_effect reg led k
           unfolding keep_effect
           keep_refused e =
               rw (keep_first, tables_none reg led a b c d, sym (judged_row (hop_in reg) k.role k.neighbour k.attribute) ∙ ap refusal_in e)
 
           -- An answered judging is stored.
-          pub keep_stored : {answer : Answer} → kept_answer reg k ≡ Answered answer
+          pub keep_stored : {answer : Answer} → kept_answer reg k ≡ Ok answer
               → stored_effect led (route_for k.number k.role k.neighbour (verdict_of answer) (path_in (content_of k.role k.neighbour k.attribute))) answer
               ≡ keep_effect reg led k
           unfolding keep_effect
@@ -108,50 +104,50 @@ module _ (reg : Registers) (led : List ℕ) (k : Keeping) where
 -- ---- rows 18 and 20, and the store
 
 module _ (led : List ℕ) (r : Route) (answer : Answer) where
-  abbrev done : Effect Kept
-  done = effect kept.Done (ledger_of (put_route r (routes_of led)))
+  abbrev done : Effect (Result Unit Refusal)
+  done = effect (Ok tt) (ledger_of (put_route r (routes_of led)))
 
-  abbrev answered : Effect Judged
-  answered = effect (Answered answer) (ledger_of (put_route r (routes_of led)))
+  abbrev answered : Effect (Result Answer Refusal)
+  answered = effect (Ok answer) (ledger_of (put_route r (routes_of led)))
 
   -- What the store answers is what the keeping answers.
-  pub stored_done : {x : Kept} {led' : List ℕ} → effect x led' ≡ store_effect led r → x ≡ kept.Done → effect (Answered answer) led' ≡ stored_effect led r answer
+  pub stored_done : {x : Result Unit Refusal} {led' : List ℕ} → effect x led' ≡ store_effect led r → x ≡ Ok tt → effect (Ok answer) led' ≡ stored_effect led r answer
   unfolding store_effect
   stored_done {x} {led'} e m = go (first_given (store_rows led r)) e
     where
-      go : (o : Option Refusal) → effect x led' ≡ unless_refused o kept.Refused led done
-          → effect (Answered answer) led' ≡ unless_refused o Refused led answered
-      go (some s) e = let z : kept.Done ≡ kept.Refused s = sym m ∙ ap (λ y. y.answer) e in clash (cc)
-      go none e = λ i. effect (Answered answer) (e i).words
+      go : (o : Option Refusal) → effect x led' ≡ unless_refused o led done
+          → effect (Ok answer) led' ≡ unless_refused o led answered
+      go (Some s) e = let z : ◌≡◌ {A = Result Unit Refusal} (Ok tt) (Err s) = sym m ∙ ap (λ y. y.answer) e in clash (cc)
+      go None e = λ i. effect (Ok answer) (e i).words
 
-  pub stored_refused : {x : Kept} {s : Refusal} {led' : List ℕ} → effect x led' ≡ store_effect led r → x ≡ kept.Refused s
-      → effect (Refused s) led' ≡ stored_effect led r answer
+  pub stored_refused : {x : Result Unit Refusal} {s : Refusal} {led' : List ℕ} → effect x led' ≡ store_effect led r → x ≡ Err s
+      → effect (Err s) led' ≡ stored_effect led r answer
   unfolding store_effect
   stored_refused {x} {s} {led'} e m = go (first_given (store_rows led r)) e
     where
-      go : (o : Option Refusal) → effect x led' ≡ unless_refused o kept.Refused led done
-          → effect (Refused s) led' ≡ unless_refused o Refused led answered
-      go (some t) e =
-          let y : kept.Refused s ≡ kept.Refused t = sym m ∙ ap (λ y. y.answer) e in
+      go : (o : Option Refusal) → effect x led' ≡ unless_refused o led done
+          → effect (Err s) led' ≡ unless_refused o led answered
+      go (Some t) e =
+          let y : ◌≡◌ {A = Result Unit Refusal} (Err s) (Err t) = sym m ∙ ap (λ y. y.answer) e in
           let z : s ≡ t = cc in
-          λ i. effect (Refused (z i)) (e i).words
-      go none e = let z : kept.Refused s ≡ kept.Done = sym m ∙ ap (λ y. y.answer) e in clash (cc)
+          λ i. effect (Err (z i)) (e i).words
+      go None e = let z : ◌≡◌ {A = Result Unit Refusal} (Err s) (Ok tt) = sym m ∙ ap (λ y. y.answer) e in clash (cc)
 
 -- ---- a role that is known
 
 module _ {reg : Registers} {led : List ℕ} {role neighbour : ℕ} {xs : List ℕ} (number : ℕ) (p : Ready reg led role neighbour xs) where
-  abbrev step : Effect Judged
+  abbrev step : Effect (Result Answer Refusal)
   step = keep_effect reg led (keeping number role neighbour xs)
 
   ready : judged_route (hop_in reg) role neighbour xs ≡ answer_to (hop_in reg) role (content_of role neighbour xs)
   ready = judged_ready (hop_in reg) role neighbour xs p.argued
 
-  pub keep_faulty : {r : Refusal} → reading_of (content_of role neighbour xs) ≡ reading.Refused r → effect (Refused r) led ≡ step
+  pub keep_faulty : {r : Refusal} → reading_of (content_of role neighbour xs) ≡ Err r → effect (Err r) led ≡ step
   keep_faulty {r} e =
       keep_refused reg led (keeping number role neighbour xs) p.long p.long_ledger p.ok p.ok_ledger
       (ready ∙ sym (read_refused (hop_in reg) role (content_of role neighbour xs) r e))
 
-  pub keep_ground : {g : Ground} → reading_of (content_of role neighbour xs) ≡ reading.OnGround g
+  pub keep_ground : {g : Ground} → reading_of (content_of role neighbour xs) ≡ Ok (reading.OnGround g)
       → stored_effect led (route_for number role neighbour (Invalid (ByGround g)) []) (Plain (Invalid (ByGround g))) ≡ step
   keep_ground {g} e =
       sym (ap (λ k. stored_effect led (route_for number role neighbour (Invalid (ByGround g)) (path_in k)) (Plain (Invalid (ByGround g))))

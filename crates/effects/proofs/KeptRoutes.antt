@@ -3,7 +3,6 @@ use Prim.Native.Nat.{ℕ, ◌≤◌, ◌<◌}
 use mathlib.Core.Path.{◌≡◌, refl, sym, ap, ◌∙◌}
 use mathlib.Core.Bool.{Bool, true, false, not, cond, ◌&&◌}
 use mathlib.Core.List.{List, []}
-use mathlib.Core.Option.{none}
 use mathlib.Core.Logic.{◌⊎◌, inl, inr}
 use native.Mathlib.Omega.{arith}
 use borrow.Author.Tests.{ltb-true, ltb-false, eqb-true, eqb-false, eq-eqb}
@@ -21,10 +20,6 @@ use Rattle.types.specs.Numbers.{ground_number, verdict_number, verdict_ground, p
 use Rattle.types.proofs.Clashes.{clash}
 use Rattle.types.specs.Roles.{is_role, is_route_server, is_upstream}
 use Rattle.types.specs.Rows.{first_given}
-use Rattle.as_path.specs.declared.Scan.{Scan}
-use Rattle.as_path.specs.declared.Scan.TheVariants.{Clean, Faulty}
-use Rattle.as_path.specs.declared.Grounded.{Grounded}
-use Rattle.as_path.specs.declared.Grounded.TheVariants.{By, Not}
 use Rattle.as_path.specs.Segments.{number_bytes, Segment, segments, segment_at, type_at, count_at, number_at}
 use Rattle.as_path.specs.Faults.{first_fault}
 use Rattle.as_path.specs.Grounds.{is_sequence, is_not_neighbour, has_set, ground_of}
@@ -45,6 +40,8 @@ use Rattle.ledger.specs.Calls.{route_for, stamped}
 use Rattle.ledger.proofs.Laws.{route_laws}
 use Rattle.rejudge.proofs.Rejudgements.{still_ok}
 use Rattle.effects.specs.Calls.{Keeping, kept_route}
+use Rattle.std.specs.Prelude.{None, Option, Some}
+use Rattle.types.specs.declared.Fault.{Fault}
 
 -- ---- what an attribute is read as
 
@@ -75,7 +72,7 @@ module _ (role neighbour : ℕ) (attribute : List ℕ) where
     passes : is_not_neighbour role neighbour (segment_at 4 attribute 0) ≡ false
 
   -- An attribute without a fault and without a ground is such.
-  ungrounded : first_fault number_bytes attribute ≡ Clean → ground_of role neighbour (segments number_bytes attribute) ≡ Not → Ungrounded
+  ungrounded : first_fault number_bytes attribute ≡ None → ground_of role neighbour (segments number_bytes attribute) ≡ None → Ungrounded
   unfolding has_set
   ungrounded clean ground_code = go (ltb 0 (length attribute)) refl
     where
@@ -93,7 +90,7 @@ module _ (role neighbour : ℕ) (attribute : List ℕ) where
               two n a b c = omega arith
 
           tests : (b : Bool) → is_not_neighbour role neighbour (segment_at 4 attribute 0) ≡ b → (c : Bool) → has_set (segments number_bytes attribute) ≡ c
-              → cond b (By NotNeighbour) (cond c (By AsSet) Not) ≡ Not → Ungrounded
+              → cond b (Some NotNeighbour) (cond c (Some AsSet) None) ≡ None → Ungrounded
           tests true p c q e = let z : ◌≡◌ {A = ℕ} 0 1 = cc in absurd (omega arith)
           tests false p true q e = let z : ◌≡◌ {A = ℕ} 0 1 = cc in absurd (omega arith)
           tests false p false q e = record { bytes = h; sequence = eq-eqb _ _ (kind q); passes = p }
@@ -102,7 +99,7 @@ module _ (role neighbour : ℕ) (attribute : List ℕ) where
       go true e = some_bytes (ltb-true _ _ e)
       go false e =
           let n : length attribute ≡ 0 = omega (arith, ltb-false 0 (length attribute) e) in
-          let z : By Empty ≡ Not = ground_empty 4 attribute role neighbour n ∙ ground_code in
+          let z : Some Empty ≡ None = ground_empty 4 attribute role neighbour n ∙ ground_code in
           let y : ◌≡◌ {A = ℕ} 0 1 = cc in
           absurd (omega arith)
 
@@ -111,11 +108,11 @@ module _ (role neighbour : ℕ) (attribute : List ℕ) where
   unfolding content_of
   path-ok path e short = go (first_fault number_bytes attribute) refl (ground_of role neighbour (segments number_bytes attribute)) refl e
     where
-      go : (s : Scan) → first_fault number_bytes attribute ≡ s → (g : Grounded) → ground_of role neighbour (segments number_bytes attribute) ≡ g
+      go : (s : Option (Fault × ℕ)) → first_fault number_bytes attribute ≡ s → (g : Option Ground) → ground_of role neighbour (segments number_bytes attribute) ≡ g
           → after_scan s (after_ground g (merged_path (segments number_bytes attribute))) ≡ merged path → path_ok role neighbour path ≡ true
-      go (Faulty f p) c g n h = let z : ◌≡◌ {A = ℕ} 0 1 = cc in absurd (omega arith)
-      go Clean c (By g) n h = let z : ◌≡◌ {A = ℕ} 0 1 = cc in absurd (omega arith)
-      go Clean c Not n h =
+      go (Some (f, p)) c g n h = let z : ◌≡◌ {A = ℕ} 0 1 = cc in absurd (omega arith)
+      go None c (Some g) n h = let z : ◌≡◌ {A = ℕ} 0 1 = cc in absurd (omega arith)
+      go None c None n h =
           let same : merged_path (segments number_bytes attribute) ≡ path = cc in
           let u : Ungrounded = ungrounded c n in
           let w = first_whole 4 attribute c u.bytes in
@@ -141,11 +138,11 @@ module _ (role neighbour : ℕ) (attribute : List ℕ) where
       of_ground AsSet b p f = refl
       of_ground NotNeighbour b p f = rw (f refl)
 
-      server : (b : Bool) → is_route_server role ≡ b → ground_of role neighbour (segments number_bytes attribute) ≡ By NotNeighbour → b ≡ false
+      server : (b : Bool) → is_route_server role ≡ b → ground_of role neighbour (segments number_bytes attribute) ≡ Some NotNeighbour → b ≡ false
       server false p h = refl
       server true p h = bytes (ltb 0 (length attribute)) refl
         where
-          sets : (c : Bool) → cond c (By AsSet) Not ≡ By NotNeighbour → true ≡ false
+          sets : (c : Bool) → cond c (Some AsSet) None ≡ Some NotNeighbour → true ≡ false
           sets true q = let z : ◌≡◌ {A = ℕ} 0 1 = cc in absurd (omega arith)
           sets false q = let z : ◌≡◌ {A = ℕ} 0 1 = cc in absurd (omega arith)
 
@@ -153,17 +150,17 @@ module _ (role neighbour : ℕ) (attribute : List ℕ) where
           bytes true q = sets (has_set (segments number_bytes attribute)) (rw (ground_is 4 attribute role neighbour (ltb-true _ _ q), spared p) at h)
           bytes false q =
               let n : length attribute ≡ 0 = omega (arith, ltb-false 0 (length attribute) q) in
-              let z : By Empty ≡ By NotNeighbour = ground_empty 4 attribute role neighbour n ∙ h in
+              let z : Some Empty ≡ Some NotNeighbour = ground_empty 4 attribute role neighbour n ∙ h in
               let y : ◌≡◌ {A = ℕ} 0 1 = cc in
               absurd (omega arith)
 
-      go : (s : Scan) (k : Grounded) → ground_of role neighbour (segments number_bytes attribute) ≡ k
+      go : (s : Option (Fault × ℕ)) (k : Option Ground) → ground_of role neighbour (segments number_bytes attribute) ≡ k
           → after_scan s (after_ground k (merged_path (segments number_bytes attribute))) ≡ grounded g → not (eqb (ground_number g) 2 && is_route_server role) ≡ true
-      go (Faulty f p) k n h = let z : ◌≡◌ {A = ℕ} 0 1 = cc in absurd (omega arith)
-      go Clean Not n h = let z : ◌≡◌ {A = ℕ} 0 1 = cc in absurd (omega arith)
-      go Clean (By k) n h =
+      go (Some (f, p)) k n h = let z : ◌≡◌ {A = ℕ} 0 1 = cc in absurd (omega arith)
+      go None None n h = let z : ◌≡◌ {A = ℕ} 0 1 = cc in absurd (omega arith)
+      go None (Some k) n h =
           let same : k ≡ g = cc in
-          of_ground g (is_route_server role) refl (λ q. server (is_route_server role) refl (n ∙ ap By (same ∙ q)))
+          of_ground g (is_route_server role) refl (λ q. server (is_route_server role) refl (n ∙ ap Some (same ∙ q)))
 
 -- ---- the verdict of a path
 
@@ -233,7 +230,7 @@ module _ (number role neighbour : ℕ) (path : List ℕ) where
         path = path;
       }
 
-module _ (reg : Registers) (k : Keeping) (e : first_given (judge_rows k.role k.neighbour k.attribute) ≡ none) where
+module _ (reg : Registers) (k : Keeping) (e : first_given (judge_rows k.role k.neighbour k.attribute) ≡ None) where
   positive : leb 1 k.neighbour ≡ true
   positive = above_zero k.neighbour (judged_arguments (hop_in reg) k.role k.neighbour k.attribute e).1
 

@@ -1,19 +1,16 @@
 -- Each way through Hop and the look-up is its definition. Assumes nothing.
 use Prim.Native.Nat.{ℕ, ◌-◌, ◌≤◌, ◌<◌}
 use mathlib.Core.Path.{◌≡◌, refl, sym, ◌∙◌}
-use mathlib.Core.Bool.{Bool, true, false, not, true≢false}
+use mathlib.Core.Bool.{true, false, true≢false}
 use mathlib.Core.List.{List, [], ◌∷◌}
-use mathlib.Core.Option.{Option, none, some}
 use native.Mathlib.Omega.{arith}
-use borrow.Author.Tests.{lt-ltb, le-ltb, not-false}
-use lib.Dec.{eqb}
+use borrow.Author.Tests.{eq-eqb, ne_eqb, lt-ltb, le-ltb, not-false}
 use lib.ListN.{length, take, drop}
 use Rattle.types.specs.declared.Origin.TheVariants.{Public}
 use Rattle.types.specs.declared.Hop.{Hop}
 use Rattle.types.specs.declared.Refusal.{Refusal}
-use Rattle.types.specs.declared.Refusal.TheVariants.{TableLength, RegisterMalformed, CustomerZero}
-use Rattle.types.specs.declared.Hopped.TheVariants as hopped
-use Rattle.types.specs.Rows.{row_if, first_given}
+use Rattle.types.specs.declared.Refusal.TheVariants.{TableLength, RegisterMalformed, SourceNumber, CustomerZero}
+use Rattle.types.specs.Rows.{first_given}
 use Rattle.types.proofs.Refusing.{accepted_none, row_passed}
 use Rattle.rules.specs.Records.{list_of}
 use Rattle.register.specs.Register.{register_words, last_source}
@@ -24,52 +21,53 @@ use Rattle.registers.specs.Laws.{records_for}
 use Rattle.registers.proofs.Choosing.{chosen_long}
 use Rattle.registers.proofs.Laws.{registers_laws}
 use Rattle.effects.specs.Calls.{hop_answer, look_rows, lookup_part, lookup_list}
-use Rattle.effects.specs.Helpers.{is_none, passes}
+use Rattle.std.specs.Prelude.{Err, None, Ok, Option, Some}
 
 -- ---- Hop
 
 module _ (reg : Registers) (x y : ℕ) where
-  pub hop_length : both_long reg ≡ false → hopped.Refused TableLength ≡ hop_answer reg x y
+  pub hop_length : both_long reg ≡ false → Err TableLength ≡ hop_answer reg x y
   unfolding hop_answer first_given
   hop_length a = rw a
 
   module _ (a : both_long reg ≡ true) where
-    pub hop_malformed : both_ok reg ≡ false → hopped.Refused RegisterMalformed ≡ hop_answer reg x y
+    pub hop_malformed : both_ok reg ≡ false → Err RegisterMalformed ≡ hop_answer reg x y
     unfolding hop_answer first_given
     hop_malformed b = rw (a, b)
 
-    pub hop_answered : {h : Hop} → both_ok reg ≡ true → h ≡ hop_in reg x y → hopped.Answered h ≡ hop_answer reg x y
+    pub hop_answered : {h : Hop} → both_ok reg ≡ true → h ≡ hop_in reg x y → Ok h ≡ hop_answer reg x y
     unfolding hop_answer first_given
     hop_answered b e = rw (a, b, e)
 
 -- ---- the rows of a look-up
 
 module _ (reg : Registers) (source customer : ℕ) where
-  pub look_length : both_long reg ≡ false → false ≡ passes (look_rows reg source customer)
+  pub look_length : both_long reg ≡ false → first_given (look_rows reg source customer) ≡ Some TableLength
   unfolding first_given
   look_length a = rw a
 
   module _ (a : both_long reg ≡ true) where
-    pub look_malformed : both_ok reg ≡ false → false ≡ passes (look_rows reg source customer)
+    pub look_malformed : both_ok reg ≡ false → first_given (look_rows reg source customer) ≡ Some RegisterMalformed
     unfolding first_given
     look_malformed b = rw (a, b)
 
     module _ (b : both_ok reg ≡ true) where
-      pub look_source : last_source < source → false ≡ passes (look_rows reg source customer)
+      pub look_source : last_source < source → first_given (look_rows reg source customer) ≡ Some SourceNumber
       unfolding first_given
       look_source h = rw (a, b, lt-ltb last_source source h)
 
-      pub look_customer : source ≤ last_source → not (eqb customer 0) ≡ passes (look_rows reg source customer)
-      unfolding first_given
-      look_customer h = rw (a, b, le-ltb last_source source h) (go (eqb customer 0))
-        where
-          go : (c : Bool) → not c ≡ is_none (first_given (row_if c CustomerZero ∷ []))
-          go true = refl
-          go false = refl
+      module _ (h : source ≤ last_source) where
+        pub look_customer : customer ≡ 0 → first_given (look_rows reg source customer) ≡ Some CustomerZero
+        unfolding first_given
+        look_customer z = rw (a, b, le-ltb last_source source h, eq-eqb customer 0 z)
+
+        pub look_passed : (customer ≡ 0 → ⊥) → first_given (look_rows reg source customer) ≡ None
+        unfolding first_given
+        look_passed z = rw (a, b, le-ltb last_source source h, ne_eqb customer 0 z)
 
   -- ---- where the list stands
 
-  module _ {r : Refusal} (e : first_given (look_rows reg source customer) ≡ some r) where
+  module _ {r : Refusal} (e : first_given (look_rows reg source customer) ≡ Some r) where
     -- A row is given: nowhere, and there is no list.
     nowhere : lookup_part reg source customer ≡ part Public (span 0 0)
     unfolding lookup_part
@@ -79,7 +77,7 @@ module _ (reg : Registers) (source customer : ℕ) where
     unfolding lookup_list
     no_list = rw e
 
-  module _ (e : first_given (look_rows reg source customer) ≡ none) where
+  module _ (e : first_given (look_rows reg source customer) ≡ None) where
     -- None is given: both registers keep their rules,
     formed : both_ok reg ≡ true
     formed = not-false _ (row_passed _ _ (accepted_none (look_rows reg source customer) e 1))
@@ -96,26 +94,12 @@ module _ (reg : Registers) (source customer : ℕ) where
     unfolding lookup_list
     the_list = rw e
 
-  pub part_none : passes (look_rows reg source customer) ≡ false → part Public (span 0 0) ≡ lookup_part reg source customer
-  part_none = go (first_given (look_rows reg source customer)) refl
-    where
-      go : (o : Option Refusal) → first_given (look_rows reg source customer) ≡ o → is_none o ≡ false → part Public (span 0 0) ≡ lookup_part reg source customer
-      go (some r) e h = sym (nowhere e)
-      go none e h = absurd (true≢false h)
+  pub part_none : {r : Refusal} → first_given (look_rows reg source customer) ≡ Some r → part Public (span 0 0) ≡ lookup_part reg source customer
+  part_none e = sym (nowhere e)
 
-  module _ (h : passes (look_rows reg source customer) ≡ true) where
-    none_given : first_given (look_rows reg source customer) ≡ none
-    none_given = go (first_given (look_rows reg source customer)) refl h
-      where
-        go : (o : Option Refusal) → first_given (look_rows reg source customer) ≡ o → is_none o ≡ true → first_given (look_rows reg source customer) ≡ none
-        go (some r) e k = absurd (true≢false (sym k))
-        go none e k = e
-
-    pub look_formed : both_ok reg ≡ true
-    look_formed = formed none_given
-
-    pub part_found : {p : Part} → p ≡ part_in reg source customer → p ≡ lookup_part reg source customer
-    part_found e = e ∙ sym (there none_given)
+  pub part_found : first_given (look_rows reg source customer) ≡ None → {p : Part} → p ≡ part_in reg source customer
+      → p ≡ lookup_part reg source customer
+  part_found e q = q ∙ sym (there e)
 
 -- ---- the list itself
 
@@ -130,8 +114,8 @@ pub cut_is : (reg : Registers) (source customer : ℕ) → Cut reg source custom
 cut_is reg source customer = go (first_given (look_rows reg source customer)) refl
   where
     go : (o : Option Refusal) → first_given (look_rows reg source customer) ≡ o → Cut reg source customer (lookup_part reg source customer)
-    go (some r) e = rw (nowhere reg source customer e) (record { order = omega arith; within = omega arith; small = omega arith; list = sym (no_list reg source customer e) })
-    go none e =
+    go (Some r) e = rw (nowhere reg source customer e) (record { order = omega arith; within = omega arith; small = omega arith; list = sym (no_list reg source customer e) })
+    go None e =
         let within = registers_laws.part_within reg (formed reg source customer e) source customer in
         rw (there reg source customer e)
         (record {

@@ -3,7 +3,6 @@ use Prim.Native.Nat.{ℕ, ◌≤◌}
 use mathlib.Core.Path.{◌≡◌, refl, ◌∙◌}
 use mathlib.Core.List.{List, [], ◌∷◌}
 use native.Mathlib.Omega.{arith}
-use Rattle.types.specs.declared.Hopped.TheVariants as hopped
 use Rattle.types.specs.Rows.{first_given}
 use Rattle.as_path.specs.Segments.{number_at, numbers_at, starts_from, starts, segments}
 use Rattle.as_path.specs.Faults.{numbers_fault, segment_fault, fault_among, first_fault}
@@ -23,6 +22,7 @@ use Rattle.effects.specs.Calls.{judge_answer, hop_answer, lookup_list}
 use Rattle.effects.specs.Vectors.{packed_d, alone, records_none, corrected, two_sources, hidden, OverrideVectors}
 use Rattle.effects.proofs.Judgings.{judge_answers}
 use Rattle.effects.proofs.Lookups.{hop_answers, lookup_answers}
+use Rattle.std.specs.Prelude.{Ok}
 
 -- Registers that pass rows 1 and 2, and the records that they hold.
 pub record Holding (reg : Registers) (public overrides : List Record) : Type 0 where
@@ -66,8 +66,8 @@ module _ {reg : Registers} {public overrides : List Record} (h : Holding reg pub
       judge_answers reg role neighbour attribute h.formed.long h.formed.ok
       ∙ (λ i. judged_route (hop_over (h.public_is i) (h.overrides_is i)) role neighbour attribute)
 
-  hops : (x y : ℕ) → hop_answer reg x y ≡ hopped.Answered (hop_over public overrides x y)
-  hops x y = hop_answers reg x y h.formed ∙ (λ i. hopped.Answered (hop_over (h.public_is i) (h.overrides_is i) x y))
+  hops : (x y : ℕ) → hop_answer reg x y ≡ Ok (hop_over public overrides x y)
+  hops x y = hop_answers reg x y h.formed ∙ (λ i. Ok (hop_over (h.public_is i) (h.overrides_is i) x y))
 
   looks : (source customer : ℕ) → source ≤ last_source → 1 ≤ customer
       → lookup_list reg source customer ≡ list_of (counting public overrides customer) source customer

@@ -4,7 +4,6 @@ use mathlib.Core.Path.{◌≡◌, refl, sym, ◌∙◌, ap}
 use mathlib.Core.Bool.{Bool, not}
 use mathlib.Core.Logic.{◌↔◌}
 use mathlib.Core.List.{List, [], ◌∷◌, ◌++◌}
-use mathlib.Core.Option.{Option, none, some}
 use native.Mathlib.Omega.{arith}
 use lib.Dec.{eqb, ltb}
 use lib.ListN.{length}
@@ -12,9 +11,6 @@ use Rattle.types.specs.declared.Fault.{Fault}
 use Rattle.types.specs.declared.Fault.TheVariants.{CutShort, UnknownType, Confederation, NoNumbers, ZeroNumber}
 use Rattle.types.specs.declared.Refusal.{Refusal}
 use Rattle.types.specs.declared.Refusal.TheVariants.{TableLength, RegisterMalformed, RoutesMalformed, RoleNumber, NeighbourZero, AttributeLength, Attribute, PathLength, RouteTaken, RoutesFull}
-use Rattle.types.specs.declared.Judged.{Judged}
-use Rattle.types.specs.declared.Judged.TheVariants.{Answered, Refused}
-use Rattle.types.specs.declared.Rejudged.TheVariants as rejudged
 use Rattle.types.specs.Numbers.{refusal_number, fault_number}
 use Rattle.types.specs.Roles.{is_role}
 use Rattle.types.specs.Rows.{row_if, or_else, first_given, effect, unless_refused, FirstAt, Ranged}
@@ -29,30 +25,32 @@ use Rattle.ledger.specs.Calls.{holds_route, put_route, store_rows}
 use Rattle.effects.specs.Calls.{Keeping, register_rows, table_rows, judge_rows_over, rejudge_rows, judge_answer, kept_answer, kept_route, keep_rows, keep_effect, rejudge_effect}
 use Rattle.effects.proofs.Judgings.{judged_row}
 use Rattle.effects.proofs.Keepings.{keep_first}
+use Rattle.std.specs.Prelude.{Err, None, Ok, Option, Result, Some}
+use Rattle.types.specs.declared.Answer.{Answer}
 
 -- ---- exactly when a call is refused, and what a refusal leaves
 
 -- What is read as a refusal is that refusal.
-pub refusal_is : (j : Judged) (r : Refusal) → refusal_in j ≡ some r → j ≡ Refused r
-refusal_is (Answered a) r e = some_not_none (sym e)
-refusal_is (Refused s) r e = cc
+pub refusal_is : (j : Result Answer Refusal) (r : Refusal) → refusal_in j ≡ Some r → j ≡ Err r
+refusal_is (Ok a) r e = some_not_none (sym e)
+refusal_is (Err s) r e = cc
 
 -- What is read as no refusal is no refusal.
-pub refusal_none : (j : Judged) (r : Refusal) → refusal_in j ≡ none → j ≡ Refused r → ⊥
+pub refusal_none : (j : Result Answer Refusal) (r : Refusal) → refusal_in j ≡ None → j ≡ Err r → ⊥
 refusal_none j r e f = some_not_none (ap refusal_in (sym f) ∙ e)
 
 -- An answer that is refused as rows are refuses exactly by the first of them that is given.
-refuses_first : (j : Judged) (rows : List (Option Refusal)) → refusal_in j ≡ first_given rows → (r : Refusal)
-    → (j ≡ Refused r) ↔ ((i : ℕ) × FirstAt rows i r)
+refuses_first : (j : Result Answer Refusal) (rows : List (Option Refusal)) → refusal_in j ≡ first_given rows → (r : Refusal)
+    → (j ≡ Err r) ↔ ((i : ℕ) × FirstAt rows i r)
 refuses_first j rows e r = (
   λ h. refused_first rows r (sym e ∙ ap refusal_in h),
   λ p. refusal_is j r (e ∙ first_refuses rows p.0 r p.1),
 )
 
 -- Of two choices that give no row neither gives one.
-pub neither : (o p : Option Refusal) → or_else o p ≡ none → (o ≡ none) × (p ≡ none)
-neither (some r) p e = some_not_none e
-neither none p e = (refl, e)
+pub neither : (o p : Option Refusal) → or_else o p ≡ None → (o ≡ None) × (p ≡ None)
+neither (Some r) p e = some_not_none e
+neither None p e = (refl, e)
 
 module _ (reg : Registers) (role neighbour : ℕ) (attribute : List ℕ) where
   -- Judge is refused as its rows refuse it.
@@ -62,19 +60,19 @@ module _ (reg : Registers) (role neighbour : ℕ) (attribute : List ℕ) where
     where
       by_table : (o : Option Refusal) → refusal_in (unless_given o (judged_route (hop_in reg) role neighbour attribute))
           ≡ or_else o (first_given (judge_rows role neighbour attribute))
-      by_table (some r) = refl
-      by_table none = judged_row (hop_in reg) role neighbour attribute
+      by_table (Some r) = refl
+      by_table None = judged_row (hop_in reg) role neighbour attribute
 
   -- Judge answers a refusal exactly when that is the first of its rows that is given.
   pub judge_refuses : (r : Refusal)
-      → (judge_answer reg role neighbour attribute ≡ Refused r) ↔ ((i : ℕ) × FirstAt (judge_rows_over reg role neighbour attribute) i r)
+      → (judge_answer reg role neighbour attribute ≡ Err r) ↔ ((i : ℕ) × FirstAt (judge_rows_over reg role neighbour attribute) i r)
   judge_refuses = refuses_first (judge_answer reg role neighbour attribute) (judge_rows_over reg role neighbour attribute) judge_reads
 
 module _ (reg : Registers) (led : List ℕ) (k : Keeping) where
   -- What no row of is given: the tables, the judging, the store.
-  pub keep_none : first_given (keep_rows reg led k) ≡ none
-      → (first_given (table_rows reg led) ≡ none) × (first_given (judge_rows k.role k.neighbour k.attribute) ≡ none)
-      × (first_given (store_rows led (kept_route reg k)) ≡ none)
+  pub keep_none : first_given (keep_rows reg led k) ≡ None
+      → (first_given (table_rows reg led) ≡ None) × (first_given (judge_rows k.role k.neighbour k.attribute) ≡ None)
+      × (first_given (store_rows led (kept_route reg k)) ≡ None)
   keep_none e =
       let t = neither (first_given (table_rows reg led)) _ (sym (keep_first reg led k) ∙ e) in
       let j = neither (first_given (judge_rows k.role k.neighbour k.attribute)) (first_given (store_rows led (kept_route reg k))) t.1 in
@@ -86,42 +84,34 @@ module _ (reg : Registers) (led : List ℕ) (k : Keeping) where
   keep_reads = go (first_given (keep_rows reg led k)) refl
     where
       go : (o : Option Refusal) → first_given (keep_rows reg led k) ≡ o
-          → refusal_in (unless_refused o Refused led (effect (kept_answer reg k) (ledger_of (put_route (kept_route reg k) (routes_of led))))).answer ≡ o
-      go (some r) e = refl
-      go none e = judged_row (hop_in reg) k.role k.neighbour k.attribute ∙ (keep_none e).1
+          → refusal_in (unless_refused o led (effect (kept_answer reg k) (ledger_of (put_route (kept_route reg k) (routes_of led))))).answer ≡ o
+      go (Some r) e = refl
+      go None e = judged_row (hop_in reg) k.role k.neighbour k.attribute ∙ (keep_none e).1
 
   -- Keep answers a refusal exactly when that is the first of its rows that is given.
-  pub keep_refuses : (r : Refusal) → ((keep_effect reg led k).answer ≡ Refused r) ↔ ((i : ℕ) × FirstAt (keep_rows reg led k) i r)
+  pub keep_refuses : (r : Refusal) → ((keep_effect reg led k).answer ≡ Err r) ↔ ((i : ℕ) × FirstAt (keep_rows reg led k) i r)
   keep_refuses = refuses_first (keep_effect reg led k).answer (keep_rows reg led k) keep_reads
 
   -- Refused, it leaves the ledger's words.
-  pub keep_leaves : (r : Refusal) → (keep_effect reg led k).answer ≡ Refused r → (keep_effect reg led k).words ≡ led
+  pub keep_leaves : (r : Refusal) → (keep_effect reg led k).answer ≡ Err r → (keep_effect reg led k).words ≡ led
   unfolding keep_effect
   keep_leaves r h = rw (sym keep_reads ∙ ap refusal_in h)
 
--- A Re-judge that is accepted is not refused.
-rejudged_apart : (n : ℕ) (r : Refusal) → rejudged.Changed n ≡ rejudged.Refused r → ⊥
-rejudged_apart n r e = let z : ◌≡◌ {A = ℕ} 0 1 = cc in omega arith
-
--- Two refusals of it are told apart.
-rejudged_same : (r s : Refusal) → rejudged.Refused r ≡ rejudged.Refused s → r ≡ s
-rejudged_same r s e = cc
-
 module _ (reg : Registers) (led : List ℕ) (r : Refusal) where
   -- Re-judge answers a refusal exactly when that is the first of its rows that is given.
-  pub rejudge_refuses : ((rejudge_effect reg led).answer ≡ rejudged.Refused r) ↔ ((i : ℕ) × FirstAt (rejudge_rows reg led) i r)
+  pub rejudge_refuses : ((rejudge_effect reg led).answer ≡ Err r) ↔ ((i : ℕ) × FirstAt (rejudge_rows reg led) i r)
   unfolding rejudge_effect
-  rejudge_refuses = answers_first (rejudge_rows reg led) rejudged.Refused led _ rejudged_same (rejudged_apart _) r
+  rejudge_refuses = answers_first (rejudge_rows reg led) led _ _ r
 
   -- Refused, it leaves the ledger's words.
-  pub rejudge_leaves : (rejudge_effect reg led).answer ≡ rejudged.Refused r → (rejudge_effect reg led).words ≡ led
+  pub rejudge_leaves : (rejudge_effect reg led).answer ≡ Err r → (rejudge_effect reg led).words ≡ led
   unfolding rejudge_effect
-  rejudge_leaves = refusal_leaves (rejudge_rows reg led) rejudged.Refused led _ (rejudged_apart _) r
+  rejudge_leaves = refusal_leaves (rejudge_rows reg led) led _ _ r
 
 -- ---- the rows in the order of their numbers
 
 -- A row with one refusal has its number.
-ranged : (b : Bool) (s r : Refusal) → row_if b s ≡ some r → (refusal_number s ≤ refusal_number r) × (refusal_number r ≤ refusal_number s)
+ranged : (b : Bool) (s r : Refusal) → row_if b s ≡ Some r → (refusal_number s ≤ refusal_number r) × (refusal_number r ≤ refusal_number s)
 ranged b s r e = let n = numbered b s r e in (omega (arith, n), omega (arith, n))
 
 -- Faults are rows 12 to 16.
@@ -133,7 +123,7 @@ fault_within NoNumbers = (omega arith, omega arith)
 fault_within ZeroNumber = (omega arith, omega arith)
 
 -- The row of a content is one of 12 to 17.
-content_number : (c : Content) (r : Refusal) → content_row c ≡ some r → (12 ≤ refusal_number r) × (refusal_number r ≤ 17)
+content_number : (c : Content) (r : Refusal) → content_row c ≡ Some r → (12 ≤ refusal_number r) × (refusal_number r ≤ 17)
 content_number (faulty f p) r e = let z : Attribute f p ≡ r = cc in rw (← z) (fault_within f)
 content_number (grounded g) r e = some_not_none (sym e)
 content_number (merged path) r e =
@@ -155,12 +145,12 @@ From m (n ∷ ns) = (m ≤ n.0) × From m ns
 
 -- Then no row does that refuses.
 pub refused_from : (m : ℕ) (rows : List (Option Refusal)) (ns : List (ℕ × ℕ)) → Ranged rows ns → From m ns → (r : Refusal)
-    → first_given rows ≡ some r → m ≤ refusal_number r
+    → first_given rows ≡ Some r → m ≤ refusal_number r
 unfolding first_given
 refused_from m [] ns p f r e = some_not_none (sym e)
 refused_from m (row ∷ rows) [] p f r e = absurd p
-refused_from m (some s ∷ rows) (n ∷ ns) p f r e = omega (arith, (p.0 r e).0, f.0)
-refused_from m (none ∷ rows) (n ∷ ns) p f r e = refused_from m rows ns p.1 f.1 r e
+refused_from m (Some s ∷ rows) (n ∷ ns) p f r e = omega (arith, (p.0 r e).0, f.0)
+refused_from m (None ∷ rows) (n ∷ ns) p f r e = refused_from m rows ns p.1 f.1 r e
 
 -- Rows 9, 10, 11, and one of 12 to 17.
 abbrev pub route_ranges : List (ℕ × ℕ)

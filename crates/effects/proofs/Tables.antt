@@ -3,12 +3,9 @@ use Prim.Native.Nat.{ℕ, ◌≤◌}
 use mathlib.Core.Path.{◌≡◌, refl, sym, ◌∙◌, ap}
 use mathlib.Core.Bool.{true, false}
 use mathlib.Core.List.{List, [], ◌∷◌, ◌++◌, map}
-use mathlib.Core.Option.{Option, none, some}
 use native.Mathlib.Omega.{arith}
 use borrow.Author.Tests.{eqb-true, not-false}
 use Rattle.types.specs.declared.Refusal.{Refusal}
-use Rattle.types.specs.declared.Judged.TheVariants.{Refused}
-use Rattle.types.specs.declared.Rejudged.TheVariants as rejudged
 use Rattle.types.specs.Numbers.{refusal_number}
 use Rattle.types.specs.Rows.{or_else, first_given, effect, unless_refused}
 use Rattle.types.proofs.Refusing.{accepted_none, row_passed}
@@ -27,26 +24,27 @@ use Rattle.effects.proofs.Judgings.{judge_answers, judged_row}
 use Rattle.effects.proofs.Keepings.{tables_none}
 use Rattle.effects.proofs.KeptRoutes.{kept_ok}
 use Rattle.effects.proofs.Refusals.{keep_none, keep_reads, refused_from, route_ranges, route_numbers, stored_numbers}
+use Rattle.std.specs.Prelude.{Err, None, Ok, Option, Some}
 
 -- ---- rows 1, 2 and 3
 
 module _ (reg : Registers) (led : List ℕ) (w : BothFormed reg) (l : Ledger led) where
   -- Well-formed registers and a well-formed ledger are given none of rows 1, 2 and 3.
-  pub tables_pass : first_given (table_rows reg led) ≡ none
+  pub tables_pass : first_given (table_rows reg led) ≡ None
   tables_pass = tables_none reg led w.long l.long w.ok l.ok
 
   -- Re-judge never refuses them: it counts and rewrites.
   pub rejudge_accepts :
       rejudge_effect reg led
       ≡ record {
-        answer = rejudged.Changed (count_differing (routes_of led) (map (rejudged_route (hop_in reg)) (routes_of led)));
+        answer = Ok (count_differing (routes_of led) (map (rejudged_route (hop_in reg)) (routes_of led)));
         words = ledger_of (map (rejudged_route (hop_in reg)) (routes_of led));
       }
   unfolding rejudge_effect
   rejudge_accepts = rw tables_pass
 
   -- Keep refuses them by no row before 9.
-  pub keep_passes : (k : Keeping) (r : Refusal) → (keep_effect reg led k).answer ≡ Refused r → 9 ≤ refusal_number r
+  pub keep_passes : (k : Keeping) (r : Refusal) → (keep_effect reg led k).answer ≡ Err r → 9 ≤ refusal_number r
   keep_passes k r e =
       let later = judge_rows k.role k.neighbour k.attribute ++ store_rows led (kept_route reg k) in
       refused_from 9 later (route_ranges ++ ((18, 18) ∷ (20, 20) ∷ [])) (stored_numbers reg led k)
@@ -55,7 +53,7 @@ module _ (reg : Registers) (led : List ℕ) (w : BothFormed reg) (l : Ledger led
 
 -- Judge refuses well-formed registers by no row before 9.
 pub judge_passes : (reg : Registers) → BothFormed reg → (role neighbour : ℕ) (attribute : List ℕ) (r : Refusal)
-    → judge_answer reg role neighbour attribute ≡ Refused r → 9 ≤ refusal_number r
+    → judge_answer reg role neighbour attribute ≡ Err r → 9 ≤ refusal_number r
 judge_passes reg w role neighbour attribute r e =
     refused_from 9 (judge_rows role neighbour attribute) route_ranges (route_numbers role neighbour attribute)
     (omega arith, (omega arith, (omega arith, (omega arith, tt)))) r
@@ -64,7 +62,7 @@ judge_passes reg w role neighbour attribute r e =
 -- ---- what an accepted call has passed
 
 -- Tables that are given none of rows 1, 2 and 3 are well formed.
-pub passed_tables : (reg : Registers) (led : List ℕ) → first_given (table_rows reg led) ≡ none → BothFormed reg × Ledger led
+pub passed_tables : (reg : Registers) (led : List ℕ) → first_given (table_rows reg led) ≡ None → BothFormed reg × Ledger led
 passed_tables reg led e =
     let given = accepted_none (table_rows reg led) e in (
       record { long = not-false _ (row_passed _ _ (given 0)); ok = not-false _ (row_passed _ _ (given 2)) },
@@ -75,13 +73,13 @@ passed_tables reg led e =
 pub record Accepted (reg : Registers) (led : List ℕ) (k : Keeping) : Type 0 where
   pub register : BothFormed reg
   pub ledger : Ledger led
-  pub argued : first_given (judge_rows k.role k.neighbour k.attribute) ≡ none
+  pub argued : first_given (judge_rows k.role k.neighbour k.attribute) ≡ None
   pub free : holds_route k.number (routes_of led) ≡ false
   pub room : room_for (put_route (kept_route reg k) (routes_of led)) ≡ true
 
 module _ (reg : Registers) (led : List ℕ) (k : Keeping) where
   -- With no row given, a Keep is accepted.
-  pub accepted : first_given (keep_rows reg led k) ≡ none → Accepted reg led k
+  pub accepted : first_given (keep_rows reg led k) ≡ None → Accepted reg led k
   accepted e =
       let parts = keep_none reg led k e in
       let tables = passed_tables reg led parts.0 in
@@ -104,9 +102,9 @@ module _ (reg : Registers) (led : List ℕ) (k : Keeping) where
   keep_preserves l = go (first_given (keep_rows reg led k)) refl
     where
       go : (o : Option Refusal) → first_given (keep_rows reg led k) ≡ o
-          → Ledger (unless_refused o Refused led (effect (kept_answer reg k) (ledger_of (put_route (kept_route reg k) (routes_of led))))).words
-      go (some _) e = l
-      go none e = routes_ledger (put_route (kept_route reg k) (routes_of led)) (kept_routes_ok (accepted e))
+          → Ledger (unless_refused o led (effect (kept_answer reg k) (ledger_of (put_route (kept_route reg k) (routes_of led))))).words
+      go (Some _) e = l
+      go None e = routes_ledger (put_route (kept_route reg k) (routes_of led)) (kept_routes_ok (accepted e))
 
 -- Re-judge leaves a well-formed ledger well formed.
 pub rejudge_preserves : (reg : Registers) (led : List ℕ) → Ledger led → Ledger (rejudge_effect reg led).words
@@ -114,10 +112,10 @@ unfolding rejudge_effect
 rejudge_preserves reg led l = go (first_given (rejudge_rows reg led))
   where
     go : (o : Option Refusal)
-        → Ledger (unless_refused o rejudged.Refused led
+        → Ledger (unless_refused o led
         (record {
-          answer = rejudged.Changed (count_differing (routes_of led) (map (rejudged_route (hop_in reg)) (routes_of led)));
+          answer = Ok (count_differing (routes_of led) (map (rejudged_route (hop_in reg)) (routes_of led)));
           words = ledger_of (map (rejudged_route (hop_in reg)) (routes_of led));
         })).words
-    go (some _) = l
-    go none = routes_ledger (map (rejudged_route (hop_in reg)) (routes_of led)) (rejudged_ok (hop_in reg) (routes_of led) (routes-ok led l.ok))
+    go (Some _) = l
+    go None = routes_ledger (map (rejudged_route (hop_in reg)) (routes_of led)) (rejudged_ok (hop_in reg) (routes_of led) (routes-ok led l.ok))

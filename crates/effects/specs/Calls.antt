@@ -1,7 +1,6 @@
 -- Judge, Keep, Re-judge, Hop and the look-up over the lent tables ("The calls"; "P6"). File, Withdraw and Clear are the register's, Drop is the
 -- ledger's.
-use Rattle.std.specs.Prelude.{ℕ, not, List, [], ◌∷◌, ◌++◌}
-use Rattle.std.proofs.Math.Option.{Option, none, some}
+use Rattle.std.specs.Prelude.{ℕ, not, List, [], ◌∷◌, ◌++◌, Err, None, Ok, Option, Result, Some}
 use Rattle.types.specs.Numbers.{verdict_of}
 use Rattle.types.specs.declared.Origin.TheVariants.{Public}
 use Rattle.types.specs.declared.Hop.{Hop}
@@ -9,12 +8,6 @@ use Rattle.types.specs.declared.Verdict.{Verdict}
 use Rattle.types.specs.declared.Verdict.TheVariants.{Valid}
 use Rattle.types.specs.declared.Refusal.{Refusal}
 use Rattle.types.specs.declared.Refusal.TheVariants.{TableLength, RegisterMalformed}
-use Rattle.types.specs.declared.Hopped.{Hopped}
-use Rattle.types.specs.declared.Hopped.TheVariants as hopped
-use Rattle.types.specs.declared.Judged.{Judged}
-use Rattle.types.specs.declared.Judged.TheVariants.{Answered, Refused}
-use Rattle.types.specs.declared.Rejudged.{Rejudged}
-use Rattle.types.specs.declared.Rejudged.TheVariants as rejudged
 use Rattle.types.specs.Rows.{row_if, length_row, first_given, Effect, effect, unless_refused}
 use Rattle.as_path.specs.Reading.{Content, faulty, grounded, merged, content_of}
 use Rattle.rules.specs.Records.{list_of, counting}
@@ -27,6 +20,7 @@ use Rattle.registers.specs.Registers.{Registers, hop_in, both_long, both_ok, par
 use Rattle.ledger.specs.Routes.{ledger_words, Route, routes_of, ledger_of}
 use Rattle.ledger.specs.Calls.{ledger_row, put_route, route_for, store_rows}
 use Rattle.rejudge.specs.Rejudging.{rejudged_effect}
+use Rattle.types.specs.declared.Answer.{Answer}
 
 -- What a keeping is handed.
 pub record Keeping : Type 0 where
@@ -66,16 +60,16 @@ rejudge_rows reg led = table_rows reg led
 -- ---- Judge
 
 -- Rows 1 and 2, then the answer to one route.
-unfoldable pub judge_answer : Registers → ℕ → ℕ → List ℕ → Judged
+unfoldable pub judge_answer : Registers → ℕ → ℕ → List ℕ → Result Answer Refusal
 judge_answer reg role neighbour attribute =
     unless_given (first_given (register_rows reg)) (judged_route (hop_in reg) role neighbour attribute)
 
 -- ---- Keep
 
 -- A refusal has no verdict; no route is stored for one.
-abbrev pub verdict_in : Judged → Verdict
-verdict_in (Answered a) = verdict_of a
-verdict_in (Refused r) = Valid
+abbrev pub verdict_in : Result Answer Refusal → Verdict
+verdict_in (Ok a) = verdict_of a
+verdict_in (Err r) = Valid
 
 -- The merged path, and none for a ground.
 abbrev pub path_in : Content → List ℕ
@@ -84,7 +78,7 @@ path_in (grounded g) = []
 path_in (merged path) = path
 
 -- What Judge answers to the route of a keeping over well-formed registers.
-abbrev pub kept_answer : Registers → Keeping → Judged
+abbrev pub kept_answer : Registers → Keeping → Result Answer Refusal
 kept_answer reg k = judged_route (hop_in reg) k.role k.neighbour k.attribute
 
 -- The entry that Keep stores: with the answer's ground, verdict and places.
@@ -97,27 +91,27 @@ abbrev pub keep_rows : Registers → List ℕ → Keeping → List (Option Refus
 keep_rows reg led k = table_rows reg led ++ (judge_rows k.role k.neighbour k.attribute ++ store_rows led (kept_route reg k))
 
 -- Keep answers what Judge answers; the words are the ledger's.
-unfoldable pub keep_effect : Registers → List ℕ → Keeping → Effect Judged
+unfoldable pub keep_effect : Registers → List ℕ → Keeping → Effect (Result Answer Refusal)
 keep_effect reg led k =
-    unless_refused (first_given (keep_rows reg led k)) Refused led
+    unless_refused (first_given (keep_rows reg led k)) led
     (effect (kept_answer reg k) (ledger_of (put_route (kept_route reg k) (routes_of led))))
 
 -- ---- Re-judge
 
 -- Every route without a ground is judged anew; the answer is how many changed.
-unfoldable pub rejudge_effect : Registers → List ℕ → Effect Rejudged
+unfoldable pub rejudge_effect : Registers → List ℕ → Effect (Result ℕ Refusal)
 rejudge_effect reg led =
-    unless_refused (first_given (rejudge_rows reg led)) rejudged.Refused led
-    (effect (rejudged.Changed (rejudged_effect (hop_in reg) led).answer) (rejudged_effect (hop_in reg) led).words)
+    unless_refused (first_given (rejudge_rows reg led)) led
+    (effect (Ok (rejudged_effect (hop_in reg) led).answer) (rejudged_effect (hop_in reg) led).words)
 
 -- ---- Hop
 
-abbrev pub hop_unless : Option Refusal → Hop → Hopped
-hop_unless (some r) hop = hopped.Refused r
-hop_unless none hop = hopped.Answered hop
+abbrev pub hop_unless : Option Refusal → Hop → Result Hop Refusal
+hop_unless (Some r) hop = Err r
+hop_unless None hop = Ok hop
 
 -- Rows 1 and 2, then what the register that counts for x says of y.
-unfoldable pub hop_answer : Registers → ℕ → ℕ → Hopped
+unfoldable pub hop_answer : Registers → ℕ → ℕ → Result Hop Refusal
 hop_answer reg x y = hop_unless (first_given (register_rows reg)) (hop_in reg x y)
 
 -- ---- the look-up
@@ -127,8 +121,8 @@ abbrev pub look_rows : Registers → ℕ → ℕ → List (Option Refusal)
 look_rows reg source customer = register_rows reg ++ (source_row source ∷ customer_row customer ∷ [])
 
 abbrev pub list_unless : Option Refusal → List ℕ → List ℕ
-list_unless (some r) list = []
-list_unless none list = list
+list_unless (Some r) list = []
+list_unless None list = list
 
 -- The list of the source for the customer, in the register that counts for the customer; empty where there is none.
 unfoldable pub lookup_list : Registers → ℕ → ℕ → List ℕ
@@ -137,8 +131,8 @@ lookup_list reg source customer =
     (list_of (counting (records_of reg.public) (records_of reg.overrides) customer) source customer)
 
 abbrev pub part_unless : Option Refusal → Part → Part
-part_unless (some r) p = part Public (span 0 0)
-part_unless none p = p
+part_unless (Some r) p = part Public (span 0 0)
+part_unless None p = p
 
 -- Where that list stands.
 unfoldable pub lookup_part : Registers → ℕ → ℕ → Part

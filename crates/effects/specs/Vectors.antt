@@ -1,15 +1,12 @@
 -- The test vectors A to L and O of the rules again, now of Judge over the words that the six filings of register D leave. By computation.
 -- The widest gaps. Vectors of two registers.
-use Rattle.std.specs.Prelude.{ℕ, ◌-◌, ◌≡◌, refl, List, [], ◌∷◌, ◌++◌, map, pos, negsuc, length, replicate}
+use Rattle.std.specs.Prelude.{ℕ, ◌-◌, ◌≡◌, refl, List, [], ◌∷◌, ◌++◌, map, pos, negsuc, length, replicate, None, Ok, Result}
 use Rattle.std.proofs.Common.{◌∙◌, ap}
-use Rattle.std.proofs.Math.Option.{none}
 use Rattle.types.specs.declared.Origin.TheVariants.{Public, Overrides}
 use Rattle.types.specs.declared.Origins.TheVariants.{One, Two}
 use Rattle.types.specs.declared.Cause.TheVariants.{ByHops}
 use Rattle.types.specs.declared.Hop.TheVariants.{NoAttestation, ProviderPlus, NotProviderPlus}
-use Rattle.types.specs.declared.Hopped.TheVariants as hopped
 use Rattle.types.specs.declared.Verdict.TheVariants.{Valid, Invalid, Unknown}
-use Rattle.types.specs.declared.Judged.{Judged}
 use Rattle.types.specs.Rows.{first_given}
 use Rattle.rules.specs.Records.{Record, is_in, hop_over}
 use Rattle.rules.specs.Judging.{unless_given, judged_route}
@@ -21,6 +18,8 @@ use Rattle.register.specs.Register.{register_words, records_of, register_of, lis
 use Rattle.register.specs.Calls.{file_effect}
 use Rattle.registers.specs.Registers.{Registers, lent, both_long, both_ok}
 use Rattle.effects.specs.Calls.{register_rows, judge_answer, hop_answer, lookup_list}
+use Rattle.types.specs.declared.Answer.{Answer}
+use Rattle.types.specs.declared.Refusal.{Refusal}
 
 -- The words that a filing of source 0 leaves.
 abbrev pub filed : ℕ → List ℕ → List ℕ → List ℕ
@@ -106,7 +105,7 @@ whole_register =
     ∙ step₆
 
 -- Neither row 1 nor row 2 is given to them.
-passed : first_given (register_rows (alone packed_d)) ≡ none
+passed : first_given (register_rows (alone packed_d)) ≡ None
 unfolding first_given both_long both_ok decode_slots decode slots_ok all_zero well_formed ascends_from ascends every records_of listed rises_from rises is_in list_ok record_ok room_for records_ok register_ok
 passed = refl
 
@@ -121,7 +120,7 @@ unfolding records_of decode_slots decode
 records_none = refl
 
 -- Over words that pass both rows Judge answers as the definitions do over their records,
-pub over : (reg : Registers) (public overrides : List Record) → first_given (register_rows reg) ≡ none → records_of reg.public ≡ public
+pub over : (reg : Registers) (public overrides : List Record) → first_given (register_rows reg) ≡ None → records_of reg.public ≡ public
     → records_of reg.overrides ≡ overrides → (role neighbour : ℕ) (attribute : List ℕ)
     → judge_answer reg role neighbour attribute ≡ judged_route (hop_over public overrides) role neighbour attribute
 unfolding judge_answer
@@ -135,7 +134,7 @@ over_d role neighbour attribute =
     ∙ over (alone packed_d) register_d [] passed records_d records_none role neighbour attribute
 
 -- What Judge answers to a vector.
-abbrev pub given : Vector → Judged
+abbrev pub given : Vector → Result Answer Refusal
 given v = judge_answer (alone words_d) v.role v.neighbour (sequence v.path)
 
 all_over_d : (vs : List Vector) → map given vs ≡ map rules.given vs
@@ -147,7 +146,7 @@ pub starred : map given vectors ≡ map wanted vectors
 starred = all_over_d vectors ∙ rules.starred
 
 -- And those with runs over a segment's end, vector O among them.
-abbrev pub given_cut : CutVector → Judged
+abbrev pub given_cut : CutVector → Result Answer Refusal
 given_cut v = judge_answer (alone words_d) v.role v.neighbour (sequences v.paths)
 
 all_cut_over_d : (vs : List CutVector) → map given_cut vs ≡ map rules.given_cut vs
@@ -192,12 +191,12 @@ pub record OverrideVectors : Type 0 where
   pub public_then_overrides : judge_answer corrected 3 20 (sequence (20 ∷ 10 ∷ 40 ∷ [])) ≡ gapped (Invalid (ByHops 2 2 (Two Public Overrides))) (pos 2)
   pub overrides_then_public : judge_answer corrected 3 40 (sequence (40 ∷ 80 ∷ 10 ∷ [])) ≡ gapped (Invalid (ByHops 2 2 (Two Overrides Public))) (pos 2)
   -- Provider+ names the lowest source that lists the provider, not the lowest that has a list.
-  pub by_source_0 : hop_answer (alone two_sources) 10 20 ≡ hopped.Answered (ProviderPlus Public 0)
-  pub by_source_2 : hop_answer (alone two_sources) 10 30 ≡ hopped.Answered (ProviderPlus Public 2)
-  pub by_none : hop_answer (alone two_sources) 10 40 ≡ hopped.Answered (NotProviderPlus Public)
-  pub no_record : hop_answer hidden 20 30 ≡ hopped.Answered NoAttestation
+  pub by_source_0 : hop_answer (alone two_sources) 10 20 ≡ Ok (ProviderPlus Public 0)
+  pub by_source_2 : hop_answer (alone two_sources) 10 30 ≡ Ok (ProviderPlus Public 2)
+  pub by_none : hop_answer (alone two_sources) 10 40 ≡ Ok (NotProviderPlus Public)
+  pub no_record : hop_answer hidden 20 30 ≡ Ok NoAttestation
   -- One override of a customer hides the lists of every source for it.
-  pub override_lists : hop_answer hidden 10 40 ≡ hopped.Answered (ProviderPlus Overrides 1)
-  pub public_hidden : hop_answer hidden 10 30 ≡ hopped.Answered (NotProviderPlus Overrides)
+  pub override_lists : hop_answer hidden 10 40 ≡ Ok (ProviderPlus Overrides 1)
+  pub public_hidden : hop_answer hidden 10 30 ≡ Ok (NotProviderPlus Overrides)
   pub looked_up : (lookup_list (alone two_sources) 2 10 ≡ 20 ∷ 30 ∷ []) × (lookup_list hidden 1 10 ≡ 40 ∷ [])
   pub looked_up_hidden : (lookup_list hidden 2 10 ≡ []) × (lookup_list hidden 0 10 ≡ [])

@@ -4,7 +4,6 @@ use mathlib.Core.Path.{◌≡◌, refl, sym, ap, ◌∙◌, subst}
 use mathlib.Core.Bool.{Bool, true, false, cond}
 use mathlib.Core.List.{List}
 use mathlib.Core.Logic.{◌↔◌}
-use mathlib.Core.Option.{Option, none, some}
 use borrow.Author.Tests.{eqb-true, eqb-false, eq-eqb, not-false}
 use lib.Dec.{eqb}
 use lib.ListN.{length}
@@ -14,8 +13,6 @@ use Rattle.types.specs.declared.Verdict.{Verdict}
 use Rattle.types.specs.declared.Verdict.TheVariants.{Valid, Invalid, Unknown}
 use Rattle.types.specs.declared.Answer.TheVariants.{Plain}
 use Rattle.types.specs.declared.Refusal.{Refusal}
-use Rattle.types.specs.declared.Judged.{Judged}
-use Rattle.types.specs.declared.Judged.TheVariants.{Answered, Refused}
 use Rattle.types.specs.Numbers.{verdict_number, verdict_of}
 use Rattle.types.specs.Rows.{first_given}
 use Rattle.types.proofs.Clashes.{clash, some_not_none}
@@ -42,6 +39,8 @@ use Rattle.effects.proofs.Laws.{call_laws}
 use Rattle.fillings.specs.Fillings.{Outcome, valid, invalid, unknown, outcome_of, outcome, Means, MergedPath, Stays}
 use Rattle.fillings.specs.Calls.{outcome_in, outcome_number, HasPath, CallMeanings, Lasts}
 use Rattle.fillings.proofs.Fillings.{meaning}
+use Rattle.std.specs.Prelude.{Err, None, Ok, Option, Result, Some}
+use Rattle.types.specs.declared.Answer.{Answer}
 
 -- ---- an outcome that is told
 
@@ -50,12 +49,12 @@ pub record Telling {A : Type 0} (tell : Outcome → A) : Type 0 where
   pub read : A → Outcome
   pub is : (o : Outcome) → read (tell o) ≡ o
 
-by_some : Telling some
+by_some : Telling Some
 by_some = record { read = from; is = λ o. refl }
   where
     from : Option Outcome → Outcome
-    from none = valid
-    from (some o) = o
+    from None = valid
+    from (Some o) = o
 
 by_number : Telling outcome_number
 by_number = record { read = λ n. cond (eqb n 0) valid (cond (eqb n 1) invalid unknown); is = from }
@@ -87,25 +86,25 @@ told_means {tell} t hop path role e o = (
 
 -- ---- Judge
 
-module _ (role neighbour : ℕ) (attribute : List ℕ) (passes : first_given (judge_rows role neighbour attribute) ≡ none) (hop : HopFunction) where
-  path_judged : (path : List ℕ) → content_of role neighbour attribute ≡ merged path → judged_route hop role neighbour attribute ≡ Answered (judged hop path role)
+module _ (role neighbour : ℕ) (attribute : List ℕ) (passes : first_given (judge_rows role neighbour attribute) ≡ None) (hop : HopFunction) where
+  path_judged : (path : List ℕ) → content_of role neighbour attribute ≡ merged path → judged_route hop role neighbour attribute ≡ Ok (judged hop path role)
   path_judged path c = go (judgement hop role neighbour attribute passes)
     where
-      go : Judgement hop role neighbour attribute → judged_route hop role neighbour attribute ≡ Answered (judged hop path role)
+      go : Judgement hop role neighbour attribute → judged_route hop role neighbour attribute ≡ Ok (judged hop path role)
       go (on-ground g d j) = clash (let z : grounded g ≡ merged path = sym d ∙ c in cc)
       go (on_path p d short j) =
           let z : merged p ≡ merged path = sym d ∙ c in
           let q : p ≡ path = cc in
-          j ∙ ap (λ p. Answered (judged hop p role)) q
+          j ∙ ap (λ p. Ok (judged hop p role)) q
 
-  ground_judged : (g : Ground) → content_of role neighbour attribute ≡ grounded g → judged_route hop role neighbour attribute ≡ Answered (Plain (Invalid (ByGround g)))
+  ground_judged : (g : Ground) → content_of role neighbour attribute ≡ grounded g → judged_route hop role neighbour attribute ≡ Ok (Plain (Invalid (ByGround g)))
   ground_judged g c = go (judgement hop role neighbour attribute passes)
     where
-      go : Judgement hop role neighbour attribute → judged_route hop role neighbour attribute ≡ Answered (Plain (Invalid (ByGround g)))
+      go : Judgement hop role neighbour attribute → judged_route hop role neighbour attribute ≡ Ok (Plain (Invalid (ByGround g)))
       go (on-ground h d j) =
           let z : grounded h ≡ grounded g = sym d ∙ c in
           let q : h ≡ g = cc in
-          j ∙ ap (λ h. Answered (Plain (Invalid (ByGround h)))) q
+          j ∙ ap (λ h. Ok (Plain (Invalid (ByGround h)))) q
       go (on_path p d short j) = clash (let z : merged p ≡ grounded g = sym d ∙ c in cc)
 
 -- Over well-formed registers.
@@ -114,21 +113,21 @@ module _ (reg : Registers) (w : BothFormed reg) (role neighbour : ℕ) (attribut
   judges = judge_answers reg role neighbour attribute w.long w.ok
 
   judge_outcome : (path : List ℕ) → HasPath role neighbour attribute path
-      → outcome_in (judge_answer reg role neighbour attribute) ≡ some (outcome (hop_in reg) path role)
+      → outcome_in (judge_answer reg role neighbour attribute) ≡ Some (outcome (hop_in reg) path role)
   judge_outcome path h = ap outcome_in (judges ∙ path_judged role neighbour attribute h.passes (hop_in reg) path h.read)
 
   judge_means : (path : List ℕ) → HasPath role neighbour attribute path → (o : Outcome)
-      → (outcome_in (judge_answer reg role neighbour attribute) ≡ some o) ↔ Means o (hop_in reg) path role
+      → (outcome_in (judge_answer reg role neighbour attribute) ≡ Some o) ↔ Means o (hop_in reg) path role
   judge_means path h = told_means by_some (hop_in reg) path role (judge_outcome path h)
 
 -- ---- Keep
 
-module _ (reg : Registers) (led : List ℕ) (k : Keeping) (path : List ℕ) (e : first_given (keep_rows reg led k) ≡ none)
+module _ (reg : Registers) (led : List ℕ) (k : Keeping) (path : List ℕ) (e : first_given (keep_rows reg led k) ≡ None)
     (c : content_of k.role k.neighbour k.attribute ≡ merged path) where
-  kept_judged : kept_answer reg k ≡ Answered (judged (hop_in reg) path k.role)
+  kept_judged : kept_answer reg k ≡ Ok (judged (hop_in reg) path k.role)
   kept_judged = path_judged k.role k.neighbour k.attribute (accepted reg led k e).argued (hop_in reg) path c
 
-  keep_means : (o : Outcome) → (outcome_in (keep_effect reg led k).answer ≡ some o) ↔ Means o (hop_in reg) path k.role
+  keep_means : (o : Outcome) → (outcome_in (keep_effect reg led k).answer ≡ Some o) ↔ Means o (hop_in reg) path k.role
   unfolding keep_effect
   keep_means = told_means by_some (hop_in reg) path k.role (rw (e, kept_judged))
 
@@ -190,43 +189,43 @@ stored_merged r ok g =
     record { no-zero = rules.no-zero; no-runs = rules.no-runs }
 
 -- A judging that answers an outcome had well-formed registers and is refused by no row.
-judge_formed : (reg : Registers) (role neighbour : ℕ) (attribute : List ℕ) (o : Outcome) → outcome_in (judge_answer reg role neighbour attribute) ≡ some o
+judge_formed : (reg : Registers) (role neighbour : ℕ) (attribute : List ℕ) (o : Outcome) → outcome_in (judge_answer reg role neighbour attribute) ≡ Some o
     → BothFormed reg
 unfolding judge_answer
 judge_formed reg role neighbour attribute o e = go (first_given (register_rows reg)) refl e
   where
     go : (f : Option Refusal) → first_given (register_rows reg) ≡ f
-        → outcome_in (unless_given f (judged_route (hop_in reg) role neighbour attribute)) ≡ some o → BothFormed reg
-    go (some r) p q = some_not_none (sym q)
-    go none p q =
+        → outcome_in (unless_given f (judged_route (hop_in reg) role neighbour attribute)) ≡ Some o → BothFormed reg
+    go (Some r) p q = some_not_none (sym q)
+    go None p q =
         let given = accepted_none (register_rows reg) p in
         record { long = not-false _ (row_passed _ _ (given 0)); ok = not-false _ (row_passed _ _ (given 1)) }
 
-answered : (j : Judged) (o : Outcome) → outcome_in j ≡ some o → refusal_in j ≡ none
-answered (Answered a) o e = refl
-answered (Refused r) o e = some_not_none (sym e)
+answered : (j : Result Answer Refusal) (o : Outcome) → outcome_in j ≡ Some o → refusal_in j ≡ None
+answered (Ok a) o e = refl
+answered (Err r) o e = some_not_none (sym e)
 
 module _ (o : Outcome) (reg reg' : Registers) (formed : BothFormed reg → BothFormed reg') (stays : Stays o (hop_in reg) (hop_in reg')) where
   judged_lasts : (role neighbour : ℕ) (attribute : List ℕ)
-      → outcome_in (judge_answer reg role neighbour attribute) ≡ some o → outcome_in (judge_answer reg' role neighbour attribute) ≡ some o
+      → outcome_in (judge_answer reg role neighbour attribute) ≡ Some o → outcome_in (judge_answer reg' role neighbour attribute) ≡ Some o
   judged_lasts role neighbour attribute e = go (judgement (hop_in reg) role neighbour attribute passes)
     where
       w : BothFormed reg
       w = judge_formed reg role neighbour attribute o e
 
-      passes : first_given (judge_rows role neighbour attribute) ≡ none
+      passes : first_given (judge_rows role neighbour attribute) ≡ None
       passes =
           sym (judged_reads (hop_in reg) role neighbour attribute)
           ∙ answered (judged_route (hop_in reg) role neighbour attribute) o (sym (ap outcome_in (judges reg w role neighbour attribute)) ∙ e)
 
-      go : Judgement (hop_in reg) role neighbour attribute → outcome_in (judge_answer reg' role neighbour attribute) ≡ some o
+      go : Judgement (hop_in reg) role neighbour attribute → outcome_in (judge_answer reg' role neighbour attribute) ≡ Some o
       go (on-ground g c j) =
           ap outcome_in (judges reg' (formed w) role neighbour attribute ∙ ground_judged role neighbour attribute passes (hop_in reg') g c)
           ∙ sym (ap outcome_in (judges reg w role neighbour attribute ∙ j)) ∙ e
       go (on_path path c short j) =
           let h : HasPath role neighbour attribute path = record { passes = passes; read = c } in
           let was : outcome (hop_in reg) path role ≡ o = told_only by_some (sym (judge_outcome reg w role neighbour attribute path h) ∙ e) in
-          judge_outcome reg' (formed w) role neighbour attribute path h ∙ ap some (stays path (read_merged role neighbour attribute path c) role was)
+          judge_outcome reg' (formed w) role neighbour attribute path h ∙ ap Some (stays path (read_merged role neighbour attribute path c) role was)
 
   route_lasts : (r : Route) → route_ok r ≡ true → (rejudged_route (hop_in reg) r).verdict ≡ outcome_number o → (rejudged_route (hop_in reg') r).verdict ≡ outcome_number o
   route_lasts r ok = go (eqb r.ground_code 0) refl

@@ -3,7 +3,6 @@ use Prim.Native.Nat.{ℕ}
 use mathlib.Core.Path.{◌≡◌, refl, sym, ap, ◌∙◌, subst}
 use mathlib.Core.Bool.{true, false, cond}
 use mathlib.Core.List.{List}
-use mathlib.Core.Option.{Option, none, some}
 use lib.ListN.{length}
 use Rattle.types.specs.declared.Origin.{Origin}
 use Rattle.types.specs.declared.Origin.TheVariants.{Public, Overrides}
@@ -22,6 +21,7 @@ use Rattle.fillings.specs.Fillings.{Outcome, valid, invalid, Stays}
 use Rattle.fillings.specs.Calls.{Lasts, Unattested, AllIn, LastLaws, FilingLaws}
 use Rattle.fillings.proofs.Filings.{valid_by_lists, invalid_by_lists, records_in, hop_after, all_listed, longer_list, shorter_list, none_new, new_record}
 use Rattle.fillings.proofs.Calls.{lasts}
+use Rattle.std.specs.Prelude.{None, Option, Some}
 
 -- Well-formed registers stay so with other well-formed words in one of them.
 pub rewritten_formed : (reg : Registers) → BothFormed reg → (o : Origin) (ws : List ℕ) → Register ws → BothFormed (rewritten o reg ws)
@@ -59,7 +59,7 @@ module _ (reg : Registers) (o : Origin) (source customer : ℕ) (list : List ℕ
       (register_laws.file_formed (chosen o reg) (record { long = chosen_long reg w.long o; ok = chosen_ok reg w.ok o }) source customer list)
 
   -- A refused one leaves them as they are, and one that is done puts its record in.
-  left : (r : Refusal) → first_given (file_rows (chosen o reg) source customer list) ≡ some r → words ≡ chosen o reg
+  left : (r : Refusal) → first_given (file_rows (chosen o reg) source customer list) ≡ Some r → words ≡ chosen o reg
   unfolding file_effect
   left r e = rw (words, e)
 
@@ -77,8 +77,8 @@ module _ (reg : Registers) (o : Origin) (source customer : ℕ) (list : List ℕ
   filing_lasts p stays = lasts p reg after formed (go (first_given (file_rows (chosen o reg) source customer list)) refl)
     where
       go : (f : Option Refusal) → first_given (file_rows (chosen o reg) source customer list) ≡ f → Stays p (hop_in reg) (hop_in after)
-      go (some r) e = subst (λ g. Stays p (hop_in reg) (hop_in g)) (sym (ap (rewritten o reg) (left r e) ∙ same o)) (λ path m role h. h)
-      go none e = subst (Stays p (hop_in reg)) (sym (put_in o words (file_records (chosen o reg) source customer list e))) stays
+      go (Some r) e = subst (λ g. Stays p (hop_in reg) (hop_in g)) (sym (ap (rewritten o reg) (left r e) ∙ same o)) (λ path m role h. h)
+      go None e = subst (Stays p (hop_in reg)) (sym (put_in o words (file_records (chosen o reg) source customer list e))) stays
 
   -- The records of the register that is filed into.
   in_register : (P : List Record → Type 0) (o : Origin) → P (records_of (chosen o reg)) → P (records_in (record_for source customer list) public overrides o)
@@ -97,9 +97,9 @@ module _ (reg : Registers) (o : Origin) (source customer : ℕ) (list : List ℕ
 
   new_lasts : Unattested reg customer → Lasts valid reg after × Lasts invalid reg after
   new_lasts u =
-      let none : attested (counting public overrides customer) customer ≡ false
+      let None : attested (counting public overrides customer) customer ≡ false
       = ap (λ b. attested (cond b overrides public) customer) u.in_overrides ∙ u.in_public in
-      let both = new_record (record_for source customer list) public overrides o none in
+      let both = new_record (record_for source customer list) public overrides o None in
       (filing_lasts valid both.0, filing_lasts invalid both.1)
 
 pub last_laws : LastLaws

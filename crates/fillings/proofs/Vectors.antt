@@ -6,7 +6,6 @@ use native.Mathlib.Omega.{arith}
 use borrow.Author.Tests.{eqb-true}
 use lib.Dec.{eqb}
 use mathlib.Core.List.{List, [], ◌∷◌}
-use mathlib.Core.Option.{none}
 use lib.ListN.{get_or}
 use Rattle.types.specs.declared.Origin.{Origin}
 use Rattle.types.specs.declared.Origin.TheVariants.{Public, Overrides}
@@ -39,6 +38,7 @@ use Rattle.fillings.specs.Calls.{Unattested, AllIn}
 use Rattle.fillings.specs.Vectors.{sets, lists, FillingVectors, tables_d, around, OutcomeVectors}
 use Rattle.fillings.proofs.Filings.{hop_after}
 use Rattle.fillings.proofs.FilingCalls.{rewritten_formed, formed, put_in}
+use Rattle.std.specs.Prelude.{None}
 
 pub filling_vectors : FillingVectors
 unfolding lowest highest climb descend is_in attested united list_of hop_of hop_over upstream downstream judged each those
@@ -114,7 +114,7 @@ around_is c w e role path =
     ∷ []
 
 -- A filing that is done.
-module _ (o : Origin) (source customer : ℕ) (list : List ℕ) (e : first_given (file_rows (chosen o (alone packed_d)) source customer list) ≡ none) where
+module _ (o : Origin) (source customer : ℕ) (list : List ℕ) (e : first_given (file_rows (chosen o (alone packed_d)) source customer list) ≡ None) where
   filed : (role : ℕ) (path : List ℕ)
       → around (file o source customer list) role path
       ≡ judged_route (hop_over register_d []) role (get_or path 0 0) (sequence path)
@@ -126,7 +126,7 @@ module _ (o : Origin) (source customer : ℕ) (list : List ℕ) (e : first_given
       ∙ (λ i. hop_after (record_for source customer list) (records_d i) (records_none i) o))
 
 -- A withdrawal that is done.
-module _ (source customer : ℕ) (e : first_given (withdraw_rows packed_d source customer) ≡ none) where
+module _ (source customer : ℕ) (e : first_given (withdraw_rows packed_d source customer) ≡ None) where
   withdrawn : (role : ℕ) (path : List ℕ)
       → around (withdraw Public source customer) role path
       ≡ judged_route (hop_over register_d []) role (get_or path 0 0) (sequence path)

@@ -1,9 +1,6 @@
 -- What the answers of Judge and Keep, and the verdicts of a ledger after a re-judging, say of the fillings ("P7"); which changes leave them.
-use Rattle.std.specs.Prelude.{ℕ, ◌≤◌, ◌<◌, ◌≡◌, true, false, List, ◌↔◌, length}
-use Rattle.std.proofs.Math.Option.{Option, none, some}
+use Rattle.std.specs.Prelude.{ℕ, ◌≤◌, ◌<◌, ◌≡◌, true, false, List, ◌↔◌, length, Err, None, Ok, Option, Result, Some}
 use Rattle.types.specs.declared.Origin.{Origin}
-use Rattle.types.specs.declared.Judged.{Judged}
-use Rattle.types.specs.declared.Judged.TheVariants.{Answered, Refused}
 use Rattle.types.specs.Numbers.{verdict_of}
 use Rattle.types.specs.Rows.{first_given}
 use Rattle.as_path.specs.Reading.{merged, content_of}
@@ -17,13 +14,15 @@ use Rattle.effects.specs.Calls.{Keeping, keep_rows, judge_answer, keep_effect, k
 use Rattle.effects.specs.Laws.{WellFormed}
 use Rattle.history.specs.Calls.{file, Tables, leaves}
 use Rattle.fillings.specs.Fillings.{Outcome, valid, invalid, unknown, outcome_of, Means}
+use Rattle.types.specs.declared.Answer.{Answer}
+use Rattle.types.specs.declared.Refusal.{Refusal}
 
 -- ---- what the answers mean
 
 -- The outcome that a judging answers; none if it is refused.
-abbrev pub outcome_in : Judged → Option Outcome
-outcome_in (Answered a) = some (outcome_of (verdict_of a))
-outcome_in (Refused r) = none
+abbrev pub outcome_in : Result Answer Refusal → Option Outcome
+outcome_in (Ok a) = Some (outcome_of (verdict_of a))
+outcome_in (Err r) = None
 
 -- The word of an outcome in a ledger's entry.
 abbrev pub outcome_number : Outcome → ℕ
@@ -33,18 +32,18 @@ outcome_number unknown = 2
 
 -- A route within the limits and without a ground: rows 9 to 17 are not given, and its attribute is read as this path.
 pub record HasPath (role neighbour : ℕ) (attribute path : List ℕ) : Type 0 where
-  pub passes : first_given (judge_rows role neighbour attribute) ≡ none
+  pub passes : first_given (judge_rows role neighbour attribute) ≡ None
   pub read : content_of role neighbour attribute ≡ merged path
 
 pub record CallMeanings : Type 0 where
   -- Judge answers an outcome exactly when what it says of the fillings holds.
   pub judge_means : (reg : Registers) → BothFormed reg → (role neighbour : ℕ) (attribute path : List ℕ) → HasPath role neighbour attribute path
-      → (o : Outcome) → (outcome_in (judge_answer reg role neighbour attribute) ≡ some o) ↔ Means o (hop_in reg) path role
+      → (o : Outcome) → (outcome_in (judge_answer reg role neighbour attribute) ≡ Some o) ↔ Means o (hop_in reg) path role
   -- So does a keeping that is done, and it stores the same.
-  pub keep_means : (reg : Registers) (led : List ℕ) (k : Keeping) (path : List ℕ) → first_given (keep_rows reg led k) ≡ none
+  pub keep_means : (reg : Registers) (led : List ℕ) (k : Keeping) (path : List ℕ) → first_given (keep_rows reg led k) ≡ None
       → content_of k.role k.neighbour k.attribute ≡ merged path
-      → (o : Outcome) → (outcome_in (keep_effect reg led k).answer ≡ some o) ↔ Means o (hop_in reg) path k.role
-  pub stored_means : (reg : Registers) (led : List ℕ) (k : Keeping) (path : List ℕ) → first_given (keep_rows reg led k) ≡ none
+      → (o : Outcome) → (outcome_in (keep_effect reg led k).answer ≡ Some o) ↔ Means o (hop_in reg) path k.role
+  pub stored_means : (reg : Registers) (led : List ℕ) (k : Keeping) (path : List ℕ) → first_given (keep_rows reg led k) ≡ None
       → content_of k.role k.neighbour k.attribute ≡ merged path
       → (o : Outcome) → ((kept_route reg k).verdict ≡ outcome_number o) ↔ Means o (hop_in reg) path k.role
   -- After a re-judging every stored route without a ground has the outcome that holds of it.
@@ -58,7 +57,7 @@ pub record CallMeanings : Type 0 where
 -- that has it after a re-judging.
 pub record Lasts (o : Outcome) (reg reg' : Registers) : Type 0 where
   pub judged : (role neighbour : ℕ) (attribute : List ℕ)
-      → outcome_in (judge_answer reg role neighbour attribute) ≡ some o → outcome_in (judge_answer reg' role neighbour attribute) ≡ some o
+      → outcome_in (judge_answer reg role neighbour attribute) ≡ Some o → outcome_in (judge_answer reg' role neighbour attribute) ≡ Some o
   pub rejudged : (led : List ℕ) → WellFormed reg led → (i : ℕ) → i < length (routes_of led)
       → (route_at (routes_of (rejudge_effect reg led).words) i).verdict ≡ outcome_number o
       → (route_at (routes_of (rejudge_effect reg' led).words) i).verdict ≡ outcome_number o

@@ -1,10 +1,9 @@
 -- Fillings of register D, and what calls on it do to outcomes, places and gap ("P7"). proofs/Vectors.antt has the proof: by computation.
-use Rattle.std.specs.Prelude.{ℕ, ◌≡◌, true, false, List, [], ◌∷◌, pos, get_or}
+use Rattle.std.specs.Prelude.{ℕ, ◌≡◌, true, false, List, [], ◌∷◌, pos, get_or, Result}
 use Rattle.types.specs.declared.Origin.TheVariants.{Public, Overrides}
 use Rattle.types.specs.declared.Origins.TheVariants.{One}
 use Rattle.types.specs.declared.Cause.TheVariants.{ByHops}
 use Rattle.types.specs.declared.Verdict.TheVariants.{Valid, Invalid, Unknown}
-use Rattle.types.specs.declared.Judged.{Judged}
 use Rattle.rules.specs.Hops.{HopFunction}
 use Rattle.rules.specs.Records.{Record, is_in, united, hop_over}
 use Rattle.rules.specs.Vectors.{register_d, sequence, plain, gapped}
@@ -14,6 +13,8 @@ use Rattle.effects.specs.Vectors.{packed_d, alone}
 use Rattle.history.specs.Calls.{Call, file, withdraw, Tables, leaves, blank}
 use Rattle.fillings.specs.Fillings.{Filling, unknown, outcome, nobody, filled, admitted, SameSets, new_records, MergedPath}
 use Rattle.fillings.specs.Calls.{HasPath, Unattested, AllIn}
+use Rattle.types.specs.declared.Answer.{Answer}
+use Rattle.types.specs.declared.Refusal.{Refusal}
 
 -- ---- fillings
 
@@ -56,7 +57,7 @@ abbrev pub tables_d : Tables
 tables_d = record { registers = alone packed_d; ledger = blank.ledger }
 
 -- What Judge answers to a path, received from its first number, before a call and after it.
-abbrev pub around : Call → ℕ → List ℕ → List Judged
+abbrev pub around : Call → ℕ → List ℕ → List (Result Answer Refusal)
 around c role path =
     judge_answer tables_d.registers role (get_or path 0 0) (sequence path)
     ∷ judge_answer (leaves tables_d c).registers role (get_or path 0 0) (sequence path)

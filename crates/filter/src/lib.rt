@@ -1,72 +1,56 @@
 // The calls of the filter. Each takes any tables and any arguments, and tests its rows in their order.
 #![tactic(auto)]
 
-ghost use Rattle.std.specs.Prelude.{◌≡◌, true, length};
+ghost use Rattle.std.specs.Prelude.{◌≡◌, true, length, Some, None, MatchResult};
 ghost use Rattle.types.specs.Numbers.{role_number, verdict_of};
-ghost use Rattle.types.specs.Rows.{effect};
+ghost use Rattle.types.specs.Rows.{first_given, effect};
 ghost use Rattle.as_path.specs.Reading.{content_of};
 ghost use Rattle.rules.specs.Judging.{answer_to};
 ghost use Rattle.register.specs.Calls.{file_effect, withdraw_effect, clear_effect};
 ghost use Rattle.ledger.specs.Routes.{ledger_words, ledger_ok};
 ghost use Rattle.ledger.specs.Calls.{route_for, drop_effect};
-ghost use Rattle.registers.specs.Registers.{lent, hop_in, both_ok};
+ghost use Rattle.registers.specs.Registers.{lent, hop_in, chosen};
+ghost use Rattle.registers.specs.Words.{words_of};
 ghost use Rattle.effects.specs.Calls.{judge_answer, keeping, keep_effect, rejudge_effect, hop_answer, look_rows, lookup_part, lookup_list};
-ghost use Rattle.effects.specs.Helpers.{stored_effect, Ready, passes};
+ghost use Rattle.effects.specs.Helpers.{stored_effect, Ready};
 ghost use Rattle.filter.specs.Helpers.{known_from};
 
 use as_path::Reading;
-use ledger::Kept;
-use registers::Part;
+use registers::{Part, Registers};
 use types::{
-    Answer, AsNumber, Cause, Cleared, Filed, Hopped, Judged, Origin, Refusal, Rejudged, Removal,
-    Role, RoleRead, RouteNumber, Verdict,
+    Answer, AsNumber, Cause, Filed, Hop, Neighbour, Origin, Refusal, Role, RouteNumber, Verdict,
 };
 
 // The most bytes of an attribute.
 pub const MOST_BYTES: usize = 4096;
 
-// A role that is known, after rows 9, 10 and 11.
-#[derive(Clone, Copy)]
-pub enum Known {
-    Role(Role),
-    Refused(Refusal),
-}
-
-// Rows 9, 10 and 11, and the role that they let through.
-fn know(role: u32, neighbour: AsNumber, attribute: &[u8]) -> Known
-    ensures { result ≡ known_from role neighbour.0 attribute.now }
+// Rows 9, 10 and 11, and the neighbour that they let through.
+fn know(role: u32, number: AsNumber, attribute: &[u8]) -> Result<Neighbour, Refusal>
+    ensures { result ≡ known_from role number.0 attribute.now }
 {
-    let RoleRead::Is(role) = Role::from_number(role) else {
-        return Known::Refused(Refusal::RoleNumber);
-    };
-    if neighbour.0 == 0 {
-        return Known::Refused(Refusal::NeighbourZero);
+    let role = Role::try_from(role)?;
+    if number.0 == 0 {
+        return Err(Refusal::NeighbourZero);
     }
     if MOST_BYTES < attribute.len() {
-        return Known::Refused(Refusal::AttributeLength);
+        return Err(Refusal::AttributeLength);
     }
-    Known::Role(role)
+    Ok(Neighbour { role, number })
 }
 
 // The attribute read, and its ground or its path judged: rows 12 to 17.
-fn judge_known<'a>(
-    public: &'a [u32],
-    overrides: &'a [u32],
-    role: Role,
-    neighbour: AsNumber,
+fn judge_known(
+    registers: Registers<'_>,
+    neighbour: Neighbour,
     attribute: &[u8],
-) -> Judged
-    requires { both_ok (lent public.now overrides.now) ≡ true }
-    ensures { result ≡ answer_to (hop_in (lent public.now overrides.now)) (role_number role)
-        (content_of (role_number role) neighbour.0 attribute.now) }
+) -> Result<Answer, Refusal>
+    ensures { result ≡ answer_to (hop_in (words_of registers.entry)) (role_number neighbour.role)
+        (content_of (role_number neighbour.role) neighbour.number.0 attribute.now) }
 {
     let mut path = [0u32; as_path::MOST_NUMBERS];
-    match reading::read(role, neighbour, attribute, &mut path) {
-        Reading::Refused(r) => Judged::Refused(r),
-        Reading::OnGround(g) => Judged::Answered(Answer::Plain(Verdict::Invalid(Cause::ByGround(
-            g,
-        )))),
-        Reading::Path(n) => Judged::Answered(verdict::judge(public, overrides, role, &path[..n])),
+    match reading::read(neighbour, attribute, &mut path)? {
+        Reading::OnGround(ground) => Ok(Answer::Plain(Verdict::Invalid(Cause::ByGround(ground)))),
+        Reading::Path(n) => Ok(verdict::judge(registers, neighbour.role, &path[..n])),
     }
 }
 
@@ -78,64 +62,52 @@ pub fn judge<'a>(
     role: u32,
     neighbour: AsNumber,
     attribute: &[u8],
-) -> Judged
+) -> Result<Answer, Refusal>
     ensures { result ≡ judge_answer (lent public.now overrides.now) role neighbour.0 attribute.now }
 {
-    if !registers::are_long(public, overrides) {
-        return Judged::Refused(Refusal::TableLength);
-    }
-    if !registers::are_registers(public, overrides) {
-        return Judged::Refused(Refusal::RegisterMalformed);
-    }
-    match know(role, neighbour, attribute) {
-        Known::Refused(r) => Judged::Refused(r),
-        Known::Role(role) => judge_known(public, overrides, role, neighbour, attribute),
-    }
+    registers::check_lengths(public, overrides)?;
+    let registers = registers::check(public, overrides)?;
+    let neighbour = know(role, neighbour, attribute)?;
+    judge_known(registers, neighbour, attribute)
 }
 
 // An answer whose route is stored, if its number is free and there is room: rows 18 and 20.
 fn keep_answer(
     led: &mut [u32],
     number: RouteNumber,
-    role: Role,
-    neighbour: AsNumber,
+    neighbour: Neighbour,
     answer: Answer,
     path: &[u32],
-) -> Judged
+) -> Result<Answer, Refusal>
     requires { (length led.old ≡ ledger_words) × (ledger_ok led.old ≡ true) }
     ensures { effect result led.new ≡ stored_effect led.old
-        (route_for number.0 (role_number role) neighbour.0 (verdict_of answer) path.now) answer }
+        (route_for number.0 (role_number neighbour.role) neighbour.number.0 (verdict_of answer) path.now) answer }
 {
-    match storing::store(led, number, role, neighbour, answer.verdict(), path) {
-        Kept::Done => Judged::Answered(answer),
-        Kept::Refused(r) => Judged::Refused(r),
-    }
+    storing::store(led, number, neighbour, answer.verdict(), path)?;
+    Ok(answer)
 }
 
 // The attribute read, judged, and its route stored: rows 12 to 17, 18 and 20.
-fn keep_known<'a>(
-    public: &'a [u32],
-    overrides: &'a [u32],
+fn keep_known(
+    registers: Registers<'_>,
     led: &mut [u32],
     number: RouteNumber,
-    role: Role,
-    neighbour: AsNumber,
+    neighbour: Neighbour,
     attribute: &[u8],
-) -> Judged
-    requires { Ready (lent public.now overrides.now) led.old (role_number role) neighbour.0 attribute.now }
-    ensures { effect result led.new ≡ keep_effect (lent public.now overrides.now) led.old
-        (keeping number.0 (role_number role) neighbour.0 attribute.now) }
+) -> Result<Answer, Refusal>
+    requires { Ready (words_of registers) led.old (role_number neighbour.role) neighbour.number.0 attribute.now }
+    ensures { effect result led.new ≡ keep_effect (words_of registers.entry) led.old
+        (keeping number.0 (role_number neighbour.role) neighbour.number.0 attribute.now) }
 {
     let mut path = [0u32; as_path::MOST_NUMBERS];
-    match reading::read(role, neighbour, attribute, &mut path) {
-        Reading::Refused(r) => Judged::Refused(r),
-        Reading::OnGround(g) => {
-            let answer = Answer::Plain(Verdict::Invalid(Cause::ByGround(g)));
-            keep_answer(led, number, role, neighbour, answer, &path[..0])
+    match reading::read(neighbour, attribute, &mut path)? {
+        Reading::OnGround(ground) => {
+            let answer = Answer::Plain(Verdict::Invalid(Cause::ByGround(ground)));
+            keep_answer(led, number, neighbour, answer, &path[..0])
         }
         Reading::Path(n) => {
-            let answer = verdict::judge(public, overrides, role, &path[..n]);
-            keep_answer(led, number, role, neighbour, answer, &path[..n])
+            let answer = verdict::judge(registers, neighbour.role, &path[..n]);
+            keep_answer(led, number, neighbour, answer, &path[..n])
         }
     }
 }
@@ -150,31 +122,25 @@ pub fn keep<'a>(
     role: u32,
     neighbour: AsNumber,
     attribute: &[u8],
-) -> Judged
+) -> Result<Answer, Refusal>
     ensures { effect result led.new ≡ keep_effect (lent public.now overrides.now) led.old
         (keeping number.0 role neighbour.0 attribute.now) }
 {
-    if !registers::are_long(public, overrides) {
-        return Judged::Refused(Refusal::TableLength);
-    }
+    registers::check_lengths(public, overrides)?;
     if led.len() != ledger::WORDS {
-        return Judged::Refused(Refusal::TableLength);
+        return Err(Refusal::TableLength);
     }
-    if !registers::are_registers(public, overrides) {
-        return Judged::Refused(Refusal::RegisterMalformed);
-    }
+    let registers = registers::check(public, overrides)?;
     if !routes::is_ledger(led) {
-        return Judged::Refused(Refusal::RoutesMalformed);
+        return Err(Refusal::RoutesMalformed);
     }
-    match know(role, neighbour, attribute) {
-        Known::Refused(r) => Judged::Refused(r),
-        Known::Role(role) => keep_known(public, overrides, led, number, role, neighbour, attribute),
-    }
+    let neighbour = know(role, neighbour, attribute)?;
+    keep_known(registers, led, number, neighbour, attribute)
 }
 
 // Takes one route out of the ledger.
 // Rows 1, 3, 19.
-pub fn drop(led: &mut [u32], number: RouteNumber) -> Removal
+pub fn drop(led: &mut [u32], number: RouteNumber) -> Result<(), Refusal>
     ensures { effect result led.new ≡ drop_effect led.old number.0 }
 {
     storing::drop(led, number)
@@ -182,60 +148,57 @@ pub fn drop(led: &mut [u32], number: RouteNumber) -> Removal
 
 // Writes the verdict and places of every route without a ground anew, and answers how many routes changed.
 // Rows 1, 2, 3; row 1 is tested for all three tables before row 2.
-pub fn rejudge<'a>(public: &'a [u32], overrides: &'a [u32], led: &mut [u32]) -> Rejudged
+pub fn rejudge<'a>(public: &'a [u32], overrides: &'a [u32], led: &mut [u32]) -> Result<u32, Refusal>
     ensures { effect result led.new ≡ rejudge_effect (lent public.now overrides.now) led.old }
 {
-    if !registers::are_long(public, overrides) {
-        return Rejudged::Refused(Refusal::TableLength);
-    }
+    registers::check_lengths(public, overrides)?;
     if led.len() != ledger::WORDS {
-        return Rejudged::Refused(Refusal::TableLength);
+        return Err(Refusal::TableLength);
     }
-    if !registers::are_registers(public, overrides) {
-        return Rejudged::Refused(Refusal::RegisterMalformed);
-    }
+    let registers = registers::check(public, overrides)?;
     if !routes::is_ledger(led) {
-        return Rejudged::Refused(Refusal::RoutesMalformed);
+        return Err(Refusal::RoutesMalformed);
     }
-    let changed = rejudge::rejudge_all(public, overrides, led);
-    Rejudged::Changed(changed as u32)
+    let changed = rejudge::rejudge_all(registers, led);
+    Ok(changed as u32)
 }
 
 // What the register that counts for x says of y.
 // Rows 1, 2; row 1 is tested for both registers before row 2.
-pub fn hop<'a>(public: &'a [u32], overrides: &'a [u32], x: AsNumber, y: AsNumber) -> Hopped
+pub fn hop<'a>(
+    public: &'a [u32],
+    overrides: &'a [u32],
+    x: AsNumber,
+    y: AsNumber,
+) -> Result<Hop, Refusal>
     ensures { result ≡ hop_answer (lent public.now overrides.now) x.0 y.0 }
 {
-    if !registers::are_long(public, overrides) {
-        return Hopped::Refused(Refusal::TableLength);
-    }
-    if !registers::are_registers(public, overrides) {
-        return Hopped::Refused(Refusal::RegisterMalformed);
-    }
-    Hopped::Answered(registers::hop_between(
-        public,
-        overrides,
-        &registers::NO_HINTS,
-        &registers::NO_HINTS,
-        x,
-        y,
-    ))
+    registers::check_lengths(public, overrides)?;
+    let registers = registers::check(public, overrides)?;
+    Ok(registers.hop_between(x, y))
 }
 
-// Rows 1, 2, 4, 5 of a look-up are passed.
-fn may_look(public: &[u32], overrides: &[u32], source: u32, customer: AsNumber) -> bool
-    ensures { result ≡ passes (look_rows (lent public.now overrides.now) source customer.0) }
+// The registers of a look-up that passes rows 1, 2, 4, 5.
+fn looked_up<'a>(
+    public: &'a [u32],
+    overrides: &'a [u32],
+    source: u32,
+    customer: AsNumber,
+) -> Result<Registers<'a>, Refusal>
+    ensures { MatchResult result
+        (λ registers. (words_of registers ≡ lent public.now overrides.now)
+        × (first_given (look_rows (lent public.now overrides.now) source customer.0) ≡ None))
+        (λ refusal. first_given (look_rows (lent public.now overrides.now) source customer.0) ≡ Some refusal) }
 {
-    if !registers::are_long(public, overrides) {
-        return false;
-    }
-    if !registers::are_registers(public, overrides) {
-        return false;
-    }
+    registers::check_lengths(public, overrides)?;
+    let registers = registers::check(public, overrides)?;
     if register::LAST_SOURCE < source {
-        return false;
+        return Err(Refusal::SourceNumber);
     }
-    customer.0 != 0
+    if customer.0 == 0 {
+        return Err(Refusal::CustomerZero);
+    }
+    Ok(registers)
 }
 
 // Where the list of a source for a customer stands, in the register that counts for the customer. The part is empty where there is no such list, or
@@ -248,14 +211,24 @@ pub fn find_list<'a>(
 ) -> Part
     ensures { result ≡ lookup_part (lent public.now overrides.now) source customer.0 }
 {
-    if !may_look(public, overrides, source, customer) {
-        return Part {
+    match looked_up(public, overrides, source, customer) {
+        Ok(registers) => registers.find_list(source, customer),
+        Err(_) => Part {
             origin: Origin::Public,
             from: 0,
             to: 0,
-        };
+        },
     }
-    registers::find_list(public, overrides, source, customer)
+}
+
+// The words of the register of an origin.
+fn choose<'a>(public: &'a [u32], overrides: &'a [u32], origin: Origin) -> &'a [u32]
+    ensures { result.now ≡ chosen origin (lent public.now overrides.now) }
+{
+    match origin {
+        Origin::Public => public,
+        Origin::Overrides => overrides,
+    }
 }
 
 // The list of a source for a customer itself: a part of the register that counts for the customer, and empty as above.
@@ -268,16 +241,18 @@ pub fn lookup<'a>(
     ensures { result.now ≡ lookup_list (lent public.now overrides.now) source customer.0 }
 {
     let part = find_list(public, overrides, source, customer);
-    let origin = part.origin;
-    let from = part.from;
-    let to = part.to;
-    let reg = registers::choose(public, overrides, origin);
-    &reg[from..to]
+    let register = choose(public, overrides, part.origin);
+    &register[part.from..part.to]
 }
 
 // Makes the list that of its pair of source and customer, in place of the pair's list if it has one.
 // Rows 1, 2, 4, 5, 6, 8.
-pub fn file(reg: &mut [u32], source: u32, customer: AsNumber, providers: &[u32]) -> Filed
+pub fn file(
+    reg: &mut [u32],
+    source: u32,
+    customer: AsNumber,
+    providers: &[u32],
+) -> Result<Filed, Refusal>
     ensures { effect result reg.new ≡ file_effect reg.old source customer.0 providers.now }
 {
     filing::file(reg, source, customer, providers)
@@ -285,7 +260,7 @@ pub fn file(reg: &mut [u32], source: u32, customer: AsNumber, providers: &[u32])
 
 // Takes the list of one pair of source and customer out of the register.
 // Rows 1, 2, 4, 5, 7.
-pub fn withdraw(reg: &mut [u32], source: u32, customer: AsNumber) -> Removal
+pub fn withdraw(reg: &mut [u32], source: u32, customer: AsNumber) -> Result<(), Refusal>
     ensures { effect result reg.new ≡ withdraw_effect reg.old source customer.0 }
 {
     filing::withdraw(reg, source, customer)
@@ -293,7 +268,7 @@ pub fn withdraw(reg: &mut [u32], source: u32, customer: AsNumber) -> Removal
 
 // Takes all lists of a source out of the register, and answers how many went.
 // Rows 1, 2, 4.
-pub fn clear(reg: &mut [u32], source: u32) -> Cleared
+pub fn clear(reg: &mut [u32], source: u32) -> Result<u32, Refusal>
     ensures { effect result reg.new ≡ clear_effect reg.old source }
 {
     filing::clear(reg, source)

@@ -281,6 +281,9 @@ module _ {ws : List ℕ} {n customer source between from i : ℕ} (g : Checked w
                 checks_on (fall x y) (fall_small x y) u
                 (join_next ws (counters + n * record_width) from m (omega arith) p list_some list_inside)
 
+-- Where slots and lists lie.
+pub ruleset bounds = (slot_inside, list_inside, first_inside, lists_inside)
+
 -- ---- the whole register
 
 -- Words that are no packed table.

@@ -8,7 +8,7 @@ ghost use Rattle.halves.specs.Halves.{key_of, key_at, before_in, middle, stepped
 ghost use Rattle.halves.specs.Helpers.{Open, Searchable};
 
 // The key of an entry, the first two words of its slot: customer and source of a record. Of a route's the first, its number, decides.
-#[derive(Clone, Copy)]
+#[derive(Clone, Copy, PartialEq, Eq, PartialOrd, Ord)]
 pub struct Key {
     pub first: u32,
     pub second: u32,
@@ -26,13 +26,7 @@ pub struct Range {
 pub fn is_before(a: Key, b: Key) -> bool
     ensures { result ≡ before_pair (key_of a) (key_of b) }
 {
-    if a.first < b.first {
-        return true;
-    }
-    if a.first == b.first {
-        return a.second < b.second;
-    }
-    false
+    a < b
 }
 
 // The key of the entry at a position of a table whose slots have so many words.
@@ -63,17 +57,17 @@ fn step(range: Range, entry: Key, key: Key) -> Range
     let middle = middle_of(range);
     let steps = range.steps + 1;
     if is_before(entry, key) {
-        let low = middle + 1;
-        return Range {
-            low,
-            high: range.high,
+        Range {
+            low: middle + 1,
             steps,
-        };
-    }
-    Range {
-        low: range.low,
-        high: middle,
-        steps,
+            ..range
+        }
+    } else {
+        Range {
+            high: middle,
+            steps,
+            ..range
+        }
     }
 }
 

@@ -14,9 +14,10 @@
 #![tactic(auto)]
 
 ghost use Rattle.std.specs.Prelude.{◌≡◌, ◌^◌, ◌<◌, ◌≤◌, true, length};
-ghost use Rattle.register.specs.Register.{records_of, record_at, register_ok, position_of};
+ghost use Rattle.register.specs.Register.{records_of, position_of};
 ghost use Rattle.hints.specs.Helpers.{upper_part, first_cell, hint_words};
 
+use register::Register;
 use types::AsNumber;
 
 // Cells to a record of a full register.
@@ -43,35 +44,25 @@ const FIRST_CELL: usize = UPPER + PART;
 // The words that hold all hints; the last is behind the last cell.
 pub const WORDS: usize = FIRST_CELL + CELLS + 1;
 
+// ---- cells
+
 // The words of the part that a customer is in.
 fn part_of(customer: AsNumber, upper: AsNumber) -> usize
     ensures { result ≤ upper_part }
 {
-    let c = customer.0;
-    let u = upper.0;
-    if c < u {
-        return LOWER;
-    }
-    UPPER
-}
-
-// A word as a number of words or cells.
-fn wide(x: u32) -> usize
-    ensures { result < 2 ^ 32 }
-{
-    x as usize
+    if customer.0 < upper.0 { LOWER } else { UPPER }
 }
 
 // How far one customer lies above another.
 fn distance(low: AsNumber, high: AsNumber) -> u32 {
-    std::num::wrapping_sub_u32(high.0, low.0)
+    high.0.wrapping_sub(low.0)
 }
 
 // How many cells of a width lie below a distance.
 fn cells_to(distance: u32, exponent: u32) -> usize
     ensures { result < 2 ^ 32 }
 {
-    wide(distance >> (exponent % 32))
+    (distance >> (exponent % 32)) as usize
 }
 
 // A customer's cell, as an index of words.
@@ -83,54 +74,37 @@ fn cell(hints: &[u32], customer: AsNumber) -> usize
     let base = hints[part];
     let first = table::word(hints, part + FIRST);
     let end = table::word(hints, part + END);
-    let c = customer.0;
-    if c < base {
+    if customer.0 < base {
         return first;
     }
-    let at = first + cells_to(c - base, hints[part + EXPONENT]);
-    if at < end {
-        return at;
-    }
-    end
+    let at = first + cells_to(customer.0 - base, hints[part + EXPONENT]);
+    at.min(end)
 }
 
 // The exponent of the least width at which so many cells hold a range.
 fn exponent(range: u32, cells: usize) -> u32 {
-    let mut e: u32 = 0;
-    while e < 31 {
+    for e in 0..31 {
         if cells_to(range, e) < cells {
             return e;
         }
-        e += 1;
     }
-    e
+    31
 }
 
-// The customer of record i.
-fn customer_at(reg: &[u32], i: usize) -> AsNumber
-    requires { (register_ok reg.now ≡ true) × (i < length (records_of reg.now)) }
-    ensures { result.0 ≡ (record_at (records_of reg.now) i).customer }
-{
-    let c = reg[table::COUNTERS + i * register::WIDTH];
-    AsNumber(c)
-}
+// ---- filling
 
 // Where the upper part of the customers begins: behind their widest gap.
-fn cut(reg: &[u32]) -> usize
-    requires { (register_ok reg.now ≡ true) × (0 < length (records_of reg.now)) }
-    ensures { result < length (records_of reg.now) }
+fn cut(register: Register<'_>) -> usize
+    requires { 0 < length (records_of register.words.now) }
+    ensures { result < length (records_of register.entry.words.now) }
 {
-    let n = table::word(reg, 0);
     let mut position: usize = 0;
     let mut widest: u32 = 0;
-    let mut i: usize = 1;
-    while i < n {
-        let here = i;
-        let gap = distance(customer_at(reg, i - 1), customer_at(reg, i));
-        i += 1;
+    for i in 1..register.count() {
+        let gap = distance(register.customer_at(i - 1), register.customer_at(i));
         if widest < gap {
             widest = gap;
-            position = here;
+            position = i;
         }
     }
     position
@@ -154,16 +128,13 @@ fn set_part(
 }
 
 // Behind each record's cell: how many records there are up to this one.
-fn mark(reg: &[u32], hints: &mut [u32])
-    requires { (register_ok reg.now ≡ true) × (first_cell ≤ length hints.old) }
+fn mark(register: Register<'_>, hints: &mut [u32])
+    requires { first_cell ≤ length hints.old }
 {
-    let n = table::word(reg, 0);
-    let mut i: usize = 0;
-    while i < n {
-        let at = cell(hints, customer_at(reg, i)) + 1;
-        i += 1;
+    for i in 0..register.count() {
+        let at = cell(hints, register.customer_at(i)) + 1;
         if at < hints.len() {
-            hints[at] = i as u32;
+            hints[at] = (i + 1) as u32;
         }
     }
 }
@@ -171,124 +142,146 @@ fn mark(reg: &[u32], hints: &mut [u32])
 // A cell that is not behind a record's takes the hint of the one before it.
 fn spread(hints: &mut [u32]) {
     let mut last: u32 = 0;
-    let mut at = FIRST_CELL;
-    while at < hints.len() {
-        let h = hints[at];
-        if last < h {
-            last = h;
-        }
-        hints[at] = last;
-        at += 1;
+    for hint in hints.iter_mut() {
+        last = last.max(*hint);
+        *hint = last;
     }
 }
 
 // Fills words that are all 0 with hints for a register.
-pub fn fill(reg: &[u32], hints: &mut [u32])
-    requires { (register_ok reg.now ≡ true) × (first_cell ≤ length hints.old) }
+fn fill(register: Register<'_>, hints: &mut [u32])
+    requires { first_cell ≤ length hints.old }
 {
-    let n = table::word(reg, 0);
+    let n = register.count();
     if n == 0 {
         return;
     }
-    let m = cut(reg);
-    let base = customer_at(reg, 0);
-    let middle = customer_at(reg, m);
-    let mut below = base;
-    if 0 < m {
-        below = customer_at(reg, m - 1);
-    }
+    let m = cut(register);
+    let middle = register.customer_at(m);
     let end = FIRST_CELL + m * CELLS_EACH;
-    set_part(hints, LOWER, base, below, FIRST_CELL, end);
+    set_part(
+        hints,
+        LOWER,
+        register.customer_at(0),
+        register.customer_at(m.saturating_sub(1)),
+        FIRST_CELL,
+        end,
+    );
     set_part(
         hints,
         UPPER,
         middle,
-        customer_at(reg, n - 1),
+        register.customer_at(n - 1),
         end,
         FIRST_CELL + CELLS,
     );
     hints[0] = middle.0;
-    mark(reg, hints);
-    spread(hints);
+    mark(register, hints);
+    spread(&mut hints[FIRST_CELL..]);
 }
 
-// The hint at an index, if it is one for n records; otherwise 0.
-fn hint_at(hints: &[u32], at: usize, n: usize) -> usize
-    ensures { result ≤ n }
-{
-    if at < hints.len() {
-        let h = table::word(hints, at);
-        if h <= n {
-            return h;
+// ---- look-up
+
+// A register, and hints for look-ups in it; no hints are an empty slice.
+#[derive(Clone, Copy)]
+pub struct Hinted<'a> {
+    pub register: Register<'a>,
+    pub hints: &'a [u32],
+}
+
+impl<'a> Hinted<'a> {
+    // A register without hints, for whoever has few customers to look up.
+    pub fn plain(register: Register<'a>) -> Self
+        ensures { result.register.words.now ≡ register.entry.words.now }
+    {
+        Hinted {
+            register,
+            hints: &[],
         }
     }
-    0
-}
 
-// A position that is not behind the customer's: the hint at an index, if the record before it bears it out.
-fn tested(reg: &[u32], hints: &[u32], at: usize, customer: AsNumber) -> usize
-    requires { register_ok reg.now ≡ true }
-    ensures { result ≤ position_of customer.0 0 (records_of reg.now) }
-{
-    let low = hint_at(hints, at, table::word(reg, 0));
-    if 0 < low {
-        if finding::stands_before(reg, low - 1, customer, 0) {
+    // A register with hints in words that are all 0, which are filled.
+    pub fn filled(register: Register<'a>, words: &'a mut [u32]) -> Self
+        requires { first_cell ≤ length words.old }
+        ensures { result.register.words.now ≡ register.entry.words.now }
+    {
+        fill(register, words);
+        Hinted {
+            register,
+            hints: words,
+        }
+    }
+
+    // The hint at an index, if it is one for the register; otherwise 0.
+    fn hint_at(self, at: usize) -> usize
+        ensures { result ≤ length (records_of self.entry.register.words.now) }
+    {
+        if at < self.hints.len() {
+            let hint = table::word(self.hints, at);
+            if hint <= self.register.count() {
+                return hint;
+            }
+        }
+        0
+    }
+
+    // A position that is not behind the customer's: the hint at an index, if the record before it bears it out.
+    fn tested(self, at: usize, customer: AsNumber) -> usize
+        ensures { result ≤ position_of customer.0 0 (records_of self.entry.register.words.now) }
+    {
+        let low = self.hint_at(at);
+        if 0 < low && finding::stands_before(self.register, low - 1, customer, 0) {
             return low;
         }
+        0
     }
-    0
-}
 
-// One position further, if the record there stands before the customer's.
-fn advance(reg: &[u32], low: usize, customer: AsNumber) -> usize
-    requires { (register_ok reg.now ≡ true) × (low ≤ position_of customer.0 0 (records_of reg.now)) }
-    ensures { result ≤ position_of customer.0 0 (records_of reg.now) }
-{
-    let mut next = low;
-    if low < table::word(reg, 0) {
-        if finding::stands_before(reg, low, customer, 0) {
-            next = low + 1;
+    // One position further, if the record there stands before the customer's.
+    fn advance(self, low: usize, customer: AsNumber) -> usize
+        requires { low ≤ position_of customer.0 0 (records_of self.register.words.now) }
+        ensures { result ≤ position_of customer.0 0 (records_of self.entry.register.words.now) }
+    {
+        if low < self.register.count() && finding::stands_before(self.register, low, customer, 0) {
+            low + 1
+        } else {
+            low
         }
     }
-    next
-}
 
-// A position that is not behind the customer's, near its hint; without hints, the first.
-fn low_end(reg: &[u32], hints: &[u32], customer: AsNumber) -> usize
-    requires { register_ok reg.now ≡ true }
-    ensures { result ≤ position_of customer.0 0 (records_of reg.now) }
-{
-    if hints.len() < FIRST_CELL {
-        return 0;
+    // A position that is not behind the customer's, near its hint; without hints, the first.
+    fn low_end(self, customer: AsNumber) -> usize
+        ensures { result ≤ position_of customer.0 0 (records_of self.entry.register.words.now) }
+    {
+        if self.hints.len() < FIRST_CELL {
+            return 0;
+        }
+        let at = cell(self.hints, customer);
+        self.advance(self.tested(at, customer), customer)
     }
-    let at = cell(hints, customer);
-    advance(reg, tested(reg, hints, at, customer), customer)
-}
 
-// No record stands before the customer's from a position on. Without hints nothing is looked at, and the answer is no.
-fn is_high_end(reg: &[u32], hints: &[u32], low: usize, customer: AsNumber) -> bool
-    requires { register_ok reg.now ≡ true }
-    ensures { result ≡ true → position_of customer.0 0 (records_of reg.now) ≤ low }
-{
-    if hints.len() < FIRST_CELL {
-        return false;
+    // No record stands before the customer's from a position on. Without hints nothing is looked at, and the answer is no.
+    #[tactic(auto, using(register::proofs::Looking::position_within))]
+    fn is_high_end(self, low: usize, customer: AsNumber) -> bool
+        ensures { result ≡ true → position_of customer.0 0 (records_of self.entry.register.words.now) ≤ low }
+    {
+        if self.hints.len() < FIRST_CELL {
+            return false;
+        }
+        if low < self.register.count() {
+            return !finding::stands_before(self.register, low, customer, 0);
+        }
+        true
     }
-    if low < table::word(reg, 0) {
-        return !finding::stands_before(reg, low, customer, 0);
-    }
-    true
-}
 
-// Where a customer's records begin, or would: the position that `finding::find` answers for source 0, whatever the hints are. Without hints it
-// looks at the same records.
-pub fn find(reg: &[u32], hints: &[u32], customer: AsNumber) -> usize
-    requires { register_ok reg.now ≡ true }
-    ensures { result ≡ position_of customer.0 0 (records_of reg.now) }
-{
-    let low = low_end(reg, hints, customer);
-    if is_high_end(reg, hints, low, customer) {
-        return low;
+    // Where a customer's records begin, or would: the position that `finding::find` answers for source 0, whatever the hints are. Without hints it
+    // looks at the same records.
+    pub fn find(self, customer: AsNumber) -> usize
+        ensures { result ≡ position_of customer.0 0 (records_of self.entry.register.words.now) }
+    {
+        let low = self.low_end(customer);
+        if self.is_high_end(low, customer) {
+            return low;
+        }
+        finding::search(self.register, low, customer, 0).low
     }
-    let found = finding::search(reg, low, customer, 0);
-    found.low
 }

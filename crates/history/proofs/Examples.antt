@@ -3,7 +3,6 @@ use Prim.Native.Nat.{ℕ, ◌-◌, ◌≤◌}
 use mathlib.Core.Path.{◌≡◌, refl, sym, ap, ◌∙◌}
 use mathlib.Core.Bool.{Bool, true, false, not}
 use mathlib.Core.List.{List, [], ◌∷◌, ◌++◌}
-use mathlib.Core.Option.{Option, none, some}
 use native.Mathlib.Omega.{arith}
 use lib.Dec.{lit≤}
 use lib.ListN.{length, replicate}
@@ -43,6 +42,7 @@ use Rattle.history.proofs.Theorems.{hops_model, list_model, demand2}
 use Rattle.history.proofs.Reordered.{itself, chain, back, swap, rejudge_anywhere, clearing_stays, dropping_stays}
 use Rattle.history.proofs.FullLedgers.{sixteen_fill, one_number_more, ground_fits}
 use Rattle.history.proofs.Scans.{filed_is_last, kept_is_last}
+use Rattle.std.specs.Prelude.{None, Option, Some}
 
 -- ---- two sources
 
@@ -52,8 +52,8 @@ unfolding blank records_of routes_of decode decode_slots after refusal first_giv
 two_lists = refl
 
 -- It holds both lists.
-both : (providers_of (find_record (65010, 2) (lists_in Public (final blank one_first))) ≡ some (65001 ∷ 65002 ∷ []))
-    × (providers_of (find_record (65010, 0) (lists_in Public (final blank one_first))) ≡ some (65003 ∷ []))
+both : (providers_of (find_record (65010, 2) (lists_in Public (final blank one_first))) ≡ Some (65001 ∷ 65002 ∷ []))
+    × (providers_of (find_record (65010, 0) (lists_in Public (final blank one_first))) ≡ Some (65003 ∷ []))
 unfolding blank records_of routes_of decode decode_slots after refusal first_given find holds put listed rises rises_from is_in list_ok room_for
 both = (refl, refl)
 
@@ -109,11 +109,11 @@ unfolding blank records_of routes_of decode decode_slots after refusal first_giv
 others_refused = (refl, refl, refl, refl, refl)
 
 -- So one register holds the last list, and the other does not.
-list_made : providers_of (find_record (33, 0) (lists_in Public (final blank room_made))) ≡ some (7 ∷ [])
+list_made : providers_of (find_record (33, 0) (lists_in Public (final blank room_made))) ≡ Some (7 ∷ [])
 unfolding numbers filings blank records_of routes_of decode decode_slots after refusal first_given find holds put without listed rises rises_from is_in list_ok room_for
 list_made = refl
 
-list_missing : providers_of (find_record (33, 0) (lists_in Public (final blank room_missing))) ≡ none
+list_missing : providers_of (find_record (33, 0) (lists_in Public (final blank room_missing))) ≡ None
 unfolding numbers filings blank records_of routes_of decode decode_slots after refusal first_given find holds put without listed rises rises_from is_in list_ok room_for
 list_missing = refl
 
@@ -128,7 +128,7 @@ differs : (last blank room_made).registers.public ≡ (last blank room_missing).
 differs e =
     let a = last_list blank blank_formed room_made Public 0 33 ∙ list_made in
     let b = last_list blank blank_formed room_missing Public 0 33 ∙ list_missing in
-    let z : ◌≡◌ {A = Option (List ℕ)} (some (7 ∷ [])) none = sym a ∙ ap (λ ws. providers_of (find_record (33, 0) (records_of ws))) e ∙ b in
+    let z : ◌≡◌ {A = Option (List ℕ)} (Some (7 ∷ [])) None = sym a ∙ ap (λ ws. providers_of (find_record (33, 0) (records_of ws))) e ∙ b in
     let y : ◌≡◌ {A = ℕ} 0 1 = cc in
     omega arith
 
@@ -140,10 +140,10 @@ elsewhere = (refl, refl)
 -- ---- two registers
 
 -- What the model holds in each register after two calls and after the third.
-each_held : (providers_of (find_record (65010, 0) (lists_in Public (after blank cleared_in_one 2))) ≡ some (65001 ∷ []))
-    × (providers_of (find_record (65010, 0) (lists_in Overrides (after blank cleared_in_one 2))) ≡ some (65002 ∷ []))
-    × (providers_of (find_record (65010, 0) (lists_in Public (after blank cleared_in_one 3))) ≡ none)
-    × (providers_of (find_record (65010, 0) (lists_in Overrides (after blank cleared_in_one 3))) ≡ some (65002 ∷ []))
+each_held : (providers_of (find_record (65010, 0) (lists_in Public (after blank cleared_in_one 2))) ≡ Some (65001 ∷ []))
+    × (providers_of (find_record (65010, 0) (lists_in Overrides (after blank cleared_in_one 2))) ≡ Some (65002 ∷ []))
+    × (providers_of (find_record (65010, 0) (lists_in Public (after blank cleared_in_one 3))) ≡ None)
+    × (providers_of (find_record (65010, 0) (lists_in Overrides (after blank cleared_in_one 3))) ≡ Some (65002 ∷ []))
 unfolding blank records_of routes_of decode decode_slots after refusal first_given find holds put without listed rises rises_from is_in list_ok room_for
 each_held = (refl, refl, refl, refl)
 

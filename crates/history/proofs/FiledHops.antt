@@ -3,7 +3,6 @@ use Prim.Native.Nat.{ℕ, zero, suc, ◌+◌, ◌≤◌, ◌<◌}
 use mathlib.Core.Path.{◌≡◌, refl, sym, ap, ◌∙◌}
 use mathlib.Core.Bool.{Bool, true, false, cond, ◌&&◌, ◌||◌, and-true}
 use mathlib.Core.List.{List, [], ◌∷◌, ◌++◌}
-use mathlib.Core.Option.{Option, none, some}
 use native.Mathlib.Omega.{arith}
 use borrow.Author.Tests.{leb-true, eqb-true, eqb-false, ne_eqb}
 use lib.Dec.{eqb, ltb, leb}
@@ -23,6 +22,7 @@ use Rattle.register.proofs.Holding.{each_ok, in-order}
 use Rattle.providers.proofs.Seeking.{in_append}
 use Rattle.history.specs.Calls.{find_record, providers_of}
 use Rattle.history.specs.Filings.{FiledLists, is_filed, is_listed, hop_filed, hop_filed_over, list_if_any, list_filed_over}
+use Rattle.std.specs.Prelude.{None, Option, Some}
 
 -- ---- tests over a range
 
@@ -60,14 +60,14 @@ some_but f g q i (suc n) a b h k = go (eqb i q) refl (some_but f g q (i + 1) n)
 
 -- ---- a test of the lists of all sources
 
-module _ (test : Option (List ℕ) → Bool) (fails : test none ≡ false) (x : ℕ) where
+module _ (test : Option (List ℕ) → Bool) (fails : test None ≡ false) (x : ℕ) where
   -- Some source's list for x passes.
   unfoldable some_list : List Record → Bool
   some_list rs = draft.some (λ s. test (providers_of (find_record (x, s) rs))) 0 8
 
   -- One record more.
   some_more : (r : Record) (rs : List Record) → record_ok r ≡ true → ascends_from key_of same_pair before_pair (key_of r) rs ≡ true
-      → some_list (r ∷ rs) ≡ ((eqb r.customer x && test (some r.providers)) || some_list rs)
+      → some_list (r ∷ rs) ≡ ((eqb r.customer x && test (Some r.providers)) || some_list rs)
   unfolding some_list find record_ok
   some_more r rs ok a = go (eqb r.customer x) refl
     where
@@ -78,14 +78,14 @@ module _ (test : Option (List ℕ) → Bool) (fails : test none ≡ false) (x : 
       f s = test (providers_of (find_record (x, s) rs))
 
       g : ℕ → Bool
-      g s = test (providers_of (cond (eqb x r.customer && eqb s r.source) (some r) (find_record (x, s) rs)))
+      g s = test (providers_of (cond (eqb x r.customer && eqb s r.source) (Some r) (find_record (x, s) rs)))
 
-      go : (b : Bool) → eqb r.customer x ≡ b → draft.some g 0 8 ≡ ((b && test (some r.providers)) || draft.some f 0 8)
+      go : (b : Bool) → eqb r.customer x ≡ b → draft.some g 0 8 ≡ ((b && test (Some r.providers)) || draft.some f 0 8)
       go false e = some_same g f 0 8 (λ s p. rw (same_flip eqb ltb ordered_ℕ x r.customer, e))
       go true e =
           let z : r.customer ≡ x = eqb-true _ _ e in
           let gone : f r.source ≡ false = rw (← z) (ap (λ o. test (providers_of o)) (none_from key_of same_pair before_pair ordered_pairs (key_of r) rs a) ∙ fails) in
-          let here : g r.source ≡ test (some r.providers) = rw (← z, ordered_ℕ.same_self r.customer, ordered_ℕ.same_self r.source) in
+          let here : g r.source ≡ test (Some r.providers) = rw (← z, ordered_ℕ.same_self r.customer, ordered_ℕ.same_self r.source) in
           some_but f g r.source 0 8 (omega arith) (omega (arith, low)) gone
           (λ s n. rw (← z, ordered_ℕ.same_self r.customer, ne_eqb s r.source n)) ∙ ap (λ b. b || draft.some f 0 8) here
 
@@ -123,7 +123,7 @@ module _ (x : ℕ) where
   list_filed s (r ∷ rs) = rw (same_flip same_pair before_pair ordered_pairs (x, s) (key_of r)) (go (same_pair (key_of r) (x, s)) (list_filed s rs))
     where
       go : (b : Bool) → list_of rs s x ≡ list_if_any (providers_of (find_record (x, s) rs))
-          → cond b r.providers (list_of rs s x) ≡ list_if_any (providers_of (cond b (some r) (find_record (x, s) rs)))
+          → cond b r.providers (list_of rs s x) ≡ list_if_any (providers_of (cond b (Some r) (find_record (x, s) rs)))
       go true ih = refl
       go false ih = ih
 
@@ -133,8 +133,8 @@ module _ (x : ℕ) where
   source_filed y rs = lowest_same _ _ 0 8 (λ s a b. ap (is_in y) (list_filed s rs) ∙ listed (providers_of (find_record (x, s) rs)))
     where
       listed : (o : Option (List ℕ)) → is_in y (list_if_any o) ≡ is_listed y o
-      listed none = refl
-      listed (some list) = refl
+      listed None = refl
+      listed (Some list) = refl
 
 -- The lists that records hold.
 abbrev pub lists_held : List Record → FiledLists

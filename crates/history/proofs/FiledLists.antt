@@ -3,7 +3,6 @@ use Prim.Native.Nat.{ℕ, zero, suc}
 use mathlib.Core.Path.{◌≡◌, refl, sym, ap, ◌∙◌}
 use mathlib.Core.Bool.{Bool, true, false, cond}
 use mathlib.Core.List.{List}
-use mathlib.Core.Option.{Option, none, some}
 use lib.Dec.{eqb, ltb}
 use Rattle.types.specs.declared.Origin.{Origin}
 use Rattle.types.specs.declared.Origin.TheVariants.{Public, Overrides}
@@ -24,6 +23,7 @@ use Rattle.history.specs.Model.{Model, lists_in, held_by, number_of, find_kept, 
 use Rattle.history.specs.Filings.{filed_by, filed_list, kept_by, kept_route_at}
 use Rattle.history.proofs.Origins.{seen_with}
 use Rattle.history.proofs.Simulating.{history_replies}
+use Rattle.std.specs.Prelude.{None, Option, Some}
 
 -- A call that is not refused is accepted.
 answer_accepted : (m : Model) (c : Call) → accepted (answer m c) ≡ true
@@ -51,19 +51,19 @@ module _ (o : Origin) (source customer : ℕ) where
   -- An accepted call changes the list of a pair in a register as demand 2 says.
   changed_list : (m : Model) (c : Call) → list_in (lists_in o (change m c)) ≡ filed_by o source customer c (list_in (lists_in o m))
   changed_list m (file p s c list) =
-      seen_with list_in o p m.lists (same_pair (c, s) (customer, source)) (some list) _
+      seen_with list_in o p m.lists (same_pair (c, s) (customer, source)) (Some list) _
       (ap providers_of (find_put key_of same_pair before_pair ordered_pairs (customer, source) (record_for s c list) (lists_in p m))
-      ∙ through (same_pair (customer, source) (c, s)) (some (record_for s c list)) (find_record (customer, source) (lists_in p m))
-      ∙ ap (λ b. cond b (some list) (list_in (lists_in p m))) (same_flip same_pair before_pair ordered_pairs (customer, source) (c, s)))
+      ∙ through (same_pair (customer, source) (c, s)) (Some (record_for s c list)) (find_record (customer, source) (lists_in p m))
+      ∙ ap (λ b. cond b (Some list) (list_in (lists_in p m))) (same_flip same_pair before_pair ordered_pairs (customer, source) (c, s)))
   changed_list m (withdraw p s c) =
-      seen_with list_in o p m.lists (same_pair (c, s) (customer, source)) none _
+      seen_with list_in o p m.lists (same_pair (c, s) (customer, source)) None _
       (ap providers_of (find_without key_of same_pair before_pair ordered_pairs (customer, source) (same_pair (c, s)) (lists_in p m))
-      ∙ through (same_pair (c, s) (customer, source)) none (find_record (customer, source) (lists_in p m)))
+      ∙ through (same_pair (c, s) (customer, source)) None (find_record (customer, source) (lists_in p m)))
   changed_list m (clear p s) =
-      seen_with list_in o p m.lists (eqb s source) none _
+      seen_with list_in o p m.lists (eqb s source) None _
       (ap providers_of (find_without key_of same_pair before_pair ordered_pairs (customer, source) (of_source s) (lists_in p m))
-      ∙ through (eqb source s) none (find_record (customer, source) (lists_in p m))
-      ∙ ap (λ b. cond b none (list_in (lists_in p m))) (same_flip eqb ltb ordered_ℕ source s))
+      ∙ through (eqb source s) None (find_record (customer, source) (lists_in p m))
+      ∙ ap (λ b. cond b None (list_in (lists_in p m))) (same_flip eqb ltb ordered_ℕ source s))
   changed_list m (keep k) = refl
   changed_list m (drop n) = refl
   changed_list m rejudge = refl
@@ -88,8 +88,8 @@ module _ (o : Origin) (source customer : ℕ) where
       go : (r : Option Refusal)
           → list_in (lists_in o (change_unless r (after t l i) (change (after t l i) (call_at l i))))
           ≡ cond (accepted (reply_unless r (answer (after t l i) (call_at l i)))) (filed_by o source customer (call_at l i) (held i)) (held i)
-      go (some r) = refl
-      go none = changed_list (after t l i) (call_at l i)
+      go (Some r) = refl
+      go None = changed_list (after t l i) (call_at l i)
           ∙ ap (λ b. cond b (filed_by o source customer (call_at l i) (held i)) (held i)) (sym (answer_accepted (after t l i) (call_at l i)))
 
 module _ (number : ℕ) where
@@ -100,7 +100,7 @@ module _ (number : ℕ) where
   changed_route m (clear o s) = refl
   changed_route m (keep k) =
       find_put number_of eqb ltb ordered_ℕ number (route_read k) m.routes
-      ∙ ap (λ b. cond b (some (route_read k)) (find_kept number m.routes)) (same_flip eqb ltb ordered_ℕ number k.number)
+      ∙ ap (λ b. cond b (Some (route_read k)) (find_kept number m.routes)) (same_flip eqb ltb ordered_ℕ number k.number)
   changed_route m (drop n) = find_without number_of eqb ltb ordered_ℕ number (eqb n) m.routes
   changed_route m rejudge = refl
 
@@ -119,6 +119,6 @@ module _ (number : ℕ) where
       go : (o : Option Refusal)
           → find_kept number (change_unless o (after t l i) (change (after t l i) (call_at l i))).routes
           ≡ cond (accepted (reply_unless o (answer (after t l i) (call_at l i)))) (kept_by number (call_at l i) (held i)) (held i)
-      go (some r) = refl
-      go none = changed_route (after t l i) (call_at l i)
+      go (Some r) = refl
+      go None = changed_route (after t l i) (call_at l i)
           ∙ ap (λ b. cond b (kept_by number (call_at l i) (held i)) (held i)) (sym (answer_accepted (after t l i) (call_at l i)))

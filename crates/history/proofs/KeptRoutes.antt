@@ -1,7 +1,6 @@
 -- The route that a keeping stores, and one that is judged anew, as the model has them. Assumes nothing.
 use mathlib.Core.Path.{◌≡◌, refl}
 use mathlib.Core.Bool.{Bool, true, false, cond}
-use mathlib.Core.Option.{none}
 use borrow.Author.Tests.{eqb-true}
 use lib.Dec.{eqb}
 use lib.ListN.{length}
@@ -22,6 +21,7 @@ use Rattle.effects.specs.Calls.{Keeping, kept_route}
 use Rattle.effects.proofs.KeptRoutes.{judged_ground}
 use Rattle.history.specs.Calls.{route_read, known}
 use Rattle.history.specs.Model.{with_verdict, with_words, judged_kept}
+use Rattle.std.specs.Prelude.{None}
 
 -- ---- a route that is judged anew
 
@@ -68,7 +68,7 @@ module _ (hop : HopFunction) where
 
 -- ---- the route that a keeping stores
 
-module _ (reg : Registers) (k : Keeping) (e : first_given (judge_rows k.role k.neighbour k.attribute) ≡ none) where
+module _ (reg : Registers) (k : Keeping) (e : first_given (judge_rows k.role k.neighbour k.attribute) ≡ None) where
   -- But for the verdict it is the route that the arguments are read as.
   pub kept_known : known (kept_route reg k) ≡ route_read k
   kept_known = go (judgement (hop_in reg) k.role k.neighbour k.attribute e)

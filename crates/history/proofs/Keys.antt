@@ -3,7 +3,6 @@ use Prim.Native.Nat.{ℕ, zero, suc}
 use mathlib.Core.Path.{◌≡◌, refl, sym, ap, ◌∙◌}
 use mathlib.Core.Bool.{Bool, true, false, not, cond, ◌&&◌}
 use mathlib.Core.List.{List, [], ◌∷◌}
-use mathlib.Core.Option.{Option, none, some}
 use native.Mathlib.Omega.{arith}
 use lib.Dec.{eqb, ltb}
 use lib.ListN.{length}
@@ -29,6 +28,7 @@ use Rattle.history.specs.Replies.{ModelReply, new, replaced, gone}
 use Rattle.history.specs.Model.{Model, lists_in, refiled, held_by, number_of, find_kept, holds_kept, argument_rows, held_rows, answer, change, reply_unless, change_unless}
 use Rattle.history.specs.Filings.{same_origin}
 use Rattle.history.proofs.Origins.{origin_self, of_each, same_lists, seen_with, seen_left}
+use Rattle.std.specs.Prelude.{None, Option, Some}
 
 -- A key of the lists of one register (customer and source) or of the routes.
 pub data Key : Type 0 where
@@ -91,28 +91,28 @@ at_key same before o a b x y z f = go (same a b) refl
 
 -- What is there stays.
 abbrev unless_there : {X : Type 0} → Option X → Option X → Option X
-unless_there (some v) other = some v
-unless_there none other = other
+unless_there (Some v) other = Some v
+unless_there None other = other
 
 -- What a call that hits the key, and that its arguments do not bar, makes of what is found there.
 abbrev value : (k : Key) → Call → Found k → Found k
-value (pair o k) (file p s c list) v = some (record_for s c list)
-value (pair o k) (withdraw p s c) v = none
-value (pair o k) (clear p s) v = none
+value (pair o k) (file p s c list) v = Some (record_for s c list)
+value (pair o k) (withdraw p s c) v = None
+value (pair o k) (clear p s) v = None
 value (pair o k) (keep j) v = v
 value (pair o k) (drop n) v = v
 value (pair o k) rejudge v = v
 value (route k) (file p s c list) v = v
 value (route k) (withdraw p s c) v = v
 value (route k) (clear p s) v = v
-value (route k) (keep j) v = unless_there v (some (route_read j))
-value (route k) (drop n) v = none
+value (route k) (keep j) v = unless_there v (Some (route_read j))
+value (route k) (drop n) v = None
 value (route k) rejudge v = v
 
 -- A call that its arguments bar changes nothing.
 abbrev blocked {ℓ} : {X : Type ℓ} → Option Refusal → X → X → X
-blocked (some r) x y = x
-blocked none x y = y
+blocked (Some r) x y = x
+blocked None x y = y
 
 -- What a call makes of what is found under the key.
 abbrev becomes : (k : Key) → Call → Found k → Found k
@@ -120,13 +120,13 @@ becomes k c v = cond (hits k (scope c)) (blocked (first_given (argument_rows c))
 
 -- A call that leaves what is found under a key leaves it whether refused or not.
 left_alone : (k : Key) (o : Option Refusal) (m n : Model) → look k n ≡ look k m → look k (change_unless o m n) ≡ look k m
-left_alone k (some r) m n h = refl
-left_alone k none m n h = h
+left_alone k (Some r) m n h = refl
+left_alone k None m n h = h
 
 -- A key that is held has something under it.
 there : {E : Type 0} (o : Option E) → is_some o ≡ true → (n : Option E) → unless_there o n ≡ o
-there (some v) h n = refl
-there none h n = let z : ◌≡◌ {A = ℕ} 0 1 = cc in absurd (omega arith)
+there (Some v) h n = refl
+there None h n = let z : ◌≡◌ {A = ℕ} 0 1 = cc in absurd (omega arith)
 
 -- A call that its arguments do not bar.
 found_own : (k : Key) (m : Model) (c : Call)
@@ -137,18 +137,18 @@ found_own (pair o k) m (file p s c list) =
 found_own (pair o k) m (withdraw p s c) = go (holds_record c s (lists_in p m)) refl
   where
     go : (b : Bool) → holds_record c s (lists_in p m) ≡ b
-        → look (pair o k) (change_unless (or_else (row_if (not b) NoRecord) none) m (change m (withdraw p s c)))
-        ≡ cond (same_origin p o && same_pair k (c, s)) none (find_record k (lists_in o m))
+        → look (pair o k) (change_unless (or_else (row_if (not b) NoRecord) None) m (change m (withdraw p s c)))
+        ≡ cond (same_origin p o && same_pair k (c, s)) None (find_record k (lists_in o m))
     go true e =
-        seen_with (find_record k) o p m.lists (same_pair k (c, s)) none _
+        seen_with (find_record k) o p m.lists (same_pair k (c, s)) None _
         (find_without key_of same_pair before_pair ordered_pairs k (same_pair (c, s)) (lists_in p m)
-        ∙ ap (λ b. cond b none (find_record k (lists_in p m))) (same_flip same_pair before_pair ordered_pairs (c, s) k))
+        ∙ ap (λ b. cond b None (find_record k (lists_in p m))) (same_flip same_pair before_pair ordered_pairs (c, s) k))
     go false e =
-        seen_left (find_record k) o p m.lists (same_pair k (c, s)) none
+        seen_left (find_record k) o p m.lists (same_pair k (c, s)) None
         (sym (either_way (same_pair k (c, s)) _)
         ∙ at_key same_pair before_pair ordered_pairs k (c, s) _ _ _ (λ q. rw q (find_none key_of same_pair before_pair (c, s) (lists_in p m) e)))
 found_own (pair o k) m (clear p s) =
-    seen_with (find_record k) o p m.lists (eqb k.1 s) none _ (find_without key_of same_pair before_pair ordered_pairs k (of_source s) (lists_in p m))
+    seen_with (find_record k) o p m.lists (eqb k.1 s) None _ (find_without key_of same_pair before_pair ordered_pairs k (of_source s) (lists_in p m))
 found_own (pair o k) m (keep j) = left_alone (pair o k) (first_given (held_rows m (keep j))) m _ refl
 found_own (pair o k) m (drop n) = left_alone (pair o k) (first_given (held_rows m (drop n))) m _ refl
 found_own (pair o k) m rejudge = refl
@@ -161,23 +161,23 @@ found_own (route k) m (keep j) = go (holds_kept j.number m.routes) refl
     r = route_read j
 
     go : (b : Bool) → holds_kept j.number m.routes ≡ b
-        → look (route k) (change_unless (or_else (row_if b RouteTaken) none) m (change m (keep j)))
-        ≡ cond (eqb k j.number) (unless_there (find_kept k m.routes) (some r)) (find_kept k m.routes)
+        → look (route k) (change_unless (or_else (row_if b RouteTaken) None) m (change m (keep j)))
+        ≡ cond (eqb k j.number) (unless_there (find_kept k m.routes) (Some r)) (find_kept k m.routes)
     go true e =
         sym (either_way (eqb k j.number) _)
         ∙ at_key eqb ltb ordered_ℕ k j.number _ _ _ (λ q. sym (there (find_kept k m.routes)
-        (rw q (sym (find_holds number_of eqb ltb j.number m.routes) ∙ e)) (some r)))
+        (rw q (sym (find_holds number_of eqb ltb j.number m.routes) ∙ e)) (Some r)))
     go false e =
         find_put number_of eqb ltb ordered_ℕ k r m.routes
         ∙ at_key eqb ltb ordered_ℕ k j.number _ _ _ (λ q. rw (q, find_none number_of eqb ltb j.number m.routes e))
 found_own (route k) m (drop n) = go (holds_kept n m.routes) refl
   where
     go : (b : Bool) → holds_kept n m.routes ≡ b
-        → look (route k) (change_unless (or_else (row_if (not b) NoRoute) none) m (change m (drop n)))
-        ≡ cond (eqb k n) none (find_kept k m.routes)
+        → look (route k) (change_unless (or_else (row_if (not b) NoRoute) None) m (change m (drop n)))
+        ≡ cond (eqb k n) None (find_kept k m.routes)
     go true e =
         find_without number_of eqb ltb ordered_ℕ k (eqb n) m.routes
-        ∙ ap (λ b. cond b none (find_kept k m.routes)) (same_flip eqb ltb ordered_ℕ n k)
+        ∙ ap (λ b. cond b None (find_kept k m.routes)) (same_flip eqb ltb ordered_ℕ n k)
     go false e =
         sym (either_way (eqb k n) _)
         ∙ at_key eqb ltb ordered_ℕ k n _ _ _ (λ q. rw q (find_none number_of eqb ltb n m.routes e))
@@ -190,8 +190,8 @@ found_next k m c = go (first_given (argument_rows c))
   where
     go : (o : Option Refusal)
         → look k (change_unless (or_else o (first_given (held_rows m c))) m (change m c)) ≡ cond (hits k (scope c)) (blocked o (look k m) (value k c (look k m))) (look k m)
-    go none = found_own k m c
-    go (some r) = sym (either_way (hits k (scope c)) (look k m))
+    go None = found_own k m c
+    go (Some r) = sym (either_way (hits k (scope c)) (look k m))
 
 -- So a call that misses the key changes nothing there.
 pub miss : (k : Key) (m : Model) (c : Call) → hits k (scope c) ≡ false → look k (free_next m c) ≡ look k m
@@ -225,8 +225,8 @@ change_in_order m rejudge h = h
 
 -- So a call leaves a model in order, refused or not.
 pub next_in_order : (o : Option Refusal) (m : Model) (c : Call) → InOrder m → InOrder (change_unless o m (change m c))
-next_in_order (some r) m c h = h
-next_in_order none m c h = change_in_order m c h
+next_in_order (Some r) m c h = h
+next_in_order None m c h = change_in_order m c h
 
 -- What well-formed tables hold is in order.
 pub held_in_order : (t : Tables) → Formed t → InOrder (held_by t)
@@ -287,7 +287,7 @@ count_alike m n o s h g e =
     others : List Record → List Record
     others rs = without key_of same_pair before_pair rest rs
 
-    go : (k : ℕ × ℕ) (t : Bool) → eqb k.1 s ≡ t → cond (not t) none (find_record k (lists_in o m)) ≡ cond (not t) none (find_record k (lists_in o n))
+    go : (k : ℕ × ℕ) (t : Bool) → eqb k.1 s ≡ t → cond (not t) None (find_record k (lists_in o m)) ≡ cond (not t) None (find_record k (lists_in o n))
     go k true q = e k q
     go k false q = refl
 

@@ -4,7 +4,6 @@ use Prim.Native.Nat.{ℕ, zero, suc, ◌<◌, ◌≤◌}
 use mathlib.Core.Path.{◌≡◌, refl, sym, ap, ◌∙◌}
 use mathlib.Core.Bool.{Bool, true, false, not}
 use mathlib.Core.List.{List, ◌++◌}
-use mathlib.Core.Option.{Option, none, some}
 use native.Mathlib.Omega.{arith}
 use native.Mathlib.Decide.{dec_lt, dec_le}
 use lib.ListN.{length, get_or-eq_default}
@@ -24,6 +23,7 @@ use Rattle.history.specs.Reorderings.{OnPair, Clears, OfSource, OnRoute, Tied, s
 use Rattle.history.specs.Filings.{same_origin}
 use Rattle.history.proofs.Origins.{origin_is}
 use Rattle.history.proofs.Keys.{Key, pair, route, look, hits, free_refusal, free_reply, free_next, free_after, miss, alike, InOrder, held_in_order, free_in_order, same_model, reply_alike}
+use Rattle.std.specs.Prelude.{None, Option, Some}
 
 -- A test that cannot pass fails.
 not-true : (b : Bool) → (b ≡ true → ⊥) → b ≡ false
@@ -185,18 +185,18 @@ module _ (start : Model) (ordered : InOrder start) (l m : List Call) (r : Reorde
 -- ---- room
 
 -- What a row for room gives is a refusal for room.
-room_row : (m : Model) (c : Call) (r : Refusal) → first_given (room_rows m c) ≡ some r → for_room (refused r) ≡ true
+room_row : (m : Model) (c : Call) (r : Refusal) → first_given (room_rows m c) ≡ Some r → for_room (refused r) ≡ true
 unfolding first_given
 room_row m (file o s c list) r = go (room_for (put_record (record_for s c list) (lists_in o m)))
   where
-    go : (b : Bool) → or_else (row_if (not b) RegisterFull) none ≡ some r → for_room (refused r) ≡ true
+    go : (b : Bool) → or_else (row_if (not b) RegisterFull) None ≡ Some r → for_room (refused r) ≡ true
     go true h = some_not_none (sym h)
     go false h = let e : RegisterFull ≡ r = cc in rw (← e)
 room_row m (withdraw o s c) r = λ h. some_not_none (sym h)
 room_row m (clear o s) r = λ h. some_not_none (sym h)
 room_row m (keep k) r = go (room_for_routes (put_kept (route_read k) m.routes))
   where
-    go : (b : Bool) → or_else (row_if (not b) RoutesFull) none ≡ some r → for_room (refused r) ≡ true
+    go : (b : Bool) → or_else (row_if (not b) RoutesFull) None ≡ Some r → for_room (refused r) ≡ true
     go true h = some_not_none (sym h)
     go false h = let e : RoutesFull ≡ r = cc in rw (← e)
 room_row m (drop n) r = λ h. some_not_none (sym h)
@@ -213,10 +213,10 @@ free-refusal m c h =
   where
     go : (a b o : Option Refusal) → first_given (room_rows m c) ≡ o → for_room (reply_unless (or_else a (or_else b o)) (answer m c)) ≡ false
         → or_else a (or_else b o) ≡ or_else a b
-    go (some x) b o e h = refl
-    go none (some x) o e h = refl
-    go none none (some x) e h = not_both h (room_row m c x e)
-    go none none none e h = refl
+    go (Some x) b o e h = refl
+    go None (Some x) o e h = refl
+    go None None (Some x) e h = not_both h (room_row m c x e)
+    go None None None e h = refl
 
 -- No call of the list is refused for room by the model.
 abbrev pub RoomyModel : Tables → List Call → Type 0

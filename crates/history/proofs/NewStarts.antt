@@ -3,7 +3,6 @@ use Prim.Native.Nat.{ℕ}
 use mathlib.Core.Path.{◌≡◌, refl}
 use mathlib.Core.List.{List, [], ◌∷◌}
 use Rattle.types.specs.declared.Origin.TheVariants.{Public, Overrides}
-use Rattle.types.specs.declared.Rejudged.TheVariants.{Changed}
 use Rattle.types.specs.Rows.{first_given}
 use Rattle.table.specs.Table.{slots, bodies, pad, encode, decode_slots, decode, slots_ok, all_zero, well_formed}
 use Rattle.keyed.specs.Keyed.{ascends_from, ascends, every}
@@ -24,6 +23,7 @@ use Rattle.history.specs.Calls.{Tables, Formed, rejudge, rejudged, says, leaves,
 use Rattle.history.specs.Model.{after}
 use Rattle.history.specs.Starts.{yielded, Accepts, OverridesFormed, route_with, stale, overridden, NewStarts}
 use Rattle.history.proofs.Theorems.{demands}
+use Rattle.std.specs.Prelude.{Ok}
 
 yields_formed : (file : List ℕ) (t : Tables) → OverridesFormed t → Accepts file t → Formed (yielded file t)
 yields_formed file t w h =
@@ -39,10 +39,10 @@ yields_formed file t w h =
 mended :
     Accepts stale blank
     × (routes_of (yielded stale blank).ledger ≡ route_with 0 0 ∷ [])
-    × (says (yielded stale blank) rejudge ≡ rejudged (Changed 1))
+    × (says (yielded stale blank) rejudge ≡ rejudged (Ok 1))
     × (routes_of (leaves (yielded stale blank) rejudge).ledger ≡ route_with 2 2 ∷ [])
     × Accepts stale overridden
-    × (says (yielded stale overridden) rejudge ≡ rejudged (Changed 0))
+    × (says (yielded stale overridden) rejudge ≡ rejudged (Ok 0))
 unfolding blank read_effect first_given bytes_of field words_in contents_ok length_ok register_in ledger_in pad decode_slots decode slots_ok all_zero well_formed every ascends ascends_from bodies records_of listed records_ok register.room_for register_ok routes_of path_words no_zero no_repeat no_runs path_ok ground_ok route_ok routes_ok ledger.room_for ledger_ok rejudge_effect count_differing judged upstream hop_of hop_over list_of attested united is_in lowest highest climb descend ledger_of encode slots both_long both_ok rises_from rises list_ok record_ok
 mended = (refl, refl, refl, refl, refl, refl)
 

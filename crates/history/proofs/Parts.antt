@@ -3,7 +3,6 @@ use Prim.Native.Nat.{ℕ}
 use mathlib.Core.Path.{◌≡◌, refl, sym, ap, ◌∙◌, subst}
 use mathlib.Core.Bool.{Bool, true, false, cond, true≢false, ◌||◌, ◌&&◌}
 use mathlib.Core.List.{List, [], ◌∷◌}
-use mathlib.Core.Option.{Option, none, some}
 use borrow.Author.Tests.{eqb-true}
 use lib.Dec.{eqb}
 use Rattle.types.specs.declared.Origin.TheVariants.{Public, Overrides}
@@ -32,6 +31,7 @@ use Rattle.history.specs.Filings.{FiledLists, filed_list, hop_filed, hop_filed_o
 use Rattle.history.specs.Parts.{HoldsPart, Parts, everybody, of_fifty, start_ten, PartVectors}
 use Rattle.history.proofs.Simulating.{blank_formed}
 use Rattle.history.proofs.Theorems.{demand2}
+use Rattle.std.specs.Prelude.{None, Option, Some}
 
 -- The hops from a number go by its own lists.
 own_lists : (public overrides public' overrides' : FiledLists) (x : ℕ) → ((source : ℕ) → public source x ≡ public' source x)
@@ -79,7 +79,7 @@ unfolding filed_list
 held_is source x = ap (λ rs. providers_of (find_record (x, source) rs)) holding_ten_twenty.public_is
 
 -- No override is.
-none_held : (source x : ℕ) → filed_list start_ten [] 0 Overrides source x ≡ none
+none_held : (source x : ℕ) → filed_list start_ten [] 0 Overrides source x ≡ None
 unfolding filed_list find
 none_held source x = ap (λ rs. providers_of (find_record (x, source) rs)) holding_ten_twenty.overrides_is
 
@@ -87,7 +87,7 @@ of_twenty : (source : ℕ) → held source 20 ≡ everybody source 20
 unfolding find
 of_twenty source = go (eqb source 0)
   where
-    go : (b : Bool) → providers_of (cond b (some (entry 20 0 (40 ∷ []))) none) ≡ cond b (some (40 ∷ [])) none
+    go : (b : Bool) → providers_of (cond b (Some (entry 20 0 (40 ∷ []))) None) ≡ cond b (Some (40 ∷ [])) None
     go true = refl
     go false = refl
 
@@ -95,11 +95,11 @@ of_ten : (source : ℕ) → held source 10 ≡ everybody source 10
 unfolding find
 of_ten source = go (eqb source 0)
   where
-    go : (b : Bool) → providers_of (cond b (some ten) none) ≡ cond b (some (20 ∷ 30 ∷ [])) none
+    go : (b : Bool) → providers_of (cond b (Some ten) None) ≡ cond b (Some (20 ∷ 30 ∷ [])) None
     go true = refl
     go false = refl
 
-none_of : (b : Bool) → ◌≡◌ {A = Option (List ℕ)} none (cond (b && false) (some (10 ∷ [])) none)
+none_of : (b : Bool) → ◌≡◌ {A = Option (List ℕ)} None (cond (b && false) (Some (10 ∷ [])) None)
 none_of true = refl
 none_of false = refl
 
@@ -122,9 +122,9 @@ part_vectors =
           record {
             in_public = λ source x on. held_is source x ∙ on_two (λ x. held source x ≡ everybody source x) (of_twenty source) (of_ten source) x on;
             in_overrides = λ source x on. none_held source x
-                ∙ on_two (λ x. none ≡ of_fifty source x) (none_of (eqb source 0)) (none_of (eqb source 0)) x on;
+                ∙ on_two (λ x. None ≡ of_fifty source x) (none_of (eqb source 0)) (none_of (eqb source 0)) x on;
           };
       part_alike = (judges holding_ten_twenty 1 20 _ ∙ refl, refl);
-      part_lacking = λ h. clash (let z : none ≡ some (0 ∷ []) = sym (held_is 0 30) ∙ h.in_public 0 30 refl in cc);
+      part_lacking = λ h. clash (let z : None ≡ Some (0 ∷ []) = sym (held_is 0 30) ∙ h.in_public 0 30 refl in cc);
       part_apart = (judges holding_ten_twenty 1 10 _ ∙ refl, refl);
     }

@@ -3,19 +3,11 @@ use Prim.Native.Nat.{ℕ}
 use mathlib.Core.Path.{◌≡◌, refl, sym, ◌∙◌}
 use mathlib.Core.Bool.{Bool, true, false, not, cond}
 use mathlib.Core.List.{List, [], ◌∷◌}
-use mathlib.Core.Option.{Option, none, some}
 use native.Mathlib.Omega.{arith}
 use lib.Dec.{eqb, ltb}
 use Rattle.types.specs.declared.Origin.{Origin}
 use Rattle.types.specs.declared.Origin.TheVariants.{Public, Overrides}
-use Rattle.types.specs.declared.Filed.TheVariants as filing
-use Rattle.types.specs.declared.Removal.TheVariants as removal
-use Rattle.types.specs.declared.Cleared.TheVariants as clearing
 use Rattle.types.specs.declared.Hop.{Hop}
-use Rattle.types.specs.declared.Judged.{Judged}
-use Rattle.types.specs.declared.Judged.TheVariants as judging
-use Rattle.types.specs.declared.Rejudged.TheVariants as rejudging
-use Rattle.types.specs.declared.Place.TheVariants.{Byte}
 use Rattle.types.specs.declared.Refusal.{Refusal}
 use Rattle.types.specs.declared.Refusal.TheVariants.{TableLength, RegisterMalformed, SourceNumber, CustomerZero}
 use Rattle.types.specs.Numbers.{refusal_place}
@@ -35,37 +27,41 @@ use Rattle.effects.proofs.Places.{placed, all_outside, no_place, Placed, judge_p
 use Rattle.history.specs.Calls.{Call, file, withdraw, clear, keep, drop, rejudge, Tables, says, rewritten, leaves}
 use Rattle.history.specs.Replies.{ModelReply, shown_filed, shown_removal, shown_cleared, shown_judged, shown_rejudged, shown}
 use Rattle.history.specs.Refusals.{AnyCall, change, judge, hop, rows_of, call_rows, call_numbers, numbers_of, look_numbers, in_order, refused_by, hop_refusal, refusal_of, left_by, call_attribute, attribute_of, Demand1}
+use Rattle.std.specs.Prelude.{Err, None, Ok, Option, Result, Some}
+use Rattle.types.specs.declared.Answer.{Answer}
+use Rattle.types.specs.declared.Filed.TheVariants.{New}
+use Rattle.types.specs.declared.Filed.TheVariants.{Replaced}
 
 -- ---- what a call answers is the first of its rows that is given
 
 -- A call that is refused by its rows, and whose accepted answer is no refusal.
-by_rows : {A : Type 0} (show : A → ModelReply) (refuse : Refusal → A) → ((r : Refusal) → refused_by (show (refuse r)) ≡ some r)
-    → (o : Option Refusal) (ws : List ℕ) (done : Effect A) → refused_by (show done.answer) ≡ none
-    → refused_by (show (unless_refused o refuse ws done).answer) ≡ o
-by_rows show refuse e (some r) ws done h = e r
-by_rows show refuse e none ws done h = h
+by_rows : {A : Type 0} (show : Result A Refusal → ModelReply) → ((r : Refusal) → refused_by (show (Err r)) ≡ Some r)
+    → (o : Option Refusal) (ws : List ℕ) (done : Effect (Result A Refusal)) → refused_by (show done.answer) ≡ None
+    → refused_by (show (unless_refused o ws done).answer) ≡ o
+by_rows show e (Some r) ws done h = e r
+by_rows show e None ws done h = h
 
 -- A filing that is accepted is not refused.
-filed_done : (b : Bool) → refused_by (shown_filed (cond b filing.Replaced filing.New)) ≡ none
+filed_done : (b : Bool) → refused_by (shown_filed (Ok (cond b Replaced New))) ≡ None
 filed_done true = refl
 filed_done false = refl
 
 -- What is shown of a judging's answer is its refusal.
-judged_shown : (j : Judged) → refused_by (shown_judged j) ≡ refusal_in j
-judged_shown (judging.Answered a) = refl
-judged_shown (judging.Refused r) = refl
+judged_shown : (j : Result Answer Refusal) → refused_by (shown_judged j) ≡ refusal_in j
+judged_shown (Ok a) = refl
+judged_shown (Err r) = refl
 
 call_first : (t : Tables) (c : Call) → refused_by (shown (says t c)) ≡ first_given (call_rows t c)
 unfolding file_effect withdraw_effect clear_effect drop_effect rejudge_effect
 call_first t (file o source customer list) =
-    by_rows shown_filed filing.Refused (λ r. refl) _ _ _ (filed_done (holds_record customer source (records_of (chosen o t.registers))))
-call_first t (withdraw o source customer) = by_rows shown_removal removal.Refused (λ r. refl) _ _ _ refl
-call_first t (clear o source) = by_rows shown_cleared clearing.Refused (λ r. refl) _ _ _ refl
+    by_rows shown_filed (λ r. refl) _ _ _ (filed_done (holds_record customer source (records_of (chosen o t.registers))))
+call_first t (withdraw o source customer) = by_rows shown_removal (λ r. refl) _ _ _ refl
+call_first t (clear o source) = by_rows shown_cleared (λ r. refl) _ _ _ refl
 call_first t (keep k) =
     judged_shown (keep_effect t.registers t.ledger k).answer
     ∙ keep_reads t.registers t.ledger k
-call_first t (drop number) = by_rows shown_removal removal.Refused (λ r. refl) _ _ _ refl
-call_first t rejudge = by_rows shown_rejudged rejudging.Refused (λ r. refl) _ _ _ refl
+call_first t (drop number) = by_rows shown_removal (λ r. refl) _ _ _ refl
+call_first t rejudge = by_rows shown_rejudged (λ r. refl) _ _ _ refl
 
 -- Hop is refused as its rows refuse it.
 hop_reads : (reg : Registers) (x y : ℕ) → hop_refusal (hop_answer reg x y) ≡ first_given (register_rows reg)
@@ -73,8 +69,8 @@ unfolding hop_answer
 hop_reads reg x y = go (first_given (register_rows reg)) (hop_in reg x y)
   where
     go : (o : Option Refusal) (h : Hop) → hop_refusal (hop_unless o h) ≡ o
-    go (some r) h = refl
-    go none h = refl
+    go (Some r) h = refl
+    go None h = refl
 
 answers_first : (t : Tables) (c : AnyCall) → refusal_of t c ≡ first_given (rows_of t c)
 answers_first t (change c) = call_first t c
@@ -87,7 +83,7 @@ same_words Public reg = refl
 same_words Overrides reg = refl
 
 -- A refused call leaves the tables.
-call_leaves : (t : Tables) (c : Call) (r : Refusal) → first_given (call_rows t c) ≡ some r → leaves t c ≡ t
+call_leaves : (t : Tables) (c : Call) (r : Refusal) → first_given (call_rows t c) ≡ Some r → leaves t c ≡ t
 unfolding file_effect withdraw_effect clear_effect drop_effect rejudge_effect keep_effect
 call_leaves t (file o source customer list) r e = rw (e, same_words o t.registers)
 call_leaves t (withdraw o source customer) r e = rw (e, same_words o t.registers)
@@ -96,7 +92,7 @@ call_leaves t (keep k) r e = rw e
 call_leaves t (drop number) r e = rw e
 call_leaves t rejudge r e = rw e
 
-refused_stays : (t : Tables) (c : AnyCall) (r : Refusal) → refusal_of t c ≡ some r → left_by t c ≡ t
+refused_stays : (t : Tables) (c : AnyCall) (r : Refusal) → refusal_of t c ≡ Some r → left_by t c ≡ t
 refused_stays t (change c) r e = call_leaves t c r (sym (call_first t c) ∙ e)
 refused_stays t (judge role neighbour attribute) r e = refl
 refused_stays t (hop x y) r e = refl
@@ -161,11 +157,11 @@ in-order (hop x y) = refl
 -- ---- places
 
 -- A call that is handed no attribute is refused without a place.
-unplaced : {A : Type 0} (t : Tables) (c : Call) → all_outside (call_numbers c) ≡ true → (r : Refusal) (p : ℕ) → first_given (call_rows t c) ≡ some r
-    → refusal_place r ≡ Byte p → A
+unplaced : {A : Type 0} (t : Tables) (c : Call) → all_outside (call_numbers c) ≡ true → (r : Refusal) (p : ℕ) → first_given (call_rows t c) ≡ Some r
+    → refusal_place r ≡ Some p → A
 unplaced t c o r p e h = absurd (no_place (call_rows t c) (call_numbers c) o (call-numbers t c) r e p h)
 
-call_placed : (t : Tables) (c : Call) (r : Refusal) (p : ℕ) → refused_by (shown (says t c)) ≡ some r → refusal_place r ≡ Byte p → Placed (call_attribute c) r p
+call_placed : (t : Tables) (c : Call) (r : Refusal) (p : ℕ) → refused_by (shown (says t c)) ≡ Some r → refusal_place r ≡ Some p → Placed (call_attribute c) r p
 call_placed t (file o source customer list) r p e h =
     unplaced t (file o source customer list) refl r p (sym (call_first t (file o source customer list)) ∙ e) h
 call_placed t (withdraw o source customer) r p e h = unplaced t (withdraw o source customer) refl r p (sym (call_first t (withdraw o source customer)) ∙ e) h
@@ -175,7 +171,7 @@ call_placed t (keep k) r p e h =
 call_placed t (drop number) r p e h = unplaced t (drop number) refl r p (sym (call_first t (drop number)) ∙ e) h
 call_placed t rejudge r p e h = unplaced t rejudge refl r p (sym (call_first t rejudge) ∙ e) h
 
-any_placed : (t : Tables) (c : AnyCall) (r : Refusal) (p : ℕ) → refusal_of t c ≡ some r → refusal_place r ≡ Byte p → Placed (attribute_of c) r p
+any_placed : (t : Tables) (c : AnyCall) (r : Refusal) (p : ℕ) → refusal_of t c ≡ Some r → refusal_place r ≡ Some p → Placed (attribute_of c) r p
 any_placed t (change c) r p e h = call_placed t c r p e h
 any_placed t (judge role neighbour attribute) r p e h =
     judge_placed role neighbour attribute t.registers r e p h

@@ -4,7 +4,6 @@ use mathlib.Core.Path.{◌≡◌, refl, sym, ◌∙◌}
 use mathlib.Core.Bool.{Bool, true, false, cond, ◌&&◌}
 use mathlib.Core.List.{List}
 use mathlib.Core.Logic.{◌↔◌, ◌⊎◌, inl, inr}
-use mathlib.Core.Option.{Option, none, some, map}
 use native.Mathlib.Omega.{arith}
 use native.Mathlib.Decide.{dec_lt}
 use borrow.Author.Tests.{eqb-true, eqb-false, eq-eqb}
@@ -21,17 +20,18 @@ use Rattle.history.specs.Filings.{same_origin, filed_by, filed_list, kept_by, ke
 use Rattle.history.specs.Reorderings.{OnPair, Clears, OnRoute}
 use Rattle.history.proofs.Origins.{origin_is, origin_self}
 use Rattle.history.specs.Sanity.{LastFiled, by_filing, list_held_first, KeepsAs, LastKept, by_keeping, route_held_first}
+use Rattle.std.specs.Prelude.{None, Option, Some, option_map}
 
 -- ---- any scan
 
 -- What an accepted call does to the value that is looked for: it gives one, it ends it, or it leaves it.
 data Effect {X : Type 0} (by : Call → Option X → Option X) (Gives : Call → X → Type 0) (Touches : Scope → Type 0) (c : Call) : Type 0 where
-  gives : (x : X) → Gives c x → Touches (scope c) → ((v : Option X) → by c v ≡ some x) → Effect by Gives Touches c
-  ends : Touches (scope c) → ((v : Option X) → by c v ≡ none) → Effect by Gives Touches c
+  gives : (x : X) → Gives c x → Touches (scope c) → ((v : Option X) → by c v ≡ Some x) → Effect by Gives Touches c
+  ends : Touches (scope c) → ((v : Option X) → by c v ≡ None) → Effect by Gives Touches c
   misses : (Touches (scope c) → ⊥) → ((v : Option X) → by c v ≡ v) → Effect by Gives Touches c
 
 module _ {X : Type 0} (by : Call → Option X → Option X) (Gives : Call → X → Type 0) (Touches : Scope → Type 0)
-    (effect : (c : Call) → Effect by Gives Touches c) (given : (c : Call) (x : X) (v : Option X) → Gives c x → by c v ≡ some x)
+    (effect : (c : Call) → Effect by Gives Touches c) (given : (c : Call) (x : X) (v : Option X) → Gives c x → by c v ≡ Some x)
     (first : Option X) (t : Tables) (l : List Call) where
   -- The value after i calls, from the first one on.
   unfoldable scan : ℕ → Option X
@@ -45,7 +45,7 @@ module _ {X : Type 0} (by : Call → Option X → Option X) (Gives : Call → X 
   -- The last accepted call before index i that touches the value gives it, or there is none and it is the first one.
   data Last (i : ℕ) (x : X) : Type 0 where
     by_call : (index : ℕ) → index < i → Gives (call_at l index) x → accepted (shown (said t l index)) ≡ true → Stands (suc index) i → Last i x
-    held_first : first ≡ some x → Stands 0 i → Last i x
+    held_first : first ≡ Some x → Stands 0 i → Last i x
 
   -- One call more that does not touch it, or is not accepted.
   stands : (from i : ℕ) → Stands from i → (accepted (shown (said t l i)) ≡ true → Touches (scope_at l i) → ⊥) → Stands from (suc i)
@@ -60,46 +60,46 @@ module _ {X : Type 0} (by : Call → Option X → Option X) (Gives : Call → X 
   later i x (held_first e s) n = held_first e (stands 0 i s n)
 
   -- What the scan finds is given by the last accepted call that touches the value,
-  scan_finds : (i : ℕ) (x : X) → scan i ≡ some x → Last i x
+  scan_finds : (i : ℕ) (x : X) → scan i ≡ Some x → Last i x
   unfolding scan
   scan_finds zero x e = held_first e (λ j a b. absurd (omega arith))
   scan_finds (suc i) x e = go (accepted (shown (said t l i))) refl e (scan_finds i x)
     where
-      touched : Effect by Gives Touches (call_at l i) → accepted (shown (said t l i)) ≡ true → by (call_at l i) (scan i) ≡ some x
-          → (scan i ≡ some x → Last i x) → Last (suc i) x
+      touched : Effect by Gives Touches (call_at l i) → accepted (shown (said t l i)) ≡ true → by (call_at l i) (scan i) ≡ Some x
+          → (scan i ≡ Some x → Last i x) → Last (suc i) x
       touched (gives y g d q) p f ih =
-          let z : some y ≡ some x = sym (q (scan i)) ∙ f in
+          let z : Some y ≡ Some x = sym (q (scan i)) ∙ f in
           let w : y ≡ x = cc in
           by_call i (omega arith) (rw (← w) g) p (λ j a b. absurd (omega arith))
-      touched (ends d q) p f ih = let z : none ≡ some x = sym (q (scan i)) ∙ f in let y : ◌≡◌ {A = ℕ} 0 1 = cc in absurd (omega arith)
+      touched (ends d q) p f ih = let z : None ≡ Some x = sym (q (scan i)) ∙ f in let y : ◌≡◌ {A = ℕ} 0 1 = cc in absurd (omega arith)
       touched (misses n q) p f ih = later i x (ih (sym (q (scan i)) ∙ f)) (λ a. n)
 
-      go : (b : Bool) → accepted (shown (said t l i)) ≡ b → cond b (by (call_at l i) (scan i)) (scan i) ≡ some x → (scan i ≡ some x → Last i x) → Last (suc i) x
+      go : (b : Bool) → accepted (shown (said t l i)) ≡ b → cond b (by (call_at l i) (scan i)) (scan i) ≡ Some x → (scan i ≡ Some x → Last i x) → Last (suc i) x
       go true p f ih = touched (effect (call_at l i)) p f ih
       go false p f ih = later i x (ih f) (λ a. not_both p a)
 
   -- A value that stands over one call more.
-  over : (i from : ℕ) (x : X) → from ≤ i → Stands from (suc i) → scan i ≡ some x → scan (suc i) ≡ some x
+  over : (i from : ℕ) (x : X) → from ≤ i → Stands from (suc i) → scan i ≡ Some x → scan (suc i) ≡ Some x
   unfolding scan
   over i from x h s e = go (accepted (shown (said t l i))) refl
     where
-      touched : accepted (shown (said t l i)) ≡ true → Effect by Gives Touches (call_at l i) → by (call_at l i) (scan i) ≡ some x
+      touched : accepted (shown (said t l i)) ≡ true → Effect by Gives Touches (call_at l i) → by (call_at l i) (scan i) ≡ Some x
       touched a (gives y g d q) = absurd (s i h (omega arith) a d)
       touched a (ends d q) = absurd (s i h (omega arith) a d)
       touched a (misses n q) = q (scan i) ∙ e
 
-      go : (b : Bool) → accepted (shown (said t l i)) ≡ b → cond b (by (call_at l i) (scan i)) (scan i) ≡ some x
+      go : (b : Bool) → accepted (shown (said t l i)) ≡ b → cond b (by (call_at l i) (scan i)) (scan i) ≡ Some x
       go true a = touched a (effect (call_at l i))
       go false a = e
 
   -- and what that call gives the scan finds, or else the first value.
-  found_scan : (i : ℕ) (x : X) → Last i x → scan i ≡ some x
+  found_scan : (i : ℕ) (x : X) → Last i x → scan i ≡ Some x
   unfolding scan
   found_scan zero x (by_call index b g a s) = absurd (omega arith)
   found_scan zero x (held_first e s) = e
   found_scan (suc i) x (by_call index b g a s) = go (dec_lt index i) (found_scan i x)
     where
-      go : Dec (index < i) → (Last i x → scan i ≡ some x) → cond (accepted (shown (said t l i))) (by (call_at l i) (scan i)) (scan i) ≡ some x
+      go : Dec (index < i) → (Last i x → scan i ≡ Some x) → cond (accepted (shown (said t l i))) (by (call_at l i) (scan i)) (scan i) ≡ Some x
       go (yes q) ih = over i (suc index) x (omega arith) s (ih (by_call index q g a (λ j c d. s j c (omega arith))))
       go (no n) ih =
           let e : index ≡ i = omega arith in
@@ -160,7 +160,7 @@ module _ (o : Origin) (source customer : ℕ) where
   file_effect rejudge = misses (elim [ inl f ↦ f | inr f ↦ f ]) (λ v. refl)
 
   -- A filing of the pair gives its list.
-  file_given : (c : Call) (list : List ℕ) (v : Option (List ℕ)) → Files c list → filed_by o source customer c v ≡ some list
+  file_given : (c : Call) (list : List ℕ) (v : Option (List ℕ)) → Files c list → filed_by o source customer c v ≡ Some list
   file_given c list v e = rw (e, origin_self o, eq-eqb customer customer refl, eq-eqb source source refl)
 
   module _ (t : Tables) (l : List Call) where
@@ -175,7 +175,7 @@ module _ (o : Origin) (source customer : ℕ) where
     filed_scan (suc i) = rw (filed_scan i)
 
     -- What is filed is the last accepted list.
-    pub filed_is_last : (i : ℕ) (list : List ℕ) → (filed_list t l i o source customer ≡ some list) ↔ LastFiled t l i o source customer list
+    pub filed_is_last : (i : ℕ) (list : List ℕ) → (filed_list t l i o source customer ≡ Some list) ↔ LastFiled t l i o source customer list
     filed_is_last i list = (
       λ e. forth (scan_finds (filed_by o source customer) Files OnList file_effect file_given first_list t l i list (sym (filed_scan i) ∙ e)),
       λ p. filed_scan i ∙ found_scan (filed_by o source customer) Files OnList file_effect file_given first_list t l i list (back p),
@@ -212,13 +212,13 @@ module _ (number : ℕ) where
   keep_effect rejudge = misses (λ f. f) (λ v. refl)
 
   -- A keeping under the number gives its route.
-  keep_given : (c : Call) (r : KeptRoute) (v : Option KeptRoute) → KeepsAs number c r → kept_by number c v ≡ some r
+  keep_given : (c : Call) (r : KeptRoute) (v : Option KeptRoute) → KeepsAs number c r → kept_by number c v ≡ Some r
   keep_given c r v k = rw (k.keeping, k.reads, eq-eqb k.arguments.number number k.under)
 
   module _ (t : Tables) (l : List Call) where
     -- The route that t holds.
     abbrev first_route : Option KeptRoute
-    first_route = map known (find_route number (routes_of t.ledger))
+    first_route = option_map known (find_route number (routes_of t.ledger))
 
     -- The route that is kept is such a scan.
     kept_scan : (i : ℕ) → kept_route_at t l i number ≡ scan (kept_by number) (KeepsAs number) (OnRoute number) keep_effect keep_given first_route t l i
@@ -227,7 +227,7 @@ module _ (number : ℕ) where
     kept_scan (suc i) = rw (kept_scan i)
 
     -- What is kept is the last accepted keeping's route.
-    pub kept_is_last : (i : ℕ) (r : KeptRoute) → (kept_route_at t l i number ≡ some r) ↔ LastKept t l i number r
+    pub kept_is_last : (i : ℕ) (r : KeptRoute) → (kept_route_at t l i number ≡ Some r) ↔ LastKept t l i number r
     kept_is_last i r = (
       λ e. forth (scan_finds (kept_by number) (KeepsAs number) (OnRoute number) keep_effect keep_given first_route t l i r (sym (kept_scan i) ∙ e)),
       λ p. kept_scan i ∙ found_scan (kept_by number) (KeepsAs number) (OnRoute number) keep_effect keep_given first_route t l i r (back p),

@@ -3,19 +3,12 @@ use Prim.Native.Nat.{ℕ, zero, suc, ◌+◌, ◌-◌, ◌≤◌}
 use mathlib.Core.Path.{◌≡◌, refl, sym, ap, ◌∙◌}
 use mathlib.Core.Bool.{Bool, true, false, not, cond}
 use mathlib.Core.List.{List, [], ◌∷◌, ◌++◌, map}
-use mathlib.Core.Option
-use mathlib.Core.Option.{Option, none, some}
 use native.Mathlib.Omega.{arith}
 use borrow.Author.Tests.{not-false}
 use lib.Dec.{eqb, ltb, lit≤}
 use lib.ListN.{length, replicate, replicate-append-replicate}
 use Rattle.types.specs.declared.Origin.{Origin}
 use Rattle.types.specs.declared.Origin.TheVariants.{Public, Overrides}
-use Rattle.types.specs.declared.Filed.TheVariants as filing
-use Rattle.types.specs.declared.Removal.TheVariants as removal
-use Rattle.types.specs.declared.Cleared.TheVariants as clearing
-use Rattle.types.specs.declared.Judged.TheVariants as judging
-use Rattle.types.specs.declared.Rejudged.TheVariants as rejudging
 use Rattle.types.specs.declared.Refusal.{Refusal}
 use Rattle.types.specs.declared.Refusal.TheVariants.{TableLength, RouteTaken, RoutesFull}
 use Rattle.types.specs.Rows.{row_if, or_else, first_given, Effect, unless_refused}
@@ -62,6 +55,9 @@ use Rattle.history.proofs.Origins.{of_each, both_formed}
 use Rattle.history.proofs.Keys.{either_way}
 use Rattle.history.proofs.Ledgers.{room_known}
 use Rattle.history.proofs.KeptRoutes.{kept_known, rejudged_written, rejudged_known}
+use Rattle.std.specs.Prelude.{Result, Err, None, Ok, Option, Some, option_map}
+use Rattle.types.specs.declared.Filed.TheVariants.{New}
+use Rattle.types.specs.declared.Filed.TheVariants.{Replaced}
 
 -- ---- the tables and the model of some lists and some stored routes
 
@@ -155,10 +151,10 @@ tables_pass lists stored ok fine slots =
     rw ((words_formed lists ok).long, (words_formed lists ok).ok, (is-ledger stored fine).long, (is-ledger stored fine).ok)
 
 -- What is shown of a refused call is the refusal.
-shown_unless : {A : Type 0} (show : A → ModelReply) (refuse : Refusal → A) → ((r : Refusal) → show (refuse r) ≡ refused r)
-    → (o : Option Refusal) (ws : List ℕ) (accepted : Effect A) → show (unless_refused o refuse ws accepted).answer ≡ reply_unless o (show accepted.answer)
-shown_unless show refuse e (some r) ws accepted = e r
-shown_unless show refuse e none ws accepted = refl
+shown_unless : {A : Type 0} (show : Result A Refusal → ModelReply) → ((r : Refusal) → show (Err r) ≡ refused r)
+    → (o : Option Refusal) (ws : List ℕ) (accepted : Effect (Result A Refusal)) → show (unless_refused o ws accepted).answer ≡ reply_unless o (show accepted.answer)
+shown_unless show e (Some r) ws accepted = e r
+shown_unless show e None ws accepted = refl
 
 -- But for their verdicts, routes that are judged anew are those that they were.
 known_rejudged : (hop : HopFunction) (rs : List Route) → map known (map (rejudged_route hop) rs) ≡ map known rs
@@ -188,13 +184,13 @@ module _ (lists : Lists) (stored : List Route) (ok : (o : Origin) → records_ok
   other_words Overrides after = refl
 
   -- A call on a register, where the words of `after` are left.
-  register_held : (o : Origin) (r : Option Refusal) {A : Type 0} (refuse : Refusal → A) (reply : A) (after : List Record)
-      → (r ≡ none → records_ok after ≡ true)
+  register_held : (o : Origin) (r : Option Refusal) {A : Type 0} (reply : Result A Refusal) (after : List Record)
+      → (r ≡ None → records_ok after ≡ true)
       → Holds
       (with_register (tables_of lists stored) o
-      (unless_refused r refuse (register.register_of (lists_of o lists)) (record { answer = reply; words = register.register_of after })).words)
+      (unless_refused r (register.register_of (lists_of o lists)) (record { answer = reply; words = register.register_of after })).words)
       (change_unless r (model_of lists stored) (refiled (model_of lists stored) o after))
-  register_held o (some r) refuse reply after h =
+  register_held o (Some r) reply after h =
       record {
         lists = lists;
         stored = stored;
@@ -203,7 +199,7 @@ module _ (lists : Lists) (stored : List Route) (ok : (o : Origin) → records_ok
         tables_are = λ i. record { registers = same_words o i; ledger = ledger.ledger_of stored };
         model_is = refl;
       }
-  register_held o none refuse reply after h =
+  register_held o None reply after h =
       record {
         lists = with_lists lists o after;
         stored = stored;
@@ -214,25 +210,25 @@ module _ (lists : Lists) (stored : List Route) (ok : (o : Origin) → records_ok
       }
 
   -- A call on the ledger.
-  ledger_held : (o : Option Refusal) {A : Type 0} (refuse : Refusal → A) (reply : A) (after : List Route) (n : Model)
-      → (o ≡ none → routes_ok after ≡ true) → (o ≡ none → n ≡ model_of lists after)
+  ledger_held : (o : Option Refusal) {A : Type 0} (reply : Result A Refusal) (after : List Route) (n : Model)
+      → (o ≡ None → routes_ok after ≡ true) → (o ≡ None → n ≡ model_of lists after)
       → Holds
       (record {
         registers = words_of lists;
-        ledger = (unless_refused o refuse (ledger.ledger_of stored) (record { answer = reply; words = ledger.ledger_of after })).words;
+        ledger = (unless_refused o (ledger.ledger_of stored) (record { answer = reply; words = ledger.ledger_of after })).words;
       })
       (change_unless o (model_of lists stored) n)
-  ledger_held (some r) refuse reply after n h g = held
-  ledger_held none refuse reply after n h g =
+  ledger_held (Some r) reply after n h g = held
+  ledger_held None reply after n h g =
       record { lists = lists; stored = after; lists_ok = ok; routes-ok = h refl; tables_are = refl; model_is = g refl }
 
   -- What is stored under a number after a call on the ledger.
-  ledger_stores : (o : Option Refusal) {A : Type 0} (refuse : Refusal → A) (reply : A) (after : List Route) (number : ℕ) (v : Option Route)
-      → (o ≡ none → routes_ok after ≡ true) → find_route number after ≡ v
-      → find_route number (routes_of (unless_refused o refuse (ledger.ledger_of stored) (record { answer = reply; words = ledger.ledger_of after })).words)
+  ledger_stores : (o : Option Refusal) {A : Type 0} (reply : Result A Refusal) (after : List Route) (number : ℕ) (v : Option Route)
+      → (o ≡ None → routes_ok after ≡ true) → find_route number after ≡ v
+      → find_route number (routes_of (unless_refused o (ledger.ledger_of stored) (record { answer = reply; words = ledger.ledger_of after })).words)
       ≡ cond (accepted (reply_unless o done)) v (find_route number (routes_of (ledger.ledger_of stored)))
-  ledger_stores (some r) refuse reply after number v h e = refl
-  ledger_stores none refuse reply after number v h e = ap (find_route number) (routes_are after (h refl)) ∙ e
+  ledger_stores (Some r) reply after number v h e = refl
+  ledger_stores None reply after number v h e = ap (find_route number) (routes_are after (h refl)) ∙ e
 
   -- What was stored under a number before it.
   stored_before : (number : ℕ) → find_route number (routes_of (ledger.ledger_of stored)) ≡ find_route number stored
@@ -242,18 +238,18 @@ module _ (lists : Lists) (stored : List Route) (ok : (o : Origin) → records_ok
     -- File, as the model refuses it.
     file_step :
         file_effect (chosen o (words_of lists)) s c list
-        ≡ unless_refused (refusal (model_of lists stored) (file o s c list)) filing.Refused (register.register_of (lists_of o lists))
-        (record { answer = filed_as (record_for s c list) (lists_of o lists); words = register.register_of (put_record (record_for s c list) (lists_of o lists)) })
+        ≡ unless_refused (refusal (model_of lists stored) (file o s c list)) (register.register_of (lists_of o lists))
+        (record { answer = Ok (filed_as (record_for s c list) (lists_of o lists)); words = register.register_of (put_record (record_for s c list) (lists_of o lists)) })
     unfolding file_effect refusal
     file_step = rw (chosen_words o lists, register_passes (lists_of o lists) (ok o), records_are (lists_of o lists) (ok o))
 
     -- Its answer is the one that the model gives.
-    filed_shown : (b : Bool) → shown_filed (cond b filing.Replaced filing.New) ≡ cond b replaced new
+    filed_shown : (b : Bool) → shown_filed (Ok (cond b Replaced New)) ≡ cond b replaced new
     filed_shown true = refl
     filed_shown false = refl
 
     -- An accepted list keeps the rules.
-    filed_ok : refusal (model_of lists stored) (file o s c list) ≡ none → records_ok (put_record (record_for s c list) (lists_of o lists)) ≡ true
+    filed_ok : refusal (model_of lists stored) (file o s c list) ≡ None → records_ok (put_record (record_for s c list) (lists_of o lists)) ≡ true
     unfolding refusal
     filed_ok e =
         let given = accepted_none _ e in
@@ -266,9 +262,9 @@ module _ (lists : Lists) (stored : List Route) (ok : (o : Origin) → records_ok
     file_simulated = record {
       replies =
           ap (λ x. shown_filed x.answer) file_step
-          ∙ shown_unless shown_filed filing.Refused (λ r. refl) (refusal (model_of lists stored) (file o s c list)) _ _
+          ∙ shown_unless shown_filed (λ r. refl) (refusal (model_of lists stored) (file o s c list)) _ _
           ∙ ap (reply_unless (refusal (model_of lists stored) (file o s c list))) (filed_shown (holds_record c s (lists_of o lists)));
-      holds = rw file_step (register_held o (refusal (model_of lists stored) (file o s c list)) filing.Refused _ _ filed_ok);
+      holds = rw file_step (register_held o (refusal (model_of lists stored) (file o s c list)) _ _ filed_ok);
       stores = λ number. sym (either_way (accepted (reply_to (model_of lists stored) (file o s c list))) _);
     }
 
@@ -276,8 +272,8 @@ module _ (lists : Lists) (stored : List Route) (ok : (o : Origin) → records_ok
     -- Withdraw, as the model refuses it.
     withdraw_step :
         withdraw_effect (chosen o (words_of lists)) s c
-        ≡ unless_refused (refusal (model_of lists stored) (withdraw o s c)) removal.Refused (register.register_of (lists_of o lists))
-        (record { answer = removal.Done; words = register.register_of (erase_record c s (lists_of o lists)) })
+        ≡ unless_refused (refusal (model_of lists stored) (withdraw o s c)) (register.register_of (lists_of o lists))
+        (record { answer = Ok (tt {0}); words = register.register_of (erase_record c s (lists_of o lists)) })
     unfolding withdraw_effect refusal
     withdraw_step = rw (chosen_words o lists, register_passes (lists_of o lists) (ok o), records_are (lists_of o lists) (ok o))
 
@@ -286,9 +282,9 @@ module _ (lists : Lists) (stored : List Route) (ok : (o : Origin) → records_ok
     withdraw_simulated = record {
       replies =
           ap (λ x. shown_removal x.answer) withdraw_step
-          ∙ shown_unless shown_removal removal.Refused (λ r. refl) (refusal (model_of lists stored) (withdraw o s c)) _ _;
+          ∙ shown_unless shown_removal (λ r. refl) (refusal (model_of lists stored) (withdraw o s c)) _ _;
       holds = rw withdraw_step
-          (register_held o (refusal (model_of lists stored) (withdraw o s c)) removal.Refused _ _
+          (register_held o (refusal (model_of lists stored) (withdraw o s c)) _ _
           (λ e. changes.without_ok (lists_of o lists) (ok o) (same_pair (c, s))));
       stores = λ number. sym (either_way (accepted (reply_to (model_of lists stored) (withdraw o s c))) _);
     }
@@ -297,8 +293,8 @@ module _ (lists : Lists) (stored : List Route) (ok : (o : Origin) → records_ok
     -- Clear, as the model refuses it.
     clear_step :
         clear_effect (chosen o (words_of lists)) s
-        ≡ unless_refused (refusal (model_of lists stored) (clear o s)) clearing.Refused (register.register_of (lists_of o lists))
-        (record { answer = clearing.Gone (count_records s (lists_of o lists)); words = register.register_of (clear_records s (lists_of o lists)) })
+        ≡ unless_refused (refusal (model_of lists stored) (clear o s)) (register.register_of (lists_of o lists))
+        (record { answer = Ok (count_records s (lists_of o lists)); words = register.register_of (clear_records s (lists_of o lists)) })
     unfolding clear_effect refusal
     clear_step = rw (chosen_words o lists, register_passes (lists_of o lists) (ok o), records_are (lists_of o lists) (ok o))
 
@@ -307,9 +303,9 @@ module _ (lists : Lists) (stored : List Route) (ok : (o : Origin) → records_ok
     clear_simulated = record {
       replies =
           ap (λ x. shown_cleared x.answer) clear_step
-          ∙ shown_unless shown_cleared clearing.Refused (λ r. refl) (refusal (model_of lists stored) (clear o s)) _ _;
+          ∙ shown_unless shown_cleared (λ r. refl) (refusal (model_of lists stored) (clear o s)) _ _;
       holds = rw clear_step
-          (register_held o (refusal (model_of lists stored) (clear o s)) clearing.Refused _ _ (λ e. changes.without_ok (lists_of o lists) (ok o) (of_source s)));
+          (register_held o (refusal (model_of lists stored) (clear o s)) _ _ (λ e. changes.without_ok (lists_of o lists) (ok o) (of_source s)));
       stores = λ number. sym (either_way (accepted (reply_to (model_of lists stored) (clear o s))) _);
     }
 
@@ -317,8 +313,8 @@ module _ (lists : Lists) (stored : List Route) (ok : (o : Origin) → records_ok
     -- Drop, as the model refuses it.
     drop_step :
         drop_effect (ledger.ledger_of stored) n
-        ≡ unless_refused (refusal (model_of lists stored) (drop n)) removal.Refused (ledger.ledger_of stored)
-        (record { answer = removal.Done; words = ledger.ledger_of (erase_route n stored) })
+        ≡ unless_refused (refusal (model_of lists stored) (drop n)) (ledger.ledger_of stored)
+        (record { answer = Ok (tt {0}); words = ledger.ledger_of (erase_route n stored) })
     unfolding drop_effect refusal
     drop_step = rw (ledger_passes stored fine, routes_are stored fine, holds_map key_of number_of eqb ltb known (λ r. refl) n stored)
 
@@ -327,19 +323,19 @@ module _ (lists : Lists) (stored : List Route) (ok : (o : Origin) → records_ok
     drop_simulated = record {
       replies =
           ap (λ x. shown_removal x.answer) drop_step
-          ∙ shown_unless shown_removal removal.Refused (λ r. refl) (refusal (model_of lists stored) (drop n)) _ _;
+          ∙ shown_unless shown_removal (λ r. refl) (refusal (model_of lists stored) (drop n)) _ _;
       holds = rw drop_step
-          (ledger_held (refusal (model_of lists stored) (drop n)) removal.Refused _ _ _ (λ e. without_ok stored fine (eqb n))
+          (ledger_held (refusal (model_of lists stored) (drop n)) _ _ _ (λ e. without_ok stored fine (eqb n))
           (λ e. ap (λ rs. record { lists = lists; routes = rs }) (without_map key_of number_of eqb ltb known (λ r. refl) (eqb n) stored)));
       stores = λ number.
           ap (λ x. find_route number (routes_of x.words)) drop_step
-          ∙ ledger_stores (refusal (model_of lists stored) (drop n)) removal.Refused _ (erase_route n stored) number _ (λ e. without_ok stored fine (eqb n))
-          (find_without key_of eqb ltb ordered_ℕ number (eqb n) stored ∙ ap (cond (eqb n number) none) (sym (stored_before number)));
+          ∙ ledger_stores (refusal (model_of lists stored) (drop n)) _ (erase_route n stored) number _ (λ e. without_ok stored fine (eqb n))
+          (find_without key_of eqb ltb ordered_ℕ number (eqb n) stored ∙ ap (cond (eqb n number) None) (sym (stored_before number)));
     }
 
   module _ (k : Keeping) where
     -- A keeping whose arguments bar it not asks of the model and of the ledger for the same room.
-    same_room : first_given (argument_rows (keep k)) ≡ none
+    same_room : first_given (argument_rows (keep k)) ≡ None
         → ledger.room_for (put_route (kept_route (words_of lists) k) stored)
         ≡ room_for_routes (put_kept (route_read k) (map known stored))
     same_room e =
@@ -366,15 +362,15 @@ module _ (lists : Lists) (stored : List Route) (ok : (o : Origin) → records_ok
 
         go : (o : Option Refusal) → first_given (argument_rows (keep k)) ≡ o
             → or_else o (or_else (row_if (holds_kept k.number (map known stored)) RouteTaken)
-            (or_else (row_if (not (ledger.room_for (put_route (kept_route (words_of lists) k) stored))) RoutesFull) none))
+            (or_else (row_if (not (ledger.room_for (put_route (kept_route (words_of lists) k) stored))) RoutesFull) None))
             ≡ or_else o (or_else (row_if (holds_kept k.number (map known stored)) RouteTaken)
-            (or_else (row_if (not (room_for_routes (put_kept (route_read k) (map known stored)))) RoutesFull) none))
-        go (some r) e = refl
-        go none e = rw (same_room e)
+            (or_else (row_if (not (room_for_routes (put_kept (route_read k) (map known stored)))) RoutesFull) None))
+        go (Some r) e = refl
+        go None e = rw (same_room e)
 
     -- A keeping that is not refused passed rows 9 to 17 and has room.
-    passed : refusal (model_of lists stored) (keep k) ≡ none
-        → (first_given (argument_rows (keep k)) ≡ none)
+    passed : refusal (model_of lists stored) (keep k) ≡ None
+        → (first_given (argument_rows (keep k)) ≡ None)
         × (room_for_routes (put_kept (route_read k) (map known stored)) ≡ true)
     unfolding refusal first_given
     passed e =
@@ -383,17 +379,17 @@ module _ (lists : Lists) (stored : List Route) (ok : (o : Origin) → records_ok
         (sym (first_append (argument_rows (keep k)) (held_rows (model_of lists stored) (keep k)
         ++ room_rows (model_of lists stored) (keep k))) ∙ e)
       where
-        go : (o : Option Refusal) (b c : Bool) → or_else o (or_else (row_if b RouteTaken) (or_else (row_if (not c) RoutesFull) none)) ≡ none
-            → (o ≡ none) × (c ≡ true)
-        go (some r) b c h = some_not_none h
-        go none true c h = some_not_none h
-        go none false true h = (refl, refl)
-        go none false false h = some_not_none h
+        go : (o : Option Refusal) (b c : Bool) → or_else o (or_else (row_if b RouteTaken) (or_else (row_if (not c) RoutesFull) None)) ≡ None
+            → (o ≡ None) × (c ≡ true)
+        go (Some r) b c h = some_not_none h
+        go None true c h = some_not_none h
+        go None false true h = (refl, refl)
+        go None false false h = some_not_none h
 
     -- Keep, as the model refuses it.
     pub keep_step :
         keep_effect (words_of lists) (ledger.ledger_of stored) k
-        ≡ unless_refused (refusal (model_of lists stored) (keep k)) judging.Refused (ledger.ledger_of stored)
+        ≡ unless_refused (refusal (model_of lists stored) (keep k)) (ledger.ledger_of stored)
         (record {
           answer = judged_route (hops_of lists) k.role k.neighbour k.attribute;
           words = ledger.ledger_of (put_route (kept_route (words_of lists) k) stored);
@@ -402,7 +398,7 @@ module _ (lists : Lists) (stored : List Route) (ok : (o : Origin) → records_ok
     keep_step = rw (keep_refusal, routes_are stored fine, words_hops lists ok)
 
     -- A judging that rows 9 to 17 do not refuse is answered.
-    judged_done : first_given (argument_rows (keep k)) ≡ none → shown_judged (judged_route (hops_of lists) k.role k.neighbour k.attribute) ≡ done
+    judged_done : first_given (argument_rows (keep k)) ≡ None → shown_judged (judged_route (hops_of lists) k.role k.neighbour k.attribute) ≡ done
     judged_done e = go (judgement (hops_of lists) k.role k.neighbour k.attribute e)
       where
         go : Judgement (hops_of lists) k.role k.neighbour k.attribute
@@ -415,16 +411,16 @@ module _ (lists : Lists) (stored : List Route) (ok : (o : Origin) → records_ok
     keep_simulated = record {
       replies =
           ap (λ x. shown_judged x.answer) keep_step
-          ∙ shown_unless shown_judged judging.Refused (λ r. refl) (refusal (model_of lists stored) (keep k)) _ _
+          ∙ shown_unless shown_judged (λ r. refl) (refusal (model_of lists stored) (keep k)) _ _
           ∙ answered (refusal (model_of lists stored) (keep k)) refl;
       holds = rw keep_step
-          (ledger_held (refusal (model_of lists stored) (keep k)) judging.Refused _ _ _ stays_ok (λ e. same_routes (passed e).0));
+          (ledger_held (refusal (model_of lists stored) (keep k)) _ _ _ stays_ok (λ e. same_routes (passed e).0));
       stores = λ number.
           ap (λ x. find_route number (routes_of x.words)) keep_step
-          ∙ ledger_stores (refusal (model_of lists stored) (keep k)) judging.Refused _ (put_route r stored) number _ stays_ok
+          ∙ ledger_stores (refusal (model_of lists stored) (keep k)) _ (put_route r stored) number _ stays_ok
           (find_put key_of eqb ltb ordered_ℕ number r stored
-          ∙ ap (λ b. cond b (some r) (find_route number stored)) (same_flip eqb ltb ordered_ℕ number k.number)
-          ∙ ap (cond (eqb k.number number) (some r)) (sym (stored_before number)));
+          ∙ ap (λ b. cond b (Some r) (find_route number stored)) (same_flip eqb ltb ordered_ℕ number k.number)
+          ∙ ap (cond (eqb k.number number) (Some r)) (sym (stored_before number)));
     }
       where
         r : Route
@@ -432,15 +428,15 @@ module _ (lists : Lists) (stored : List Route) (ok : (o : Origin) → records_ok
 
         answered : (o : Option Refusal) → refusal (model_of lists stored) (keep k) ≡ o
             → reply_unless o (shown_judged (judged_route (hops_of lists) k.role k.neighbour k.attribute)) ≡ reply_unless o done
-        answered (some x) e = refl
-        answered none e = judged_done (passed e).0
+        answered (Some x) e = refl
+        answered None e = judged_done (passed e).0
 
-        stays_ok : refusal (model_of lists stored) (keep k) ≡ none → routes_ok (put_route r stored) ≡ true
+        stays_ok : refusal (model_of lists stored) (keep k) ≡ None → routes_ok (put_route r stored) ≡ true
         stays_ok e =
             let p = passed e in
             put_ok stored fine r (kept_ok (words_of lists) k p.0) (same_room p.0 ∙ p.1)
 
-        same_routes : first_given (argument_rows (keep k)) ≡ none
+        same_routes : first_given (argument_rows (keep k)) ≡ None
             → change (model_of lists stored) (keep k) ≡ model_of lists (put_route r stored)
         same_routes e =
             ap (λ x. record { lists = lists; routes = put_kept x (map known stored) }) (sym (kept_known (words_of lists) k e))
@@ -450,7 +446,7 @@ module _ (lists : Lists) (stored : List Route) (ok : (o : Origin) → records_ok
   pub rejudge_step :
       rejudge_effect (words_of lists) (ledger.ledger_of stored)
       ≡ record {
-        answer = rejudging.Changed (count_differing stored (map (rejudged_route (hops_of lists)) stored));
+        answer = Ok (count_differing stored (map (rejudged_route (hops_of lists)) stored));
         words = ledger.ledger_of (map (rejudged_route (hops_of lists)) stored);
       }
   unfolding rejudge_effect first_given
@@ -473,13 +469,13 @@ module _ (lists : Lists) (stored : List Route) (ok : (o : Origin) → records_ok
         ap (λ x. find_route number (routes_of x.words)) rejudge_step
         ∙ ap (find_route number) (routes_are (map (rejudged_route (hops_of lists)) stored) (rejudged_ok (hops_of lists) stored fine))
         ∙ find_map key_of key_of eqb ltb (rejudged_route (hops_of lists)) (λ k. ap (λ x. x.number) (rejudged_known (hops_of lists) k)) number stored
-        ∙ (λ i. Option.map (rejudged_route (sym (words_hops lists ok) i)) (sym (stored_before number) i));
+        ∙ (λ i. option_map (rejudged_route (sym (words_hops lists ok) i)) (sym (stored_before number) i));
   }
 
   -- A re-judging answers how many routes differ between the ledger before and after it.
   pub rejudge_counts :
       says (tables_of lists stored) rejudge
-      ≡ rejudged (rejudging.Changed (count_differing (routes_of (ledger.ledger_of stored)) (routes_of (leaves (tables_of lists stored) rejudge).ledger)))
+      ≡ rejudged (Ok (count_differing (routes_of (ledger.ledger_of stored)) (routes_of (leaves (tables_of lists stored) rejudge).ledger)))
   rejudge_counts =
       rw (
         rejudge_step,

@@ -3,8 +3,6 @@ use Prim.Native.Nat.{ℕ, zero, suc, ◌≤◌, ◌<◌}
 use mathlib.Core.Path.{◌≡◌, refl, sym, ap, ◌∙◌}
 use mathlib.Core.Bool.{Bool, true, false, cond}
 use mathlib.Core.List.{List, map}
-use mathlib.Core.Option
-use mathlib.Core.Option.{Option, none, some}
 use native.Mathlib.Omega.{arith}
 use borrow.Author.Tests.{eqb-true, eqb-false}
 use lib.Dec.{eqb, ltb}
@@ -14,15 +12,6 @@ use Rattle.types.specs.declared.Origin.{Origin}
 use Rattle.types.specs.declared.Origin.TheVariants.{Public, Overrides}
 use Rattle.types.specs.declared.Verdict.{Verdict}
 use Rattle.types.specs.declared.Answer.{Answer}
-use Rattle.types.specs.declared.Filed.{Filed}
-use Rattle.types.specs.declared.Filed.TheVariants as filing
-use Rattle.types.specs.declared.Removal.{Removal}
-use Rattle.types.specs.declared.Removal.TheVariants as removal
-use Rattle.types.specs.declared.Cleared.{Cleared}
-use Rattle.types.specs.declared.Cleared.TheVariants as clearing
-use Rattle.types.specs.declared.Judged.TheVariants.{Answered, Refused}
-use Rattle.types.specs.declared.Hopped.TheVariants as hopped
-use Rattle.types.specs.declared.Rejudged.TheVariants.{Changed}
 use Rattle.types.specs.declared.Refusal.{Refusal}
 use Rattle.types.specs.Numbers.{verdict_number, place_a, place_b, verdict_of}
 use Rattle.types.specs.Rows.{first_given, unless_refused}
@@ -65,13 +54,17 @@ use Rattle.history.proofs.KeptRoutes.{on_a_ground, rejudged_known}
 use Rattle.history.proofs.Simulating.{words_of, hops_of, model_of, Holds, records_are, is-register, chosen_words, words_hops, routes_are, is-ledger, keep_step, rejudge_step, rejudge_counts, history_holds, history_stores, history_replies, history_written}
 use Rattle.history.proofs.FiledLists.{filed-list, kept_route}
 use Rattle.history.proofs.FiledHops.{lists_held, filed_over, list_over}
+use Rattle.std.specs.Prelude.{Err, None, Ok, Option, Result, Some, option_map}
+use Rattle.types.specs.declared.Filed.{Filed}
+use Rattle.types.specs.declared.Filed.TheVariants.{New}
+use Rattle.types.specs.declared.Filed.TheVariants.{Replaced}
 
 -- A keeping that is answered answers what is judged.
 keep_answered : (o : Option Refusal) (hop : HopFunction) (role neighbour : ℕ) (attribute ws ws' : List ℕ) (a : Answer)
-    → (unless_refused o Refused ws (record { answer = judged_route hop role neighbour attribute; words = ws' })).answer ≡ Answered a
-    → judged_route hop role neighbour attribute ≡ Answered a
-keep_answered (some r) hop role neighbour attribute ws ws' a e = let z : ◌≡◌ {A = ℕ} 0 1 = cc in absurd (omega arith)
-keep_answered none hop role neighbour attribute ws ws' a e = e
+    → (unless_refused o ws (record { answer = judged_route hop role neighbour attribute; words = ws' })).answer ≡ Ok a
+    → judged_route hop role neighbour attribute ≡ Ok a
+keep_answered (Some r) hop role neighbour attribute ws ws' a e = let z : ◌≡◌ {A = ℕ} 0 1 = cc in absurd (omega arith)
+keep_answered None hop role neighbour attribute ws ws' a e = e
 
 -- ---- what the tables hold after i calls
 
@@ -135,10 +128,10 @@ module _ (t : Tables) (f : Formed t) (l : List Call) (i : ℕ) where
       rw ledger_is (r.long, r.ok)
 
   -- The stored routes, but for their verdicts, are those kept.
-  kept_are : (number : ℕ) → Option.map known (find_route number (routes_of (tables t l i).ledger)) ≡ kept_route_at t l i number
+  kept_are : (number : ℕ) → option_map known (find_route number (routes_of (tables t l i).ledger)) ≡ kept_route_at t l i number
   kept_are number =
-      ap (λ ws. Option.map known (find_route number (routes_of ws))) ledger_is
-      ∙ ap (λ rs. Option.map known (find_route number rs)) (routes_are holds_at.stored holds_at.routes-ok)
+      ap (λ ws. option_map known (find_route number (routes_of ws))) ledger_is
+      ∙ ap (λ rs. option_map known (find_route number rs)) (routes_are holds_at.stored holds_at.routes-ok)
       ∙ sym (find_map key_of number_of eqb ltb known (λ r. refl) number holds_at.stored)
       ∙ ap (λ m. find_kept number m.routes) (sym holds_at.model_is)
       ∙ kept_route number t f l i
@@ -155,8 +148,8 @@ module _ (t : Tables) (f : Formed t) (l : List Call) (i : ℕ) where
       ∙ ap (λ hop. judged_route hop role neighbour attribute) hops_over
 
   -- So do Hop and the look-up.
-  hop-answer : (x y : ℕ) → hop_answer (tables t l i).registers x y ≡ hopped.Answered (hops_at t l i x y)
-  hop-answer x y = hop_answers (tables t l i).registers x y formed_both ∙ ap (λ hop. hopped.Answered (hop x y)) hops_over
+  hop-answer : (x y : ℕ) → hop_answer (tables t l i).registers x y ≡ Ok (hops_at t l i x y)
+  hop-answer x y = hop_answers (tables t l i).registers x y formed_both ∙ ap (λ hop. Ok (hop x y)) hops_over
 
   lookup_answer : (source customer : ℕ) → source ≤ last_source → 1 ≤ customer
       → lookup_list (tables t l i).registers source customer ≡ list_at t l i source customer
@@ -169,17 +162,17 @@ module _ (t : Tables) (f : Formed t) (l : List Call) (i : ℕ) where
       records_in o = ap records_of (register_is o) ∙ records_are (lists_of o holds_at.lists) (holds_at.lists_ok o)
 
   -- So does a keeping that is answered.
-  keep_answer : (k : Keeping) (a : Answer) → kept (keep_effect (tables t l i).registers (tables t l i).ledger k).answer ≡ kept (Answered a)
-      → judged_route (hops_at t l i) k.role k.neighbour k.attribute ≡ Answered a
+  keep_answer : (k : Keeping) (a : Answer) → kept (keep_effect (tables t l i).registers (tables t l i).ledger k).answer ≡ kept (Ok a)
+      → judged_route (hops_at t l i) k.role k.neighbour k.attribute ≡ Ok a
   keep_answer k a e =
       let step = keep_step holds_at.lists holds_at.stored holds_at.lists_ok holds_at.routes-ok k in
-      let g : (keep_effect (tables t l i).registers (tables t l i).ledger k).answer ≡ Answered a = cc in
+      let g : (keep_effect (tables t l i).registers (tables t l i).ledger k).answer ≡ Ok a = cc in
       let o : Option Refusal = refusal (model_of holds_at.lists holds_at.stored) (keep k) in
       rw (← hops_are) (keep_answered o _ k.role k.neighbour k.attribute _ _ a (rw (registers_are, ledger_is, step) at g))
 
   -- A re-judging counts the routes that it changes.
   rejudge_count : call_at l i ≡ rejudge
-      → said t l i ≡ rejudged (Changed (count_differing (routes_of (tables t l i).ledger) (routes_of (tables t l (suc i)).ledger)))
+      → said t l i ≡ rejudged (Ok (count_differing (routes_of (tables t l i).ledger) (routes_of (tables t l (suc i)).ledger)))
   unfolding tables
   rejudge_count c = rw (c, holds_at.tables_are) (rejudge_counts holds_at.lists holds_at.stored holds_at.lists_ok holds_at.routes-ok)
 
@@ -197,14 +190,14 @@ stored-at t f l number (suc i) =
 
 -- A record is its key and its list.
 record_found : (k : ℕ × ℕ) (rs : List Record)
-    → find_record k rs ≡ Option.map (λ list. record_for k.1 k.0 list) (providers_of (find_record k rs))
+    → find_record k rs ≡ option_map (λ list. record_for k.1 k.0 list) (providers_of (find_record k rs))
 record_found k rs = go (find_record k rs) refl
   where
-    go : (o : Option Record) → find_record k rs ≡ o → o ≡ Option.map (λ list. record_for k.1 k.0 list) (providers_of o)
-    go none e = refl
-    go (some r) e =
+    go : (o : Option Record) → find_record k rs ≡ o → o ≡ option_map (λ list. record_for k.1 k.0 list) (providers_of o)
+    go None e = refl
+    go (Some r) e =
         let q : register.key_of r ≡ k = find_key register.key_of same_pair before_pair ordered_pairs k rs r e in
-        λ i. some (record { customer = (q i).0; source = (q i).1; providers = r.providers })
+        λ i. Some (record { customer = (q i).0; source = (q i).1; providers = r.providers })
 
 module _ (t : Tables) (f : Formed t) (l m : List Call) (i j : ℕ) where
   -- The same lists filed in a register: the same words there.
@@ -216,16 +209,16 @@ module _ (t : Tables) (f : Formed t) (l m : List Call) (i j : ℕ) where
       held n x = lists_of o (holds_at t f n x).lists
 
       there : (n : List Call) (x : ℕ) (k : ℕ × ℕ)
-          → find_record k (held n x) ≡ Option.map (λ list. record_for k.1 k.0 list) (filed_list t n x o k.1 k.0)
+          → find_record k (held n x) ≡ option_map (λ list. record_for k.1 k.0 list) (filed_list t n x o k.1 k.0)
       there n x k =
           record_found k (held n x)
-          ∙ ap (λ lists. Option.map (λ list. record_for k.1 k.0 list) (lists k.1 k.0)) (held_filed t f n x o)
+          ∙ ap (λ lists. option_map (λ list. record_for k.1 k.0 list) (lists k.1 k.0)) (held_filed t f n x o)
 
       same : held l i ≡ held m j
       same =
           same_finds register.key_of same_pair before_pair ordered_pairs (held l i) (held m j)
           (holding.in-order (held l i) ((holds_at t f l i).lists_ok o)) (holding.in-order (held m j) ((holds_at t f m j).lists_ok o))
-          (λ k. there l i k ∙ ap (Option.map (λ list. record_for k.1 k.0 list)) (e k.1 k.0) ∙ sym (there m j k))
+          (λ k. there l i k ∙ ap (option_map (λ list. record_for k.1 k.0 list)) (e k.1 k.0) ∙ sym (there m j k))
 
   -- The same routes stored: the same ledger.
   ledgers_alike : ((number : ℕ) → stored_at t l i number ≡ stored_at t m j number) → (tables t l i).ledger ≡ (tables t m j).ledger
@@ -265,42 +258,42 @@ demand2 t f = record {
 -- ---- demand 3
 
 -- The answer of a register step, from what it shows.
-abbrev filed_back : ModelReply → Filed
-filed_back new = filing.New
-filed_back replaced = filing.Replaced
-filed_back done = filing.New
-filed_back (gone n) = filing.New
-filed_back (refused r) = filing.Refused r
+abbrev filed_back : ModelReply → Result Filed Refusal
+filed_back new = Ok New
+filed_back replaced = Ok Replaced
+filed_back done = Ok New
+filed_back (gone n) = Ok New
+filed_back (refused r) = Err r
 
 -- Nothing of the answer to a filing is lost in what it shows,
-filed-back : (x : Filed) → filed_back (shown_filed x) ≡ x
-filed-back filing.New = refl
-filed-back filing.Replaced = refl
-filed-back (filing.Refused r) = refl
+filed-back : (x : Result Filed Refusal) → filed_back (shown_filed x) ≡ x
+filed-back (Ok New) = refl
+filed-back (Ok Replaced) = refl
+filed-back (Err r) = refl
 
 -- nor of that to a withdrawal,
-abbrev removal_back : ModelReply → Removal
-removal_back new = removal.Done
-removal_back replaced = removal.Done
-removal_back done = removal.Done
-removal_back (gone n) = removal.Done
-removal_back (refused r) = removal.Refused r
+abbrev removal_back : ModelReply → Result Unit Refusal
+removal_back new = Ok tt
+removal_back replaced = Ok tt
+removal_back done = Ok tt
+removal_back (gone n) = Ok tt
+removal_back (refused r) = Err r
 
-removal-back : (x : Removal) → removal_back (shown_removal x) ≡ x
-removal-back removal.Done = refl
-removal-back (removal.Refused r) = refl
+removal-back : (x : Result Unit Refusal) → removal_back (shown_removal x) ≡ x
+removal-back (Ok u) = refl
+removal-back (Err r) = refl
 
 -- nor of that to a clearing.
-abbrev cleared_back : ModelReply → Cleared
-cleared_back new = clearing.Gone 0
-cleared_back replaced = clearing.Gone 0
-cleared_back done = clearing.Gone 0
-cleared_back (gone n) = clearing.Gone n
-cleared_back (refused r) = clearing.Refused r
+abbrev cleared_back : ModelReply → Result ℕ Refusal
+cleared_back new = Ok 0
+cleared_back replaced = Ok 0
+cleared_back done = Ok 0
+cleared_back (gone n) = Ok n
+cleared_back (refused r) = Err r
 
-cleared-back : (x : Cleared) → cleared_back (shown_cleared x) ≡ x
-cleared-back (clearing.Gone n) = refl
-cleared-back (clearing.Refused r) = refl
+cleared-back : (x : Result ℕ Refusal) → cleared_back (shown_cleared x) ≡ x
+cleared-back (Ok n) = refl
+cleared-back (Err r) = refl
 
 -- Register steps that show the same answer the same.
 same_shown : (t u : Tables) (c : Call) → IsRegisterStep (scope c) → shown (says t c) ≡ shown (says u c) → says t c ≡ says u c
@@ -356,7 +349,7 @@ drafted hop r ok = go (eqb r.ground_code 0) refl
 
 -- The verdicts after a last re-judging.
 last_verdicts : (t : Tables) → Formed t → (l : List Call) (number : ℕ) (r : Route)
-    → find_route number (routes_of (last t l).ledger) ≡ some r → Drafted (hops_at t l (length l)) r
+    → find_route number (routes_of (last t l).ledger) ≡ Some r → Drafted (hops_at t l (length l)) r
 last_verdicts t f l number r e = rw (← hops_are t f l (length l)) (go (find_route number stored) refl (sym found ∙ e))
   where
     held : Holds (tables t l (length l)) (after t l (length l))
@@ -374,14 +367,14 @@ last_verdicts t f l number r e = rw (← hops_are t f l (length l)) (go (find_ro
         ∙ ap (λ s. routes_of s.words) (rejudge_step held.lists stored held.lists_ok held.routes-ok)
         ∙ routes_are (map (rejudged_route hop) stored) (rejudged_ok hop stored held.routes-ok)
 
-    found : find_route number (routes_of (last t l).ledger) ≡ Option.map (rejudged_route hop) (find_route number stored)
+    found : find_route number (routes_of (last t l).ledger) ≡ option_map (rejudged_route hop) (find_route number stored)
     found =
         ap (find_route number) routes_left
         ∙ find_map key_of key_of eqb ltb (rejudged_route hop) (λ k. ap (λ x. x.number) (rejudged_known hop k)) number stored
 
-    go : (o : Option Route) → find_route number stored ≡ o → Option.map (rejudged_route hop) o ≡ some r → Drafted hop r
-    go none p q = let z : ◌≡◌ {A = ℕ} 0 1 = cc in absurd (omega arith)
-    go (some x) p q =
+    go : (o : Option Route) → find_route number stored ≡ o → option_map (rejudged_route hop) o ≡ Some r → Drafted hop r
+    go None p q = let z : ◌≡◌ {A = ℕ} 0 1 = cc in absurd (omega arith)
+    go (Some x) p q =
         let z : rejudged_route hop x ≡ r = cc in
         rw (← z) (drafted hop x (every_found key_of eqb ltb route_ok number stored x (each_ok stored held.routes-ok) p))
 

@@ -1,13 +1,7 @@
 -- Lists of calls from any well-formed tables on, each call being lent the tables as the last one left them ("The calls"; demands 2 and 3).
-use Rattle.std.specs.Prelude.{ℕ, zero, suc, ◌≡◌, true, List, length, get_or, replicate}
-use Rattle.std.proofs.Math.Option.{Option, map}
+use Rattle.std.specs.Prelude.{ℕ, zero, suc, ◌≡◌, true, List, length, get_or, replicate, Option, Result, option_map}
 use Rattle.types.specs.declared.Origin.{Origin}
 use Rattle.types.specs.declared.Origin.TheVariants.{Public, Overrides}
-use Rattle.types.specs.declared.Filed.{Filed}
-use Rattle.types.specs.declared.Removal.{Removal}
-use Rattle.types.specs.declared.Cleared.{Cleared}
-use Rattle.types.specs.declared.Judged.{Judged}
-use Rattle.types.specs.declared.Rejudged.{Rejudged}
 use Rattle.types.specs.Numbers.{ground_number}
 use Rattle.as_path.specs.Reading.{Content, faulty, grounded, merged, content_of}
 use Rattle.rules.specs.Records.{Record}
@@ -19,6 +13,9 @@ use Rattle.registers.specs.Registers.{Registers, lent, chosen}
 use Rattle.ledger.specs.Routes.{ledger_words, Route, ledger_ok}
 use Rattle.ledger.specs.Calls.{drop_effect}
 use Rattle.effects.specs.Calls.{path_in, Keeping, keep_effect, rejudge_effect}
+use Rattle.types.specs.declared.Answer.{Answer}
+use Rattle.types.specs.declared.Filed.{Filed}
+use Rattle.types.specs.declared.Refusal.{Refusal}
 
 -- The calls that can change a table, with their arguments: any numbers and any bytes. File, Withdraw and Clear work on the register that they name.
 pub data Call : Type 0 where
@@ -31,11 +28,11 @@ pub data Call : Type 0 where
 
 -- What the calls answer: Withdraw and Drop a removal.
 pub data Reply : Type 0 where
-  filed : Filed → Reply
-  removed : Removal → Reply
-  cleared : Cleared → Reply
-  kept : Judged → Reply
-  rejudged : Rejudged → Reply
+  filed : Result Filed Refusal → Reply
+  removed : Result Unit Refusal → Reply
+  cleared : Result ℕ Refusal → Reply
+  kept : Result Answer Refusal → Reply
+  rejudged : Result ℕ Refusal → Reply
 
 -- The lent tables: two registers and the ledger.
 pub record Tables : Type 0 where
@@ -155,7 +152,7 @@ route_read k =
 
 -- Its list.
 abbrev pub providers_of : Option Record → Option (List ℕ)
-providers_of found = map (λ r. r.providers) found
+providers_of found = option_map (λ r. r.providers) found
 
 -- A stored route without its verdict and places.
 abbrev pub known : Route → KeptRoute

@@ -1,11 +1,7 @@
 -- Demands 2 and 3, clause by clause (docs/PROOFS.md has the demands), for lists of calls from the tables t on.
-use Rattle.std.specs.Prelude.{ℕ, suc, ◌≤◌, ◌<◌, ◌≡◌, true, false, List, length}
-use Rattle.std.proofs.Math.Option.{some, map}
+use Rattle.std.specs.Prelude.{ℕ, suc, ◌≤◌, ◌<◌, ◌≡◌, true, false, List, length, Ok, Some, option_map}
 use Rattle.types.specs.declared.Origin.{Origin}
 use Rattle.types.specs.declared.Answer.{Answer}
-use Rattle.types.specs.declared.Hopped.TheVariants as hopped
-use Rattle.types.specs.declared.Judged.TheVariants.{Answered}
-use Rattle.types.specs.declared.Rejudged.TheVariants.{Changed}
 use Rattle.types.specs.Numbers.{verdict_number, place_a, place_b, verdict_of}
 use Rattle.as_path.specs.Segments.{number_bytes, segments}
 use Rattle.rules.specs.Hops.{HopFunction}
@@ -36,7 +32,7 @@ pub record Demand2 (t : Tables) : Type 0 where
   pub lists-held : (l : List Call) (i : ℕ) (o : Origin) (source customer : ℕ)
       → providers_of (find_record (customer, source) (records_of (chosen o (tables t l i).registers))) ≡ filed_list t l i o source customer
   -- The ledger has the routes that were kept and not dropped since.
-  pub routes_held : (l : List Call) (i number : ℕ) → map known (find_route number (routes_of (tables t l i).ledger)) ≡ kept_route_at t l i number
+  pub routes_held : (l : List Call) (i number : ℕ) → option_map known (find_route number (routes_of (tables t l i).ledger)) ≡ kept_route_at t l i number
   -- Each with the verdict and places that it was last judged by.
   pub verdicts_held : (l : List Call) (i number : ℕ) → find_route number (routes_of (tables t l i).ledger) ≡ stored_at t l i number
   -- The tables keep the word rules: rows 1 to 3 are never given.
@@ -57,19 +53,19 @@ pub record Demand2 (t : Tables) : Type 0 where
   -- register that counts for each customer.
   pub judge_answers : (l : List Call) (i role neighbour : ℕ) (attribute : List ℕ)
       → judge_answer (tables t l i).registers role neighbour attribute ≡ judged_route (hops_at t l i) role neighbour attribute
-  pub keep_answers : (l : List Call) (i : ℕ) (k : Keeping) (a : Answer) → call_at l i ≡ keep k → said t l i ≡ kept (Answered a)
-      → judged_route (hops_at t l i) k.role k.neighbour k.attribute ≡ Answered a
+  pub keep_answers : (l : List Call) (i : ℕ) (k : Keeping) (a : Answer) → call_at l i ≡ keep k → said t l i ≡ kept (Ok a)
+      → judged_route (hops_at t l i) k.role k.neighbour k.attribute ≡ Ok a
   -- It is the draft's own, from the attribute's segments on: word, ground or places, and gap.
   pub draft_answers : (l : List Call) (i role neighbour : ℕ) (attribute : List ℕ) (a : Answer)
-      → judged_route (hops_at t l i) role neighbour attribute ≡ Answered a
+      → judged_route (hops_at t l i) role neighbour attribute ≡ Ok a
       → draft_route (hops_at t l i) role neighbour (segments number_bytes attribute) ≡ a
   -- So is every hop, and a look-up hands back the list itself.
-  pub hop_answers : (l : List Call) (i x y : ℕ) → hop_answer (tables t l i).registers x y ≡ hopped.Answered (hops_at t l i x y)
+  pub hop_answers : (l : List Call) (i x y : ℕ) → hop_answer (tables t l i).registers x y ≡ Ok (hops_at t l i x y)
   pub lookup_answers : (l : List Call) (i source customer : ℕ) → source ≤ last_source → 1 ≤ customer
       → lookup_list (tables t l i).registers source customer ≡ list_at t l i source customer
   -- A re-judging is never refused, and answers how many routes differ between the ledger before and after it.
   pub rejudge_counts : (l : List Call) (i : ℕ) → call_at l i ≡ rejudge
-      → said t l i ≡ rejudged (Changed (count_differing (routes_of (tables t l i).ledger) (routes_of (tables t l (suc i)).ledger)))
+      → said t l i ≡ rejudged (Ok (count_differing (routes_of (tables t l i).ledger) (routes_of (tables t l (suc i)).ledger)))
 
 -- ---- demand 3
 
@@ -98,7 +94,7 @@ pub record Demand3 (t : Tables) : Type 0 where
   -- After every list and one last re-judging all tables are the model written out.
   pub written_out : (l : List Call) → last t l ≡ written (final t l)
   -- Every verdict in them, with its places, is the draft's over the lists that demand 2 speaks of.
-  pub verdicts : (l : List Call) (number : ℕ) (r : Route) → find_route number (routes_of (last t l).ledger) ≡ some r → Drafted (hops_at t l (length l)) r
+  pub verdicts : (l : List Call) (number : ℕ) (r : Route) → find_route number (routes_of (last t l).ledger) ≡ Some r → Drafted (hops_at t l (length l)) r
   -- Two lists, one a reordering of the other, neither refused for room: each register call gets the same answer in both;
   pub same_answers : (l m : List Call) (r : Reordering l m) → Roomy t l → Roomy t m → (i : ℕ) → IsRegisterStep (scope_at l i) → said t l i ≡ said t m (r.to i)
   -- each keeping and dropping is done in both, or refused in both by the same row and place;

@@ -1,6 +1,5 @@
 -- What demand 2 calls filed and kept: read off the list of calls and the answers to them, and before the first call off the tables.
-use Rattle.std.specs.Prelude.{ℕ, zero, suc, Bool, true, false, cond, ◌&&◌, List, [], eqb}
-use Rattle.std.proofs.Math.Option.{Option, none, some, map}
+use Rattle.std.specs.Prelude.{ℕ, zero, suc, Bool, true, false, cond, ◌&&◌, List, [], eqb, None, Option, Some, option_map}
 use Rattle.types.specs.declared.Origin.{Origin}
 use Rattle.types.specs.declared.Origin.TheVariants.{Public, Overrides}
 use Rattle.types.specs.declared.Hop.TheVariants.{NoAttestation, ProviderPlus, NotProviderPlus}
@@ -28,9 +27,9 @@ same_origin Overrides Overrides = true
 -- An accepted call decides which list the source has for the customer in a register if it is a filing or withdrawal of the pair there or a clearing
 -- of the source there. Otherwise the calls before it decide.
 abbrev pub filed_by : Origin → ℕ → ℕ → Call → Option (List ℕ) → Option (List ℕ)
-filed_by o source customer (file p s c list) earlier = cond (same_origin p o && (eqb c customer && eqb s source)) (some list) earlier
-filed_by o source customer (withdraw p s c) earlier = cond (same_origin p o && (eqb c customer && eqb s source)) none earlier
-filed_by o source customer (clear p s) earlier = cond (same_origin p o && eqb s source) none earlier
+filed_by o source customer (file p s c list) earlier = cond (same_origin p o && (eqb c customer && eqb s source)) (Some list) earlier
+filed_by o source customer (withdraw p s c) earlier = cond (same_origin p o && (eqb c customer && eqb s source)) None earlier
+filed_by o source customer (clear p s) earlier = cond (same_origin p o && eqb s source) None earlier
 filed_by o source customer (keep k) earlier = earlier
 filed_by o source customer (drop number) earlier = earlier
 filed_by o source customer rejudge earlier = earlier
@@ -47,13 +46,13 @@ abbrev pub kept_by : ℕ → Call → Option KeptRoute → Option KeptRoute
 kept_by number (file o s c list) earlier = earlier
 kept_by number (withdraw o s c) earlier = earlier
 kept_by number (clear o s) earlier = earlier
-kept_by number (keep k) earlier = cond (eqb k.number number) (some (route_read k)) earlier
-kept_by number (drop n) earlier = cond (eqb n number) none earlier
+kept_by number (keep k) earlier = cond (eqb k.number number) (Some (route_read k)) earlier
+kept_by number (drop n) earlier = cond (eqb n number) None earlier
 kept_by number rejudge earlier = earlier
 
 -- The route kept under the number by the first i calls or held by t, and not since dropped.
 unfoldable pub kept_route_at : Tables → List Call → ℕ → ℕ → Option KeptRoute
-kept_route_at t l zero number = map known (find_route number (routes_of t.ledger))
+kept_route_at t l zero number = option_map known (find_route number (routes_of t.ledger))
 kept_route_at t l (suc i) number =
     cond (accepted (shown (said t l i))) (kept_by number (call_at l i) (kept_route_at t l i number)) (kept_route_at t l i number)
 
@@ -65,12 +64,12 @@ FiledLists = ℕ → ℕ → Option (List ℕ)
 
 -- There is a list; it holds y.
 abbrev pub is_filed : Option (List ℕ) → Bool
-is_filed none = false
-is_filed (some list) = true
+is_filed None = false
+is_filed (Some list) = true
 
 abbrev pub is_listed : ℕ → Option (List ℕ) → Bool
-is_listed y none = false
-is_listed y (some list) = is_in y list
+is_listed y None = false
+is_listed y (Some list) = is_in y list
 
 -- One of the sources 0 to 7 has a list for x.
 abbrev pub any_filed : FiledLists → ℕ → Bool
@@ -91,8 +90,8 @@ hop_filed_over public overrides x = cond (any_filed overrides x) (hop_filed Over
 
 -- The list of a source for x that counts so; empty where there is none.
 abbrev pub list_if_any : Option (List ℕ) → List ℕ
-list_if_any none = []
-list_if_any (some list) = list
+list_if_any None = []
+list_if_any (Some list) = list
 
 unfoldable pub list_filed_over : FiledLists → FiledLists → ℕ → ℕ → List ℕ
 list_filed_over public overrides source x = list_if_any (cond (any_filed overrides x) (overrides source x) (public source x))
@@ -113,11 +112,11 @@ stored_by hop number (withdraw o s c) earlier = earlier
 stored_by hop number (clear o s) earlier = earlier
 stored_by hop number (keep k) earlier =
     cond (eqb k.number number)
-    (some (route_for k.number k.role k.neighbour (verdict_in (judged_route hop k.role k.neighbour k.attribute))
+    (Some (route_for k.number k.role k.neighbour (verdict_in (judged_route hop k.role k.neighbour k.attribute))
     (path_in (content_of k.role k.neighbour k.attribute))))
     earlier
-stored_by hop number (drop n) earlier = cond (eqb n number) none earlier
-stored_by hop number rejudge earlier = map (rejudged_route hop) earlier
+stored_by hop number (drop n) earlier = cond (eqb n number) None earlier
+stored_by hop number rejudge earlier = option_map (rejudged_route hop) earlier
 
 -- The route stored under the number after the first i calls, with its verdict and places: over the lists that were filed when it was last judged, or
 -- as t holds it if that was before the first call.

@@ -1,6 +1,5 @@
 -- The reference model (the rules' plain book): lists and routes, fed only the arguments of each call.
-use Rattle.std.specs.Prelude.{ℕ, zero, suc, ◌+◌, Bool, not, cond, ◌&&◌, List, [], ◌∷◌, ◌++◌, map, eqb, leb, ltb, length}
-use Rattle.std.proofs.Math.Option.{Option, none, some}
+use Rattle.std.specs.Prelude.{ℕ, zero, suc, ◌+◌, Bool, not, cond, ◌&&◌, List, [], ◌∷◌, ◌++◌, map, eqb, leb, ltb, length, None, Option, Some}
 use Rattle.types.specs.declared.Origin.{Origin}
 use Rattle.types.specs.declared.Origin.TheVariants.{Public, Overrides}
 use Rattle.types.specs.declared.Verdict.{Verdict}
@@ -140,12 +139,12 @@ change m rejudge = m
 
 -- A refused call is answered so, and leaves the model alone.
 abbrev pub reply_unless : Option Refusal → ModelReply → ModelReply
-reply_unless (some r) reply = refused r
-reply_unless none reply = reply
+reply_unless (Some r) reply = refused r
+reply_unless None reply = reply
 
 abbrev pub change_unless : Option Refusal → Model → Model → Model
-change_unless (some r) before after = before
-change_unless none before after = after
+change_unless (Some r) before after = before
+change_unless None before after = after
 
 -- The model's reply to a call, and the model after it.
 abbrev pub reply_to : Model → Call → ModelReply

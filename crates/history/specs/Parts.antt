@@ -1,13 +1,11 @@
 -- A part of all lists is enough to judge a path by ("P10"): those for the numbers on it. So tools/aspa-check files a part for each batch of paths.
 -- proofs/Parts.antt has the proofs.
-use Rattle.std.specs.Prelude.{ℕ, ◌≡◌, true, cond, ◌&&◌, List, [], ◌∷◌, eqb}
-use Rattle.std.proofs.Math.Option.{none, some}
+use Rattle.std.specs.Prelude.{ℕ, ◌≡◌, true, cond, ◌&&◌, List, [], ◌∷◌, eqb, None, Ok, Some}
 use Rattle.types.specs.declared.Origin.TheVariants.{Public, Overrides}
 use Rattle.types.specs.declared.Cause.TheVariants.{ByHops}
 use Rattle.types.specs.declared.Origins.TheVariants.{One}
 use Rattle.types.specs.declared.Verdict.TheVariants.{Valid, Invalid, Unknown}
 use Rattle.types.specs.declared.Answer.{Answer}
-use Rattle.types.specs.declared.Judged.TheVariants.{Answered}
 use Rattle.as_path.specs.Segments.{number_bytes, segments}
 use Rattle.rules.specs.Records.{is_in}
 use Rattle.rules.specs.Judging.{judged_route}
@@ -31,7 +29,7 @@ pub record PartLaws (t : Tables) : Type 0 where
   -- And that is the draft's answer over all of them.
   pub part_drafts : (public overrides : FiledLists) (l : List Call) (i role neighbour : ℕ) (attribute : List ℕ)
       → HoldsPart t l i public overrides (path_of role neighbour attribute)
-      → (a : Answer) → judge_answer (tables t l i).registers role neighbour attribute ≡ Answered a
+      → (a : Answer) → judge_answer (tables t l i).registers role neighbour attribute ≡ Ok a
       → draft_route (hop_filed_over public overrides) role neighbour (segments number_bytes attribute) ≡ a
 
 -- From every well-formed start, so from empty tables and before the first call too.
@@ -42,10 +40,10 @@ Parts = (t : Tables) → Formed t → PartLaws t
 
 -- 10 lists 20 and 30, 20 lists 40, and every other number lists nobody, all by source 0.
 abbrev pub everybody : FiledLists
-everybody source x = cond (eqb source 0) (cond (eqb x 10) (some (20 ∷ 30 ∷ [])) (cond (eqb x 20) (some (40 ∷ [])) (some (0 ∷ [])))) none
+everybody source x = cond (eqb source 0) (cond (eqb x 10) (Some (20 ∷ 30 ∷ [])) (cond (eqb x 20) (Some (40 ∷ [])) (Some (0 ∷ [])))) None
 
 abbrev pub of_fifty : FiledLists
-of_fifty source x = cond (eqb source 0 && eqb x 50) (some (10 ∷ [])) none
+of_fifty source x = cond (eqb source 0 && eqb x 50) (Some (10 ∷ [])) None
 
 -- The tables before the first call.
 abbrev pub start_ten : Tables

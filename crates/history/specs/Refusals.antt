@@ -1,17 +1,12 @@
 -- Demand 1: over any tables, malformed ones among them, every call is refused exactly by the first of its rows that is given, and then changes no
 -- word ("Refusals").
-use Rattle.std.specs.Prelude.{ℕ, ◌≤◌, ◌<◌, ◌≡◌, Bool, true, ◌&&◌, List, [], ◌∷◌, ◌++◌, ◌↔◌, leb, length, get_or}
-use Rattle.std.proofs.Math.Option.{Option, none, some}
-use Rattle.types.specs.declared.Hopped.{Hopped}
-use Rattle.types.specs.declared.Hopped.TheVariants as hopped
-use Rattle.types.specs.declared.Place.TheVariants.{Byte}
+use Rattle.std.specs.Prelude.{ℕ, ◌≤◌, ◌<◌, ◌≡◌, Bool, true, ◌&&◌, List, [], ◌∷◌, ◌++◌, ◌↔◌, leb, length, get_or, Err, None, Ok, Option, Result, Some}
 use Rattle.types.specs.declared.Fault.{Fault}
 use Rattle.types.specs.declared.Refusal.{Refusal}
 use Rattle.types.specs.declared.Refusal.TheVariants.{Attribute}
 use Rattle.types.specs.Numbers.{refusal_number, refusal_place}
 use Rattle.types.specs.Rows.{FirstAt, Ranged}
 use Rattle.as_path.specs.Segments.{number_bytes}
-use Rattle.as_path.specs.declared.Scan.TheVariants.{Faulty}
 use Rattle.as_path.specs.Faults.{first_fault}
 use Rattle.register.specs.Calls.{file_rows, withdraw_rows, clear_rows}
 use Rattle.registers.specs.Registers.{chosen}
@@ -20,6 +15,7 @@ use Rattle.rules.specs.Judging.{refusal_in}
 use Rattle.effects.specs.Calls.{register_rows, judge_rows_over, keep_rows, rejudge_rows, judge_answer, hop_answer, look_rows, lookup_list}
 use Rattle.history.specs.Calls.{Call, file, withdraw, clear, keep, drop, rejudge, Tables, says, leaves}
 use Rattle.history.specs.Replies.{ModelReply, new, replaced, done, gone, refused, shown}
+use Rattle.types.specs.declared.Hop.{Hop}
 
 -- Every call of the filter that can be refused: one that can change a table, Judge, or Hop.
 pub data AnyCall : Type 0 where
@@ -72,15 +68,15 @@ in_order m (n ∷ ns) = leb m n.0 && leb n.0 n.1 && in_order n.1 ns
 -- ---- what a call answers and leaves
 
 abbrev pub refused_by : ModelReply → Option Refusal
-refused_by new = none
-refused_by replaced = none
-refused_by done = none
-refused_by (gone n) = none
-refused_by (refused r) = some r
+refused_by new = None
+refused_by replaced = None
+refused_by done = None
+refused_by (gone n) = None
+refused_by (refused r) = Some r
 
-abbrev pub hop_refusal : Hopped → Option Refusal
-hop_refusal (hopped.Answered h) = none
-hop_refusal (hopped.Refused r) = some r
+abbrev pub hop_refusal : Result Hop Refusal → Option Refusal
+hop_refusal (Ok h) = None
+hop_refusal (Err r) = Some r
 
 -- The refusal that the filter's answer is, if it is one.
 abbrev pub refusal_of : Tables → AnyCall → Option Refusal
@@ -112,23 +108,23 @@ attribute_of (hop x y) = []
 
 pub record Demand1 : Type 0 where
   -- A call answers a refusal exactly when one of its rows is given as that refusal and no row before it is given.
-  pub refused_first : (t : Tables) (c : AnyCall) (r : Refusal) → (refusal_of t c ≡ some r) ↔ ((i : ℕ) × FirstAt (rows_of t c) i r)
+  pub refused_first : (t : Tables) (c : AnyCall) (r : Refusal) → (refusal_of t c ≡ Some r) ↔ ((i : ℕ) × FirstAt (rows_of t c) i r)
   -- It is accepted exactly when none is given.
-  pub accepted_none : (t : Tables) (c : AnyCall) → (refusal_of t c ≡ none) ↔ ((i : ℕ) → get_or (rows_of t c) i none ≡ none)
+  pub accepted_none : (t : Tables) (c : AnyCall) → (refusal_of t c ≡ None) ↔ ((i : ℕ) → get_or (rows_of t c) i None ≡ None)
   -- Its rows have the numbers that the rules list.
   pub rows_numbered : (t : Tables) (c : AnyCall) → Ranged (rows_of t c) (numbers_of c)
   -- These stand in their order.
   pub numbers_ordered : (c : AnyCall) → in_order 1 (numbers_of c) ≡ true
   -- A refused call leaves every word of all tables.
-  pub refused_leaves : (t : Tables) (c : AnyCall) (r : Refusal) → refusal_of t c ≡ some r → left_by t c ≡ t
+  pub refused_leaves : (t : Tables) (c : AnyCall) (r : Refusal) → refusal_of t c ≡ Some r → left_by t c ≡ t
   -- A refusal has a place exactly when its number is 12 to 16.
-  pub places_numbered : (r : Refusal) → ((12 ≤ refusal_number r) × (refusal_number r ≤ 16)) ↔ ((p : ℕ) × (refusal_place r ≡ Byte p))
+  pub places_numbered : (r : Refusal) → ((12 ≤ refusal_number r) × (refusal_number r ≤ 16)) ↔ ((p : ℕ) × (refusal_place r ≡ Some p))
   -- It is then the first fault of the call's attribute, and the place is the fault's, at a byte of the attribute.
-  pub place_first : (t : Tables) (c : AnyCall) (r : Refusal) (p : ℕ) → refusal_of t c ≡ some r → refusal_place r ≡ Byte p
-      → (f : Fault) × ((r ≡ Attribute f p) × (first_fault number_bytes (attribute_of c) ≡ Faulty f p))
-  pub place_within : (t : Tables) (c : AnyCall) (r : Refusal) (p : ℕ) → refusal_of t c ≡ some r → refusal_place r ≡ Byte p
+  pub place_first : (t : Tables) (c : AnyCall) (r : Refusal) (p : ℕ) → refusal_of t c ≡ Some r → refusal_place r ≡ Some p
+      → (f : Fault) × ((r ≡ Attribute f p) × (first_fault number_bytes (attribute_of c) ≡ Some (f, p)))
+  pub place_within : (t : Tables) (c : AnyCall) (r : Refusal) (p : ℕ) → refusal_of t c ≡ Some r → refusal_place r ≡ Some p
       → p < length (attribute_of c)
   -- The look-up is no call that is refused: where one of its rows is given, which have these numbers, it hands back the empty list.
-  pub look_empty : (t : Tables) (source customer i : ℕ) (r : Refusal) → get_or (look_rows t.registers source customer) i none ≡ some r
+  pub look_empty : (t : Tables) (source customer i : ℕ) (r : Refusal) → get_or (look_rows t.registers source customer) i None ≡ Some r
       → lookup_list t.registers source customer ≡ []
   pub look_numbered : (t : Tables) (source customer : ℕ) → Ranged (look_rows t.registers source customer) look_numbers

@@ -1,18 +1,12 @@
 -- What the model replies to a call, and what an answer shows of such a reply.
-use Rattle.std.specs.Prelude.{ℕ, Bool, true, false, ◌||◌, eqb}
-use Rattle.types.specs.declared.Filed.{Filed}
-use Rattle.types.specs.declared.Filed.TheVariants as filing
-use Rattle.types.specs.declared.Removal.{Removal}
-use Rattle.types.specs.declared.Removal.TheVariants as removal
-use Rattle.types.specs.declared.Cleared.{Cleared}
-use Rattle.types.specs.declared.Cleared.TheVariants as clearing
-use Rattle.types.specs.declared.Judged.{Judged}
-use Rattle.types.specs.declared.Judged.TheVariants as judging
-use Rattle.types.specs.declared.Rejudged.{Rejudged}
-use Rattle.types.specs.declared.Rejudged.TheVariants as rejudging
+use Rattle.std.specs.Prelude.{ℕ, Bool, true, false, ◌||◌, eqb, Err, Ok, Result}
 use Rattle.types.specs.declared.Refusal.{Refusal}
 use Rattle.types.specs.Numbers.{refusal_number}
 use Rattle.history.specs.Calls.{Reply, filed, removed, cleared, kept, rejudged}
+use Rattle.types.specs.declared.Answer.{Answer}
+use Rattle.types.specs.declared.Filed.{Filed}
+use Rattle.types.specs.declared.Filed.TheVariants.{New}
+use Rattle.types.specs.declared.Filed.TheVariants.{Replaced}
 
 -- Of a keeping and a re-judging only that it is done.
 pub data ModelReply : Type 0 where
@@ -21,26 +15,26 @@ pub data ModelReply : Type 0 where
   refused : Refusal → ModelReply
 
 -- What each answer shows: of a keeping, that it is done, or the refusal.
-abbrev pub shown_filed : Filed → ModelReply
-shown_filed filing.New = new
-shown_filed filing.Replaced = replaced
-shown_filed (filing.Refused r) = refused r
+abbrev pub shown_filed : Result Filed Refusal → ModelReply
+shown_filed (Ok New) = new
+shown_filed (Ok Replaced) = replaced
+shown_filed (Err r) = refused r
 
-abbrev pub shown_removal : Removal → ModelReply
-shown_removal removal.Done = done
-shown_removal (removal.Refused r) = refused r
+abbrev pub shown_removal : Result Unit Refusal → ModelReply
+shown_removal (Ok u) = done
+shown_removal (Err r) = refused r
 
-abbrev pub shown_cleared : Cleared → ModelReply
-shown_cleared (clearing.Gone n) = gone n
-shown_cleared (clearing.Refused r) = refused r
+abbrev pub shown_cleared : Result ℕ Refusal → ModelReply
+shown_cleared (Ok n) = gone n
+shown_cleared (Err r) = refused r
 
-abbrev pub shown_judged : Judged → ModelReply
-shown_judged (judging.Answered a) = done
-shown_judged (judging.Refused r) = refused r
+abbrev pub shown_judged : Result Answer Refusal → ModelReply
+shown_judged (Ok a) = done
+shown_judged (Err r) = refused r
 
-abbrev pub shown_rejudged : Rejudged → ModelReply
-shown_rejudged (rejudging.Changed n) = done
-shown_rejudged (rejudging.Refused r) = refused r
+abbrev pub shown_rejudged : Result ℕ Refusal → ModelReply
+shown_rejudged (Ok n) = done
+shown_rejudged (Err r) = refused r
 
 abbrev pub shown : Reply → ModelReply
 shown (filed x) = shown_filed x

@@ -1,12 +1,10 @@
 -- What the definitions of demands 2 and 3 come to: laws and examples that a reader may hold them to.
-use Rattle.std.specs.Prelude.{ℕ, zero, suc, ◌-◌, ◌<◌, ◌≤◌, ◌≡◌, true, List, [], ◌∷◌, ◌++◌, ◌↔◌, take, replicate}
-use Rattle.std.proofs.Math.Option.{none, some, map}
+use Rattle.std.specs.Prelude.{ℕ, zero, suc, ◌-◌, ◌<◌, ◌≤◌, ◌≡◌, true, List, [], ◌∷◌, ◌++◌, ◌↔◌, take, replicate, None, Result, Some, option_map}
 use Rattle.types.specs.declared.Origin.{Origin}
 use Rattle.types.specs.declared.Origin.TheVariants.{Public, Overrides}
 use Rattle.types.specs.declared.Origins.TheVariants.{One}
 use Rattle.types.specs.declared.Cause.TheVariants.{ByHops}
 use Rattle.types.specs.declared.Verdict.TheVariants.{Valid, Invalid}
-use Rattle.types.specs.declared.Judged.{Judged}
 use Rattle.types.specs.declared.Refusal.TheVariants.{SourceNumber, ProviderList, NoRecord, RegisterFull, RouteTaken, NoRoute, RoutesFull}
 use Rattle.rules.specs.Vectors.{sequence, plain, pairs_then}
 use Rattle.register.specs.Register.{register_words, most_providers, records_of}
@@ -18,6 +16,8 @@ use Rattle.history.specs.Replies.{new, replaced, done, gone, refused, shown, acc
 use Rattle.history.specs.Filings.{filed_list, kept_route_at}
 use Rattle.history.specs.Reorderings.{OnPair, Clears, OnRoute, Tied, IsRegisterStep, Reordering}
 use Rattle.history.specs.Demands.{Roomy}
+use Rattle.types.specs.declared.Answer.{Answer}
+use Rattle.types.specs.declared.Refusal.{Refusal}
 
 -- ---- what is filed, without a scan
 
@@ -31,7 +31,7 @@ ListStands t l from i o source customer =
 pub data LastFiled (t : Tables) (l : List Call) (i : ℕ) (o : Origin) (source customer : ℕ) (list : List ℕ) : Type 0 where
   by_filing : (index : ℕ) → index < i → call_at l index ≡ file o source customer list → accepted (shown (said t l index)) ≡ true
       → ListStands t l (suc index) i o source customer → LastFiled t l i o source customer list
-  list_held_first : providers_of (find_record (customer, source) (records_of (chosen o t.registers))) ≡ some list
+  list_held_first : providers_of (find_record (customer, source) (records_of (chosen o t.registers))) ≡ Some list
       → ListStands t l 0 i o source customer → LastFiled t l i o source customer list
 
 -- From index `from` to before i no accepted keeping or dropping of the number.
@@ -49,7 +49,7 @@ pub record KeepsAs (number : ℕ) (c : Call) (r : KeptRoute) : Type 0 where
 pub data LastKept (t : Tables) (l : List Call) (i number : ℕ) (r : KeptRoute) : Type 0 where
   by_keeping : (index : ℕ) → index < i → KeepsAs number (call_at l index) r → accepted (shown (said t l index)) ≡ true
       → RouteStands t l (suc index) i number → LastKept t l i number r
-  route_held_first : map known (find_route number (routes_of t.ledger)) ≡ some r → RouteStands t l 0 i number → LastKept t l i number r
+  route_held_first : option_map known (find_route number (routes_of t.ledger)) ≡ Some r → RouteStands t l 0 i number → LastKept t l i number r
 
 -- ---- examples
 
@@ -69,7 +69,7 @@ abbrev pub override_withdrawn : List Call
 override_withdrawn = file Public 0 65002 (65001 ∷ []) ∷ file Overrides 3 65002 (65003 ∷ []) ∷ withdraw Overrides 3 65002 ∷ []
 
 -- What Judge answers after i calls of it to a route from customer 65001 that 65002 began, and the list of a source for 65002 that is looked up.
-abbrev pub judged_after : ℕ → Judged
+abbrev pub judged_after : ℕ → Result Answer Refusal
 judged_after i = judge_answer (tables blank override_withdrawn i).registers 1 65001 (sequence (65001 ∷ 65002 ∷ []))
 
 abbrev pub looked_up_after : ℕ → ℕ → List ℕ
@@ -124,8 +124,8 @@ pub record Sanity : Type 0 where
   pub blank_empty : ((o : Origin) → records_of (chosen o blank.registers) ≡ []) × (routes_of blank.ledger ≡ [])
   -- The scan finds exactly the last accepted list.
   pub filed_is_last : (t : Tables) (l : List Call) (i : ℕ) (o : Origin) (source customer : ℕ) (list : List ℕ)
-      → (filed_list t l i o source customer ≡ some list) ↔ LastFiled t l i o source customer list
-  pub kept_is_last : (t : Tables) (l : List Call) (i number : ℕ) (r : KeptRoute) → (kept_route_at t l i number ≡ some r) ↔ LastKept t l i number r
+      → (filed_list t l i o source customer ≡ Some list) ↔ LastFiled t l i o source customer list
+  pub kept_is_last : (t : Tables) (l : List Call) (i number : ℕ) (r : KeptRoute) → (kept_route_at t l i number ≡ Some r) ↔ LastKept t l i number r
   -- To be a reordering is an equivalence.
   pub itself : (l : List Call) → Reordering l l
   pub back : (l m : List Call) → Reordering l m → Reordering m l
@@ -160,18 +160,18 @@ pub record Sanity : Type 0 where
       → (IsRegisterStep (scope (keep k)) → ⊥) × (IsRegisterStep (scope (drop n)) → ⊥) × (IsRegisterStep (scope rejudge) → ⊥)
   -- Two sources file for one customer, and both lists are there, in either order.
   pub both_there :
-      (filed_list blank two_first 2 Public 2 65010 ≡ some (65001 ∷ 65002 ∷ [])) × (filed_list blank two_first 2 Public 0 65010 ≡ some (65003 ∷ []))
+      (filed_list blank two_first 2 Public 2 65010 ≡ Some (65001 ∷ 65002 ∷ [])) × (filed_list blank two_first 2 Public 0 65010 ≡ Some (65003 ∷ []))
   pub both_there_too :
-      (filed_list blank one_first 2 Public 2 65010 ≡ some (65001 ∷ 65002 ∷ [])) × (filed_list blank one_first 2 Public 0 65010 ≡ some (65003 ∷ []))
+      (filed_list blank one_first 2 Public 2 65010 ≡ Some (65001 ∷ 65002 ∷ [])) × (filed_list blank one_first 2 Public 0 65010 ≡ Some (65003 ∷ []))
   pub either_order : Reordering two_first one_first
   pub same_either_way : last blank two_first ≡ last blank one_first
   pub whole_register : (last blank two_first).registers.public
       ≡ (2 ∷ 3 ∷ 65010 ∷ 0 ∷ 0 ∷ 1 ∷ 65010 ∷ 2 ∷ 1 ∷ 2 ∷ 65003 ∷ 65001 ∷ 65002 ∷ []) ++ replicate (register_words - 13) 0
   -- One source files for one customer in both registers, and each has its list; a clearing in one leaves the other's.
   pub each_there :
-      (filed_list blank cleared_in_one 2 Public 0 65010 ≡ some (65001 ∷ [])) × (filed_list blank cleared_in_one 2 Overrides 0 65010 ≡ some (65002 ∷ []))
+      (filed_list blank cleared_in_one 2 Public 0 65010 ≡ Some (65001 ∷ [])) × (filed_list blank cleared_in_one 2 Overrides 0 65010 ≡ Some (65002 ∷ []))
   pub other_left :
-      (filed_list blank cleared_in_one 3 Public 0 65010 ≡ none) × (filed_list blank cleared_in_one 3 Overrides 0 65010 ≡ some (65002 ∷ []))
+      (filed_list blank cleared_in_one 3 Public 0 65010 ≡ None) × (filed_list blank cleared_in_one 3 Overrides 0 65010 ≡ Some (65002 ∷ []))
   -- An override turns a Valid into an Invalid of its own, and its withdrawal turns it back.
   pub first_valid : judged_after 1 ≡ plain Valid
   pub then_invalid : judged_after 2 ≡ plain (Invalid (ByHops 2 0 (One Overrides)))

@@ -1,8 +1,6 @@
 -- A read is a new start ("The snapshot"): demands 2 and 3 hold of every list of calls from the tables that it yields. It leaves the overrides.
-use Rattle.std.specs.Prelude.{ℕ, ◌-◌, ◌≡◌, true, List, [], ◌∷◌, ◌++◌, length, replicate}
+use Rattle.std.specs.Prelude.{ℕ, ◌-◌, ◌≡◌, true, List, [], ◌∷◌, ◌++◌, length, replicate, Ok}
 use Rattle.types.specs.declared.Origin.TheVariants.{Overrides}
-use Rattle.types.specs.declared.Restored.TheVariants.{Done}
-use Rattle.types.specs.declared.Rejudged.TheVariants.{Changed}
 use Rattle.register.specs.Register.{register_words, records_of, register_ok}
 use Rattle.registers.specs.Registers.{lent}
 use Rattle.ledger.specs.Routes.{Route, routes_of}
@@ -21,7 +19,7 @@ yielded file t =
     }
 
 abbrev pub Accepts : List ℕ → Tables → Type 0
-Accepts file t = (read_effect file t.registers.public t.ledger).answer ≡ Done
+Accepts file t = (read_effect file t.registers.public t.ledger).answer ≡ Ok tt
 
 -- The overrides as they stand have the right length and keep the word rules.
 pub record OverridesFormed (t : Tables) : Type 0 where
@@ -55,7 +53,7 @@ pub record NewStarts : Type 0 where
   -- A file may hold a verdict that is not true. It is read as it stands, and the next re-judging mends it.
   pub stale_accepted : Accepts stale blank
   pub stale_held : routes_of (yielded stale blank).ledger ≡ route_with 0 0 ∷ []
-  pub stale_counted : says (yielded stale blank) rejudge ≡ rejudged (Changed 1)
+  pub stale_counted : says (yielded stale blank) rejudge ≡ rejudged (Ok 1)
   pub stale_mended : routes_of (leaves (yielded stale blank) rejudge).ledger ≡ route_with 2 2 ∷ []
   -- By overrides that stood before the read that verdict is true.
-  pub stale_true : Accepts stale overridden × (says (yielded stale overridden) rejudge ≡ rejudged (Changed 0))
+  pub stale_true : Accepts stale overridden × (says (yielded stale overridden) rejudge ≡ rejudged (Ok 0))

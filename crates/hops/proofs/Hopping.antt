@@ -1,23 +1,24 @@
 -- The scan of a customer's records: what each turn and each way out shows. Assumes nothing.
-use Prim.Native.Nat.{ℕ, ◌+◌, ◌-◌, ◌*◌, ◌≤◌, ◌<◌}
+use Prim.Native.Nat.{ℕ, ◌+◌, ◌≤◌, ◌<◌}
 use mathlib.Core.Path.{◌≡◌, refl, sym, ◌∙◌, ap}
-use mathlib.Core.Bool.{Bool, true, false, not, cond, true≢false, ◌||◌, ◌&&◌, or-true, or-false, or_assoc}
+use mathlib.Core.Bool.{Bool, true, false, cond, ◌||◌, ◌&&◌, or-true, or-false}
 use mathlib.Core.List.{List}
 use native.Mathlib.Omega.{arith}
-use borrow.Author.Tests.{ltb-true, ltb-false, lt-ltb, le-ltb, eqb-true, eqb-false}
+use borrow.Author.Tests.{ltb-true, ltb-false, eqb-true, eqb-false}
 use lib.Dec.{ltb, eqb}
-use lib.ListN.{length, get_or, take, drop}
+use lib.ListN.{length, drop}
 use Rattle.types.specs.declared.Origin.{Origin}
+use Rattle.std.specs.Prelude.{Option, Some, None, is_some, MatchOption}
+use Rattle.std.specs.Option.{option_or}
+use Rattle.std.specs.Bool.{then_some}
+use Rattle.types.specs.declared.Hop.{Hop}
 use Rattle.types.specs.declared.Hop.TheVariants.{NoAttestation, ProviderPlus, NotProviderPlus}
-use Rattle.table.specs.Table.{counters}
-use Rattle.keyed.specs.Keyed.{same_pair, before_pair, ascends}
+use Rattle.keyed.specs.Keyed.{same_pair, before_pair, ascends, every}
 use Rattle.keyed.proofs.Orders.{BeforePair, first, second, before_says, before_self}
 use Rattle.halves.proofs.Positions.{under}
 use Rattle.rules.specs.Records.{Record, is_in, attested, united, lowest_source, hop_of}
-use Rattle.register.specs.Register.{record_width, source_word, start_word, count_word, records_of, record_at, key_of, position_of, listed, register_ok}
-use Rattle.register.proofs.Entries.{list_start, length_is, list_is, list_within, customer_is, source_is}
-use Rattle.register.proofs.Holding.{sound, ordered, records-ok, each_ok}
-use Rattle.register.proofs.Looking.{begins, count_is, slot_in}
+use Rattle.register.specs.Register.{record_at, key_of, position_of, record_ok}
+use Rattle.register.proofs.Looking.{begins}
 use Rattle.hops.proofs.Sources.{lowest_listed}
 use Rattle.register.proofs.Uniting.{told, skips, past_all, attests, unites, none_united, hop_is}
 
@@ -51,202 +52,107 @@ module _ (rs : List Record) (a : ascends key_of same_pair before_pair rs ≡ tru
       let u : position_of c s rs ≤ i = under (begins rs a c s) i (before_self (c, s)) in
       not_less _ (record_at rs j).source c s ((begins rs a c s).behind j (omega arith) l)
 
--- The scan is at record i: x is attested if and only if a record was passed or those from i on attest it.
-pub record Passing (ws : List ℕ) (position x n i : ℕ) : Type 0 where
-  pub ok : register_ok ws ≡ true
-  pub begins : position ≡ position_of x 0 (records_of ws)
-  pub counted : n ≡ length (records_of ws)
-  pub from : position ≤ i
-  pub seen : (ltb position i || attested (drop i (records_of ws)) x) ≡ attested (records_of ws) x
+-- The records before i are passed: x is attested if one of them is x's, or those from i on attest it.
+pub record Passing (rs : List Record) (x : ℕ) (has : Bool) (i : ℕ) : Type 0 where
+  pub seen : (has || attested (drop i rs) x) ≡ attested rs x
 
--- The flag and the records from i on say whether x's lists hold y.
-pub record Hearing (ws : List ℕ) (x y : ℕ) (has : Bool) (i : ℕ) : Type 0 where
-  pub says : (has || is_in y (united (drop i (records_of ws)) x)) ≡ is_in y (united (records_of ws) x)
+-- The first source that lists y in the records before i: whether x's lists hold y is said by it and the records from i on, and it is the lowest.
+pub record Naming (rs : List Record) (x y : ℕ) (first : Option ℕ) (i : ℕ) : Type 0 where
+  pub says : (is_some first || is_in y (united (drop i rs) x)) ≡ is_in y (united rs x)
+  pub named : (source : ℕ) → first ≡ Some source → source ≡ lowest_source rs x y
+  pub unnamed : first ≡ None → (j : ℕ) → j < i → (record_at rs j).customer ≡ x → is_in y (record_at rs j).providers ≡ false
 
--- The source that is named: the lowest that lists y, once one of x's records before i does.
-pub record Naming (ws : List ℕ) (x y : ℕ) (has : Bool) (source i : ℕ) : Type 0 where
-  pub named : has ≡ true → source ≡ lowest_source (records_of ws) x y
-  pub unnamed : has ≡ false → (j : ℕ) → j < i → (record_at (records_of ws) j).customer ≡ x → is_in y (record_at (records_of ws) j).providers ≡ false
-
-module _ (ws : List ℕ) (x position : ℕ) (e : register_ok ws ≡ true) (p : position ≡ position_of x 0 (records_of ws)) where
+module _ (rs : List Record) (a : ascends key_of same_pair before_pair rs ≡ true) (x : ℕ) {position : ℕ} (p : position ≡ position_of x 0 rs) where
   -- The records before position tell nothing of x.
-  from_position : told x (drop position (records_of ws)) ≡ told x (records_of ws)
+  from_position : told x (drop position rs) ≡ told x rs
   from_position =
-      sym (skips x (records_of ws) 0 position (omega arith) (omega (arith, (begins (records_of ws) (ordered ws e) x 0).within))
-      (λ j l m q. omega (arith, customers_below (records_of ws) (ordered ws e) x j (omega arith))))
+      sym (skips x rs 0 position (omega arith) (omega (arith, (begins rs a x 0).within))
+      (λ j l m q. omega (arith, customers_below rs a x j (omega arith))))
 
   -- Before the first turn none is passed.
-  pub starts : (n : ℕ) → n ≡ get_or ws 0 0 → Passing ws position x n position
-  starts n q =
-      record {
-        ok = e;
-        begins = p;
-        counted = q ∙ count_is ws e;
-        from = omega arith;
-        seen = rw (le-ltb position position (omega arith)) (ap (λ t. t.0) from_position);
-      }
-
-  -- Nor is anything heard.
-  pub listens : (y : ℕ) → Hearing ws x y false position
-  listens y = record { says = ap (λ t. is_in y t.1) from_position }
+  pub starts : Passing rs x false position
+  starts = record { seen = ap (λ t. t.0) from_position }
 
   -- Nor any source named.
-  pub names_none : (y source : ℕ) → Naming ws x y false source position
-  names_none y source =
+  pub names_none : (y : ℕ) → Naming rs x y None position
+  names_none y =
       record {
-        named = λ t. absurd (true≢false (sym t));
-        unnamed = λ t j l c. absurd (omega (arith, customers_below (records_of ws) (ordered ws e) x j (omega arith), c));
+        says = ap (λ t. is_in y t.1) from_position;
+        named = λ source e. absurd (cc);
+        unnamed = λ e j l c. absurd (omega (arith, customers_below rs a x j (omega arith), c));
       }
 
-module _ {ws : List ℕ} {position x n i : ℕ} (b : Passing ws position x n i) where
-  module _ (h : i < n) where
-    -- Record i is there.
-    inside : i < length (records_of ws)
-    inside = omega arith
+  -- From position on the records' customers are x or above: where one is not x, none behind it is.
+  pub others_left : (i : ℕ) → position ≤ i → i < length rs → ((record_at rs i).customer ≡ x → ⊥) → attested (drop i rs) x ≡ false
+  others_left i l h t =
+      ap (λ s. s.0) (skips x rs i (length rs) (omega arith) (omega arith) none) ∙ past_all x rs (length rs) (omega arith)
+    where
+      none : (j : ℕ) → i ≤ j → j < length rs → (record_at rs j).customer ≡ x → ⊥
+      none j m n e =
+          t (omega (arith, customers_above rs a x i (omega (arith, p, l)) h, customers_ascend rs a i j m n, e))
 
-    -- Slot i is within the words.
-    pub slot_of : counters + i * record_width + record_width ≤ length ws
-    slot_of = slot_in ws b.ok i inside
+  -- Past the last record x is not attested.
+  pub attests_none : length rs ≤ position → false ≡ attested rs x
+  attests_none h = sym (past_all x rs position h) ∙ starts.seen
 
-    -- Its first word is the customer.
-    customer_of : get_or ws (counters + i * record_width) 0 ≡ (record_at (records_of ws) i).customer
-    customer_of = customer_is ws (sound ws b.ok) i inside
+  -- Otherwise the customer of the record at the position decides.
+  pub attests_by : position < length rs → eqb (record_at rs position).customer x ≡ attested rs x
+  attests_by h = go (eqb (record_at rs position).customer x) refl
+    where
+      go : (t : Bool) → eqb (record_at rs position).customer x ≡ t → t ≡ attested rs x
+      go true z = sym (attests x rs position h (eqb-true _ _ z)) ∙ starts.seen
+      go false z = sym (others_left position (omega arith) h (eqb-false _ _ z)) ∙ starts.seen
 
-    -- It is x's.
-    pub passes : get_or ws (counters + i * record_width) 0 ≡ x → Passing ws position x n (i + 1)
-    passes e =
-        record {
-          ok = b.ok;
-          begins = b.begins;
-          counted = b.counted;
-          from = omega arith;
-          seen =
-              rw (lt-ltb position (i + 1) (omega arith))
-              (sym (or-true (ltb position i)) ∙ ap (λ t. ltb position i || t) (sym (attests x (records_of ws) i inside (sym customer_of ∙ e))) ∙ b.seen);
-        }
+module _ {rs : List Record} (a : ascends key_of same_pair before_pair rs ≡ true) (ok : every record_ok rs ≡ true)
+    {x i : ℕ} (h : i < length rs) (e : (record_at rs i).customer ≡ x) where
+  -- Record i is x's.
+  pub passes : {has : Bool} → Passing rs x has i → Passing rs x true (i + 1)
+  passes {has} b = record { seen = sym (or-true has) ∙ ap (λ t. has || t) (sym (attests x rs i h e)) ∙ b.seen }
 
-    module _ {u v : ℕ} (eu : u ≡ get_or ws (counters + i * record_width + start_word) 0) (ev : v ≡ get_or ws (counters + i * record_width + count_word) 0) where
-      -- Its list's start.
-      start-of : u ≡ listed (take i (records_of ws))
-      start-of = eu ∙ list_start ws (sound ws b.ok) i inside
+  -- The source that is named after it.
+  pub names : {y source : ℕ} {lists : Bool} (old next : Option ℕ) → Naming rs x y old i
+      → lists ≡ is_in y (record_at rs i).providers → source ≡ (record_at rs i).source
+      → next ≡ option_or old (then_some lists source) → Naming rs x y next (i + 1)
+  names {y} {source} {lists} (Some s) next m t q r =
+      record {
+        says = rw r m.says;
+        named = λ u k. let z : u ≡ s = cc in z ∙ m.named s refl;
+        unnamed = λ k. absurd (cc);
+      }
+  names {y} {source} {lists} None next m t q r = go lists refl
+    where
+      up_to : lists ≡ false → (j : ℕ) → j < i + 1 → (below : Bool) → ltb j i ≡ below → (record_at rs j).customer ≡ x
+          → is_in y (record_at rs j).providers ≡ false
+      up_to l j k true z c = m.unnamed refl j (ltb-true j i z) c
+      up_to l j k false z c =
+          let w : j ≡ i = omega (arith, ltb-false j i z) in
+          ap (λ i. is_in y (record_at rs i).providers) w ∙ sym t ∙ l
 
-      -- Its list's length.
-      length_of : v ≡ length (record_at (records_of ws) i).providers
-      length_of = ev ∙ length_is ws (sound ws b.ok) i inside
-
-      -- Its list is within the words.
-      pub list_in : counters + n * record_width + u + v ≤ length ws
-      list_in = omega (arith, start-of, length_of, list_within ws (sound ws b.ok) i inside)
-
-      -- The part of the words that it is.
-      list_of : take (counters + n * record_width + u + v - (counters + n * record_width + u)) (drop (counters + n * record_width + u) ws) ≡ (record_at (records_of ws) i).providers
-      list_of =
-          let z : counters + n * record_width + u + v - (counters + n * record_width + u) ≡ v = omega arith in
-          (λ q. take (z q) (drop (counters + n * record_width + u) ws))
-          ∙ (λ q. take (length_of q) (drop (counters + b.counted q * record_width + start-of q) ws))
-          ∙ list_is ws (sound ws b.ok) i inside
-
-      -- The flag, with whether its list holds y.
-      pub hears : {y : ℕ} {has has' : Bool} → get_or ws (counters + i * record_width) 0 ≡ x → Hearing ws x y has i
-          → has' ≡ is_in y (take (counters + n * record_width + u + v - (counters + n * record_width + u)) (drop (counters + n * record_width + u) ws)) → Hearing ws x y (has || has') (i + 1)
-      hears {y} {has} {has'} e s t =
+      go : (b : Bool) → lists ≡ b → Naming rs x y next (i + 1)
+      go true l =
+          let z : next ≡ Some source = rw l at r in
           record {
-            says =
-                or_assoc has has' (is_in y (united (drop (i + 1) (records_of ws)) x))
-                ∙ ap (λ k. has || k) (rw (t, list_of) (sym (unites x (records_of ws) i inside (sym customer_of ∙ e) y)))
-                ∙ s.says;
+            says = rw z (rw (← t, l) at (sym (unites x rs i h e y) ∙ m.says));
+            named = λ u k. let v : u ≡ source = cc in v ∙ q ∙ lowest_listed rs a ok x y i h e (sym t ∙ l) (m.unnamed refl);
+            unnamed = λ k. absurd (cc);
+          }
+      go false l =
+          let z : next ≡ None = rw l at r in
+          record {
+            says = rw z (rw (← t, l) at (sym (unites x rs i h e y) ∙ m.says));
+            named = λ u k. absurd (cc);
+            unnamed = λ k j o. up_to l j o (ltb j i) refl;
           }
 
-      -- The source that is named after record i.
-      pub names : {y : ℕ} {has has' : Bool} {before source source' : ℕ} → get_or ws (counters + i * record_width) 0 ≡ x
-          → source ≡ get_or ws (counters + i * record_width + source_word) 0 → Naming ws x y has before i
-          → has' ≡ is_in y (take (counters + n * record_width + u + v - (counters + n * record_width + u)) (drop (counters + n * record_width + u) ws))
-          → source' ≡ cond (not has && has') source before → Naming ws x y (has || has') source' (i + 1)
-      names {y} {has} {has'} {before} {source} {source'} e q m t r = go has has' refl refl
-        where
-          mine : (record_at (records_of ws) i).customer ≡ x
-          mine = sym customer_of ∙ e
-
-          lists : has' ≡ is_in y (record_at (records_of ws) i).providers
-          lists = t ∙ ap (is_in y) list_of
-
-          -- Where none before it lists y and this one does, its source is the lowest.
-          here : has ≡ false → has' ≡ true → source ≡ lowest_source (records_of ws) x y
-          here h l =
-              q ∙ source_is ws (sound ws b.ok) i inside
-              ∙ lowest_listed (records_of ws) (ordered ws b.ok) (each_ok (records_of ws) (records-ok ws b.ok)) x y i inside mine (sym lists ∙ l) (m.unnamed h)
-
-          up_to : has ≡ false → has' ≡ false → (j : ℕ) → j < i + 1 → (below : Bool) → ltb j i ≡ below → (record_at (records_of ws) j).customer ≡ x
-              → is_in y (record_at (records_of ws) j).providers ≡ false
-          up_to h l j k true z c = m.unnamed h j (ltb-true j i z) c
-          up_to h l j k false z c =
-              let w : j ≡ i = omega (arith, ltb-false j i z) in
-              ap (λ i. is_in y (record_at (records_of ws) i).providers) w ∙ sym lists ∙ l
-
-          go : (a d : Bool) → has ≡ a → has' ≡ d → Naming ws x y (has || has') source' (i + 1)
-          go true d h l = record { named = λ k. r ∙ rw h (m.named h); unnamed = λ k. absurd (true≢false (rw h at k)) }
-          go false true h l = record { named = λ k. r ∙ rw (h, l) (here h l); unnamed = λ k. absurd (true≢false (rw (h, l) at k)) }
-          go false false h l =
-              record { named = λ k. absurd (true≢false (sym (rw (h, l) at k))); unnamed = λ k j o. up_to h l j o (ltb j i) refl }
-
-  -- From i on no record is x's: there is none.
-  pub none_left : n ≤ i → attested (drop i (records_of ws)) x ≡ false
-  none_left h = past_all x (records_of ws) i (omega arith)
-
-  -- From i on no record is x's: the one at i is another's.
-  pub others_left : i < n → (get_or ws (counters + i * record_width) 0 ≡ x → ⊥) → attested (drop i (records_of ws)) x ≡ false
-  others_left h t =
-      ap (λ s. s.0) (skips x (records_of ws) i (length (records_of ws)) (omega arith) (omega arith) none)
-      ∙ past_all x (records_of ws) (length (records_of ws)) (omega arith)
-    where
-      none : (j : ℕ) → i ≤ j → j < length (records_of ws) → (record_at (records_of ws) j).customer ≡ x → ⊥
-      none j l m e =
-          let k : (record_at (records_of ws) i).customer ≡ x = omega (
-            arith,
-            customers_above (records_of ws) (ordered ws b.ok) x i (omega (arith, b.begins, b.from)) (inside h),
-            customers_ascend (records_of ws) (ordered ws b.ok) i j l m,
-          ) in
-          t (customer_of h ∙ k)
-
-  -- With none left, the flags and the source make the hop.
-  pub arrives : (o : Origin) {y : ℕ} {has : Bool} {source : ℕ} → attested (drop i (records_of ws)) x ≡ false → Hearing ws x y has i → Naming ws x y has source i
-      → cond has (ProviderPlus o source) (cond (ltb position i) (NotProviderPlus o) NoAttestation) ≡ hop_of o (records_of ws) x y
+-- With none left, the source makes the hop.
+module _ (o : Origin) (rs : List Record) {x y i : ℕ} (e : attested (drop i rs) x ≡ false) where
+  pub arrives : {has : Bool} (found : Option ℕ) → Passing rs x has i → Naming rs x y found i → {hop : Hop}
+      → MatchOption found (hop ≡ cond has (NotProviderPlus o) NoAttestation) (λ source. hop ≡ ProviderPlus o source) → hop ≡ hop_of o rs x y
   unfolding is_in
-  arrives o {y} {has} {source} e s m =
-      let p : has ≡ is_in y (united (records_of ws) x)
-      = sym (or-false has) ∙ ap (λ l. has || is_in y l) (sym (none_united x (drop i (records_of ws)) e)) ∙ s.says in
-      let q : ltb position i ≡ attested (records_of ws) x = sym (or-false (ltb position i)) ∙ ap (λ t. ltb position i || t) (sym e) ∙ b.seen in
-      by_source has refl ∙ rw (p, q) (hop_is x o (records_of ws) y)
-    where
-      by_source : (a : Bool) → has ≡ a
-          → cond a (ProviderPlus o source) (cond (ltb position i) (NotProviderPlus o) NoAttestation)
-          ≡ cond a (ProviderPlus o (lowest_source (records_of ws) x y)) (cond (ltb position i) (NotProviderPlus o) NoAttestation)
-      by_source true h = ap (ProviderPlus o) (m.named h)
-      by_source false h = refl
-
--- ---- whether a register has any record of x
-
-module _ (ws : List ℕ) (x position n : ℕ) (e : register_ok ws ≡ true) (p : position ≡ position_of x 0 (records_of ws)) (q : n ≡ get_or ws 0 0) where
-  passing : Passing ws position x n position
-  passing = starts ws x position e p n q
-
-  -- x is attested if the records from its position on attest it.
-  from_there : attested (drop position (records_of ws)) x ≡ attested (records_of ws) x
-  from_there = ap (λ t. t.0) (from_position ws x position e p)
-
-  -- Past the last record it is not.
-  pub attests_none : n ≤ position → false ≡ attested (records_of ws) x
-  attests_none h = sym (none_left passing h) ∙ from_there
-
-  module _ (h : position < n) where
-    -- The slot there is within the words.
-    pub attests_slot : counters + position * record_width + record_width ≤ length ws
-    attests_slot = slot_of passing h
-
-    -- Its customer decides.
-    pub attests_by : eqb (get_or ws (counters + position * record_width) 0) x ≡ attested (records_of ws) x
-    attests_by = go (eqb (get_or ws (counters + position * record_width) 0) x) refl
-      where
-        go : (t : Bool) → eqb (get_or ws (counters + position * record_width) 0) x ≡ t → t ≡ attested (records_of ws) x
-        go true z = sym (attests x (records_of ws) position (inside passing h) (sym (customer_of passing h) ∙ eqb-true _ _ z)) ∙ from_there
-        go false z = sym (others_left passing h (eqb-false _ _ z)) ∙ from_there
+  arrives {has} (Some s) b m {hop} f =
+      let z : true ≡ is_in y (united rs x) = m.says in
+      f ∙ ap (ProviderPlus o) (m.named s refl) ∙ rw (← z) at (hop_is x o rs y)
+  arrives {has} None b m {hop} f =
+      let z : is_in y (united rs x) ≡ false = sym m.says ∙ ap (is_in y) (none_united x (drop i rs) e) in
+      let q : has ≡ attested rs x = sym (or-false has) ∙ ap (λ t. has || t) (sym e) ∙ b.seen in
+      f ∙ rw q (rw z at (hop_is x o rs y))

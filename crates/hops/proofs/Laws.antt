@@ -3,7 +3,6 @@ use Prim.Native.Nat.{ℕ, ◌≤◌, ◌<◌}
 use mathlib.Core.Path.{◌≡◌, refl, sym, ◌∙◌}
 use mathlib.Core.Bool.{Bool, true, false, cond, true≢false}
 use mathlib.Core.List.{List, [], ◌∷◌}
-use mathlib.Core.Option.{some}
 use native.Mathlib.Omega.{arith}
 use borrow.Author.Tests.{ltb-true, ltb-false}
 use lib.Dec.{ltb}
@@ -21,6 +20,7 @@ use Rattle.register.proofs.Uniting.{united_listed}
 use Rattle.hops.specs.Laws.{list_in, NamesLowest, HopLaws}
 use Rattle.hops.proofs.Sources.{list_lists, source_low}
 use Rattle.hops.proofs.Listing.{span_within, span_is}
+use Rattle.std.specs.Prelude.{Some}
 
 list_found : (rs : List Record) (source x : ℕ) → list_of rs source x ≡ list_in (find_record (x, source) rs)
 unfolding list_of find
@@ -28,7 +28,7 @@ list_found [] source x = refl
 list_found (r ∷ rs) source x = rw (same_flip same_pair before_pair ordered_pairs (x, source) (key_of r)) (go (same_pair (key_of r) (x, source)) (list_found rs source x))
   where
     go : (b : Bool) → list_of rs source x ≡ list_in (find_record (x, source) rs)
-        → cond b r.providers (list_of rs source x) ≡ list_in (cond b (some r) (find_record (x, source) rs))
+        → cond b r.providers (list_of rs source x) ≡ list_in (cond b (Some r) (find_record (x, source) rs))
     go true ih = refl
     go false ih = ih
 

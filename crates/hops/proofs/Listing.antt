@@ -1,17 +1,15 @@
 -- The part of a register's words that is the list of a source for a customer. Assumes nothing.
-use Prim.Native.Nat.{ℕ, ◌+◌, ◌-◌, ◌*◌, ◌≤◌, ◌<◌}
+use Prim.Native.Nat.{ℕ, ◌+◌, ◌-◌, ◌≤◌, ◌<◌}
 use mathlib.Core.Path.{◌≡◌, refl, sym, ◌∙◌}
 use mathlib.Core.Bool.{Bool, true, false}
 use mathlib.Core.List.{List}
 use native.Mathlib.Omega.{arith}
-use lib.ListN.{length, get_or, take}
-use Rattle.table.specs.Table.{counters}
+use lib.ListN.{length}
 use Rattle.rules.specs.Records.{list_of}
-use Rattle.register.specs.Register.{record_width, start_word, count_word, records_of, record_at, position_of, listed, register_ok}
+use Rattle.register.specs.Register.{records_of, record_at, position_of, register_ok}
 use Rattle.register.specs.Calls.{holds_record}
-use Rattle.register.proofs.Entries.{list_start, length_is, list_is, list_within}
+use Rattle.register.proofs.Entries.{list_is, list_within}
 use Rattle.register.proofs.Holding.{sound, ordered}
-use Rattle.register.proofs.Looking.{count_is, slot_in}
 use Rattle.hops.specs.Spans.{span, start_of, span_of}
 use Rattle.hops.specs.Laws.{part_of}
 use Rattle.hops.proofs.Sources.{list_none, list_here}
@@ -28,21 +26,15 @@ module _ (ws : List ℕ) (e : register_ok ws ≡ true) (s c : ℕ) where
     here = list_here (records_of ws) c s (ordered ws e) h
 
     module _ {position : ℕ} (p : position ≡ position_of c s (records_of ws)) where
-      -- Its slot is within the words.
-      pub pair_slot : counters + position * record_width + record_width ≤ length ws
-      pair_slot = rw p (slot_in ws e (position_of c s (records_of ws)) here.0)
+      -- It is one of the records.
+      pub pair_within : position < length (records_of ws)
+      pair_within = rw p here.0
 
-      module _ {n u v : ℕ} (en : n ≡ get_or ws 0 0) (eu : u ≡ get_or ws (counters + position * record_width + start_word) 0) (ev : v ≡ get_or ws (counters + position * record_width + count_word) 0) where
-        -- The part, by the words that were read.
-        pub span_read : span (counters + n * record_width + u) (counters + n * record_width + u + v) ≡ span_of (records_of ws) s c
-        unfolding span_of
-        span_read =
-            let a : n ≡ length (records_of ws) = en ∙ count_is ws e in
-            let b : u ≡ listed (take (position_of c s (records_of ws)) (records_of ws))
-            = eu ∙ rw p (list_start ws (sound ws e) (position_of c s (records_of ws)) here.0) in
-            let d : v ≡ length (record_at (records_of ws) (position_of c s (records_of ws))).providers
-            = ev ∙ rw p (length_is ws (sound ws e) (position_of c s (records_of ws)) here.0) in
-            rw (h, a, b, d)
+      -- The part, by where its list begins and how long it is.
+      pub span_read : {from n : ℕ} → from ≡ start_of (records_of ws) position → n ≡ length (record_at (records_of ws) position).providers
+          → span from (from + n) ≡ span_of (records_of ws) s c
+      unfolding span_of
+      span_read ef en = rw (h, ef, en, p)
 
   -- It lies within the words,
   pub span_within : ((span_of (records_of ws) s c).from ≤ (span_of (records_of ws) s c).to) × ((span_of (records_of ws) s c).to ≤ length ws)

@@ -1,6 +1,5 @@
 -- What the documents say of hops and lists over one register, as statements. proofs/Laws.antt has the proof.
-use Rattle.std.specs.Prelude.{ℕ, ◌-◌, ◌≤◌, ◌<◌, ◌≡◌, true, false, List, [], length, take, drop}
-use Rattle.std.proofs.Math.Option.{Option, none, some}
+use Rattle.std.specs.Prelude.{ℕ, ◌-◌, ◌≤◌, ◌<◌, ◌≡◌, true, false, List, [], length, take, drop, None, Option, Some}
 use Rattle.types.specs.declared.Origin.{Origin}
 use Rattle.types.specs.declared.Hop.TheVariants.{NoAttestation, ProviderPlus, NotProviderPlus}
 use Rattle.rules.specs.Records.{Record, is_in, attested, united, list_of, hop_of}
@@ -10,8 +9,8 @@ use Rattle.hops.specs.Spans.{span_of}
 
 -- The list of a record that was found; the empty list where none was.
 abbrev pub list_in : Option Record → List ℕ
-list_in none = []
-list_in (some r) = r.providers
+list_in None = []
+list_in (Some r) = r.providers
 
 -- The part of the words from one index to before another.
 abbrev pub part_of : ℕ → ℕ → List ℕ → List ℕ

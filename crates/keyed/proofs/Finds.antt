@@ -2,7 +2,6 @@
 use mathlib.Core.Path.{◌≡◌, refl, sym, ◌∙◌}
 use mathlib.Core.Bool.{Bool, true, false, cond, ◌||◌}
 use mathlib.Core.List.{List, [], ◌∷◌}
-use mathlib.Core.Option.{Option, none, some}
 use Prim.Native.Nat.{ℕ, zero, suc, ◌+◌, ◌<◌}
 use native.Mathlib.Omega.{arith}
 use lib.ListN.{length, get_or}
@@ -10,6 +9,7 @@ use Rattle.keyed.specs.Keyed.{Ordered, ascends_from, ascends, find, holds, rank,
 use Rattle.keyed.proofs.Orders.{both_intro, both_left, both_right, same_not_before, same_flip}
 use Rattle.keyed.proofs.Ranks.{from_ascends, from_holds}
 use Rattle.keyed.proofs.Puts.{from_not_held}
+use Rattle.std.specs.Prelude.{None, Option, Some}
 
 -- What all entries pass, the one at an index passes.
 pub every_at : {E : Type 0} (p : E → Bool) (es : List E) (d : E) → every p es ≡ true → (i : ℕ) → i < length es → p (get_or es i d) ≡ true
@@ -20,8 +20,8 @@ every_at p (e ∷ es) d a (suc i) h = every_at p es d (both_right (p e) (every p
 
 -- Something is found.
 abbrev pub is_some : {E : Type 0} → Option E → Bool
-is_some none = false
-is_some (some e) = true
+is_some None = false
+is_some (Some e) = true
 
 module _ {E K : Type 0} (key : E → K) (same before : K → K → Bool) where
   -- A key is held if and only if an entry is found under it.
@@ -31,17 +31,17 @@ module _ {E K : Type 0} (key : E → K) (same before : K → K → Bool) where
   find_holds k (e ∷ es) = go (same k (key e)) (find_holds k es)
     where
       go : (b : Bool) → holds key same before k es ≡ is_some (find key same before k es)
-          → (b || holds key same before k es) ≡ is_some (cond b (some e) (find key same before k es))
+          → (b || holds key same before k es) ≡ is_some (cond b (Some e) (find key same before k es))
       go true ih = refl
       go false ih = ih
 
   -- Under a key that is not held nothing is found.
-  pub find_none : (k : K) (es : List E) → holds key same before k es ≡ false → find key same before k es ≡ none
+  pub find_none : (k : K) (es : List E) → holds key same before k es ≡ false → find key same before k es ≡ None
   find_none k es h = go (find key same before k es) (sym (find_holds k es) ∙ h)
     where
-      go : (f : Option E) → is_some f ≡ false → f ≡ none
-      go none p = refl
-      go (some e) p = cc
+      go : (f : Option E) → is_some f ≡ false → f ≡ None
+      go None p = refl
+      go (Some e) p = cc
 
   -- An entry that is put in passes the test that all passed, if it does.
   pub every_put : (p : E → Bool) (e : E) (es : List E) → p e ≡ true → every p es ≡ true → every p (put key same before e es) ≡ true
@@ -70,12 +70,12 @@ module _ {E K : Type 0} (key : E → K) (same before : K → K → Bool) where
       go false ih = rw (both_left (p e) (every p es) h) ih
 
   -- What all entries pass, the one found under a key passes.
-  pub every_found : (p : E → Bool) (k : K) (es : List E) (e : E) → every p es ≡ true → find key same before k es ≡ some e → p e ≡ true
+  pub every_found : (p : E → Bool) (k : K) (es : List E) (e : E) → every p es ≡ true → find key same before k es ≡ Some e → p e ≡ true
   unfolding every find
   every_found p k [] e a f = absurd (let z : ◌≡◌ {A = ℕ} 0 1 = cc in omega arith)
   every_found p k (x ∷ es) e a f = go (same k (key x)) f (every_found p k es e (both_right (p x) _ a))
     where
-      go : (b : Bool) → cond b (some x) (find key same before k es) ≡ some e → (find key same before k es ≡ some e → p e ≡ true) → p e ≡ true
+      go : (b : Bool) → cond b (Some x) (find key same before k es) ≡ Some e → (find key same before k es ≡ Some e → p e ≡ true) → p e ≡ true
       go true f ih = let z : x ≡ e = cc in rw (← z) (both_left (p x) (every p es) a)
       go false f ih = ih f
 
@@ -93,82 +93,82 @@ module _ {E K : Type 0} (key : E → K) (same before : K → K → Bool) where
 
 module _ {E K : Type 0} (key : E → K) (same before : K → K → Bool) (o : Ordered same before) where
   -- The entry found under a key has it.
-  pub find_key : (k : K) (es : List E) (e : E) → find key same before k es ≡ some e → key e ≡ k
+  pub find_key : (k : K) (es : List E) (e : E) → find key same before k es ≡ Some e → key e ≡ k
   unfolding find
   find_key k [] e h = absurd (let z : ◌≡◌ {A = ℕ} 0 1 = cc in omega arith)
   find_key k (f ∷ fs) e h = go (same k (key f)) refl h (find_key k fs e)
     where
-      go : (b : Bool) → same k (key f) ≡ b → cond b (some f) (find key same before k fs) ≡ some e
-          → (find key same before k fs ≡ some e → key e ≡ k) → key e ≡ k
+      go : (b : Bool) → same k (key f) ≡ b → cond b (Some f) (find key same before k fs) ≡ Some e
+          → (find key same before k fs ≡ Some e → key e ≡ k) → key e ≡ k
       go true p g ih = let q : f ≡ e = cc in cc (o.same_is k (key f) p)
       go false p g ih = ih g
 
   -- Under a key that is held the entry at its rank is found.
   pub find_at : (k : K) (es : List E) (d : E) → ascends key same before es ≡ true → holds key same before k es ≡ true
-      → find key same before k es ≡ some (get_or es (rank key same before k es) d)
+      → find key same before k es ≡ Some (get_or es (rank key same before k es) d)
   unfolding ascends holds find rank
   find_at k [] d a h = absurd (let z : ◌≡◌ {A = ℕ} 0 1 = cc in omega arith)
   find_at k (e ∷ es) d a h = go (same k (key e)) refl h (find_at k es d (from_ascends key same before o (key e) es a))
     where
       go : (b : Bool) → same k (key e) ≡ b → (b || holds key same before k es) ≡ true
-          → (holds key same before k es ≡ true → find key same before k es ≡ some (get_or es (rank key same before k es) d))
-          → cond b (some e) (find key same before k es) ≡ some (get_or (e ∷ es) (rank key same before k (e ∷ es)) d)
+          → (holds key same before k es ≡ true → find key same before k es ≡ Some (get_or es (rank key same before k es) d))
+          → cond b (Some e) (find key same before k es) ≡ Some (get_or (e ∷ es) (rank key same before k (e ∷ es)) d)
       go true p g ih = rw (same_not_before same before o (key e) k (same_flip same before o (key e) k ∙ p))
       go false p g ih = rw (from_holds key same before o (key e) k es a g) (ih g)
 
   -- What is found after `put`.
   pub find_put : (k : K) (e : E) (es : List E)
-      → find key same before k (put key same before e es) ≡ cond (same k (key e)) (some e) (find key same before k es)
+      → find key same before k (put key same before e es) ≡ cond (same k (key e)) (Some e) (find key same before k es)
   unfolding find put
   find_put k e [] = refl
   find_put k e (f ∷ fs) = go (same (key e) (key f)) refl (before (key e) (key f)) (find_put k e fs)
     where
       swap : same (key e) (key f) ≡ false → (b c : Bool) → same k (key e) ≡ b → same k (key f) ≡ c
-          → cond c (some f) (cond b (some e) (find key same before k fs)) ≡ cond b (some e) (cond c (some f) (find key same before k fs))
+          → cond c (Some f) (cond b (Some e) (find key same before k fs)) ≡ cond b (Some e) (cond c (Some f) (find key same before k fs))
       swap n true true p q = let x : k ≡ key e = o.same_is k (key e) p in let y : k ≡ key f = o.same_is k (key f) q in cc
       swap n true false p q = refl
       swap n false true p q = refl
       swap n false false p q = refl
 
-      drop_other : (b : Bool) → cond b (some e) (find key same before k fs) ≡ cond b (some e) (cond b (some f) (find key same before k fs))
+      drop_other : (b : Bool) → cond b (Some e) (find key same before k fs) ≡ cond b (Some e) (cond b (Some f) (find key same before k fs))
       drop_other true = refl
       drop_other false = refl
 
       go : (b : Bool) → same (key e) (key f) ≡ b → (c : Bool)
-          → find key same before k (put key same before e fs) ≡ cond (same k (key e)) (some e) (find key same before k fs)
+          → find key same before k (put key same before e fs) ≡ cond (same k (key e)) (Some e) (find key same before k fs)
           → find key same before k (cond b (e ∷ fs) (cond c (e ∷ (f ∷ fs)) (f ∷ put key same before e fs)))
-          ≡ cond (same k (key e)) (some e) (cond (same k (key f)) (some f) (find key same before k fs))
+          ≡ cond (same k (key e)) (Some e) (cond (same k (key f)) (Some f) (find key same before k fs))
       go true p c ih = rw (← o.same_is (key e) (key f) p) (drop_other (same k (key e)))
       go false p true ih = refl
       go false p false ih = rw ih (swap p (same k (key e)) (same k (key f)) refl refl)
 
   -- What is found after `without`.
   pub find_without : (k : K) (test : K → Bool) (es : List E)
-      → find key same before k (without key same before test es) ≡ cond (test k) none (find key same before k es)
+      → find key same before k (without key same before test es) ≡ cond (test k) None (find key same before k es)
   unfolding find without
   find_without k test [] = go (test k)
     where
-      go : (b : Bool) → ◌≡◌ {A = Option E} none (cond b none none)
+      go : (b : Bool) → ◌≡◌ {A = Option E} None (cond b None None)
       go true = refl
       go false = refl
   find_without k test (e ∷ es) = go (test (key e)) refl (same k (key e)) refl (find_without k test es)
     where
       go : (b : Bool) → test (key e) ≡ b → (c : Bool) → same k (key e) ≡ c
-          → find key same before k (without key same before test es) ≡ cond (test k) none (find key same before k es)
+          → find key same before k (without key same before test es) ≡ cond (test k) None (find key same before k es)
           → find key same before k (cond b (without key same before test es) (e ∷ without key same before test es))
-          ≡ cond (test k) none (cond c (some e) (find key same before k es))
+          ≡ cond (test k) None (cond c (Some e) (find key same before k es))
       go true p true q ih = ih ∙ rw (o.same_is k (key e) q, p)
       go true p false q ih = ih
       go false p true q ih = rw (o.same_is k (key e) q, o.same_self (key e), p)
       go false p false q ih = rw q ih
 
   -- Under the key of the first entry it is found.
-  pub found_first : (e : E) (es : List E) → find key same before (key e) (e ∷ es) ≡ some e
+  pub found_first : (e : E) (es : List E) → find key same before (key e) (e ∷ es) ≡ Some e
   unfolding find
   found_first e es = rw (o.same_self (key e))
 
   -- Under a key from which a list ascends nothing is found.
-  pub none_from : (k : K) (es : List E) → ascends_from key same before k es ≡ true → find key same before k es ≡ none
+  pub none_from : (k : K) (es : List E) → ascends_from key same before k es ≡ true → find key same before k es ≡ None
   none_from k es a = find_none key same before k es (from_not_held key same before o k es a)
 
   -- Two lists that ascend, in which the same is found under every key, are equal.

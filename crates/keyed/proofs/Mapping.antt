@@ -2,10 +2,9 @@
 use mathlib.Core.Path.{◌≡◌, refl}
 use mathlib.Core.Bool.{Bool, true, false, cond}
 use mathlib.Core.List.{List, [], ◌∷◌, map}
-use mathlib.Core.Option
-use mathlib.Core.Option.{some}
 use Rattle.keyed.specs.Keyed.{ascends_from, ascends, find, holds, put, without, every}
 use Rattle.keyed.proofs.Orders.{both_left, both_right, both_intro}
+use Rattle.std.specs.Prelude.{Some, option_map}
 
 -- Entries that all pass a test are changed into ones that pass another, if each is.
 pub every_map : {E F : Type 0} (p : E → Bool) (q : F → Bool) (f : E → F) → ((e : E) → p e ≡ true → q (f e) ≡ true)
@@ -22,12 +21,12 @@ module _ {E F K : Type 0} (key : E → K) (key' : F → K) (same before : K → 
   holds_map k (e ∷ es) = rw (kept e, holds_map k es)
 
   -- What is found is changed so.
-  pub find_map : (k : K) (es : List E) → find key' same before k (map f es) ≡ Option.map f (find key same before k es)
+  pub find_map : (k : K) (es : List E) → find key' same before k (map f es) ≡ option_map f (find key same before k es)
   unfolding find
   find_map k [] = refl
   find_map k (e ∷ es) = rw (kept e, find_map k es) (go (same k (key e)))
     where
-      go : (b : Bool) → cond b (some (f e)) (Option.map f (find key same before k es)) ≡ Option.map f (cond b (some e) (find key same before k es))
+      go : (b : Bool) → cond b (Some (f e)) (option_map f (find key same before k es)) ≡ option_map f (cond b (Some e) (find key same before k es))
       go true = refl
       go false = refl
 

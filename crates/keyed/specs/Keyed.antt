@@ -1,6 +1,5 @@
 -- Lists of entries that ascend by a key, no key twice: what a register holds and what a ledger holds.
-use Rattle.std.specs.Prelude.{◌≡◌, Bool, true, false, cond, ◌&&◌, ◌||◌, List, [], ◌∷◌, ℕ, suc, eqb, ltb}
-use Rattle.std.proofs.Math.Option.{Option, none, some}
+use Rattle.std.specs.Prelude.{◌≡◌, Bool, true, false, cond, ◌&&◌, ◌||◌, List, [], ◌∷◌, ℕ, suc, eqb, ltb, None, Option, Some}
 
 -- An order of keys, by two tests.
 pub record Ordered {K : Type 0} (same before : K → K → Bool) : Type 0 where
@@ -34,8 +33,8 @@ module _ {E K : Type 0} (key : E → K) (same before : K → K → Bool) where
 
   -- The entry under a key.
   unfoldable pub find : K → List E → Option E
-  find k [] = none
-  find k (e ∷ es) = cond (same k (key e)) (some e) (find k es)
+  find k [] = None
+  find k (e ∷ es) = cond (same k (key e)) (Some e) (find k es)
 
   unfoldable pub holds : K → List E → Bool
   holds k [] = false

@@ -3,7 +3,6 @@ use Prim.Native.Nat.{ℕ, suc, ◌≤◌}
 use mathlib.Core.Path.{◌≡◌, ◌∙◌}
 use mathlib.Core.Bool.{Bool, true, false, cond}
 use mathlib.Core.List.{List, [], ◌∷◌, map}
-use mathlib.Core.Option.{none, some}
 use native.Mathlib.Omega.{arith}
 use borrow.Author.Tests.{ne_eqb, le-leb}
 use lib.Dec.{ltb, eqb}
@@ -16,6 +15,7 @@ use Rattle.keyed.proofs.Finds.{every_put, every_without, find_put, find_without,
 use Rattle.ledger.specs.Routes.{most_routes, most_path_words, Route, entry_of, key_of, path_words, route_ok, room_for, routes_ok}
 use Rattle.ledger.specs.Calls.{find_route, holds_route, put_route, erase_route}
 use Rattle.ledger.proofs.Holding.{room_routes, room_paths, has_room, each_ok, in-order}
+use Rattle.std.specs.Prelude.{None, Some}
 
 -- ---- the rules are kept
 
@@ -62,16 +62,16 @@ module _ (rs : List Route) (e : routes_ok rs ≡ true) where
 -- ---- what is found after a call
 
 -- After a store: the route under its own number, and under every other what was there.
-pub stored_finds : (k : ℕ) (r : Route) (rs : List Route) → find_route k (put_route r rs) ≡ cond (eqb k r.number) (some r) (find_route k rs)
+pub stored_finds : (k : ℕ) (r : Route) (rs : List Route) → find_route k (put_route r rs) ≡ cond (eqb k r.number) (Some r) (find_route k rs)
 stored_finds k r rs = find_put key_of eqb ltb ordered_ℕ k r rs
 
 -- After a drop: nothing under its own number, and under every other what was there.
-pub dropped_finds : (k number : ℕ) (rs : List Route) → find_route k (erase_route number rs) ≡ cond (eqb number k) none (find_route k rs)
+pub dropped_finds : (k number : ℕ) (rs : List Route) → find_route k (erase_route number rs) ≡ cond (eqb number k) None (find_route k rs)
 dropped_finds k number rs = find_without key_of eqb ltb ordered_ℕ k (eqb number) rs
 
 module _ (number : ℕ) (rs : List Route) where
   -- A drop takes out its own route.
-  pub drops_own : find_route number (erase_route number rs) ≡ none
+  pub drops_own : find_route number (erase_route number rs) ≡ None
   drops_own = dropped_finds number number rs ∙ rw (ordered_ℕ.same_self number)
 
   -- It takes out no other.

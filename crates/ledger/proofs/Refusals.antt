@@ -4,54 +4,44 @@ use mathlib.Core.Path.{◌≡◌, refl}
 use mathlib.Core.Bool.{true, not}
 use mathlib.Core.Logic.{◌↔◌}
 use mathlib.Core.List.{List, [], ◌∷◌}
-use mathlib.Core.Option.{Option, none, some}
 use native.Mathlib.Omega.{arith}
 use borrow.Author.Tests.{not-false}
 use lib.Dec.{eqb}
 use lib.ListN.{length}
 use Rattle.types.specs.declared.Refusal.{Refusal}
 use Rattle.types.specs.declared.Refusal.TheVariants.{TableLength, RoutesMalformed, RouteTaken, NoRoute, RoutesFull}
-use Rattle.types.specs.declared.Removal.TheVariants as removal
-use Rattle.types.specs.Rows.{first_given, unless_refused, FirstAt, Numbered}
-use Rattle.types.proofs.Refusing.{row_passed, accepted_none, answers_first, refusal_leaves, numbered, removal_apart, removal_same}
-use Rattle.ledger.specs.declared.Kept.TheVariants as kept
+use Rattle.types.specs.Rows.{first_given, effect, unless_refused, FirstAt, Numbered}
+use Rattle.types.proofs.Refusing.{row_passed, accepted_none, answers_first, refusal_leaves, numbered}
 use Rattle.ledger.specs.Routes.{ledger_words, Route, routes_of, ledger_of, route_ok, room_for, routes_ok, ledger_ok}
 use Rattle.ledger.specs.Calls.{holds_route, put_route, erase_route, store_rows, store_effect, drop_rows, drop_effect}
 use Rattle.ledger.proofs.Entries.{words_long}
 use Rattle.ledger.proofs.Holding.{room_routes, room_paths, has_room, words_ok, routes-ok}
 use Rattle.ledger.proofs.Changes.{put_ok, without_ok}
-
--- A refusal to store is told from an acceptance.
-kept_apart : (r : Refusal) → kept.Done ≡ kept.Refused r → ⊥
-kept_apart r e = let z : ◌≡◌ {A = ℕ} 0 1 = cc in omega arith
-
--- And from every other refusal.
-kept_same : (r s : Refusal) → kept.Refused r ≡ kept.Refused s → r ≡ s
-kept_same r s e = cc
+use Rattle.std.specs.Prelude.{Err, None, Ok, Option, Some}
 
 -- ---- exactly when a call is refused, and what a refusal leaves
 
 module _ (ws : List ℕ) (route : Route) (r : Refusal) where
   -- A store answers a refusal exactly when that is the first of its rows that is given.
-  pub store_refuses : ((store_effect ws route).answer ≡ kept.Refused r) ↔ ((i : ℕ) × FirstAt (store_rows ws route) i r)
+  pub store_refuses : ((store_effect ws route).answer ≡ Err r) ↔ ((i : ℕ) × FirstAt (store_rows ws route) i r)
   unfolding store_effect
-  store_refuses = answers_first (store_rows ws route) kept.Refused ws _ kept_same kept_apart r
+  store_refuses = answers_first (store_rows ws route) ws _ _ r
 
   -- Refused, it leaves the words.
-  pub store_leaves : (store_effect ws route).answer ≡ kept.Refused r → (store_effect ws route).words ≡ ws
+  pub store_leaves : (store_effect ws route).answer ≡ Err r → (store_effect ws route).words ≡ ws
   unfolding store_effect
-  store_leaves = refusal_leaves (store_rows ws route) kept.Refused ws _ kept_apart r
+  store_leaves = refusal_leaves (store_rows ws route) ws _ _ r
 
 module _ (ws : List ℕ) (number : ℕ) (r : Refusal) where
   -- A drop answers a refusal exactly when that is the first of its rows that is given.
-  pub drop_refuses : ((drop_effect ws number).answer ≡ removal.Refused r) ↔ ((i : ℕ) × FirstAt (drop_rows ws number) i r)
+  pub drop_refuses : ((drop_effect ws number).answer ≡ Err r) ↔ ((i : ℕ) × FirstAt (drop_rows ws number) i r)
   unfolding drop_effect
-  drop_refuses = answers_first (drop_rows ws number) removal.Refused ws _ removal_same removal_apart r
+  drop_refuses = answers_first (drop_rows ws number) ws _ _ r
 
   -- Refused, it leaves the words.
-  pub drop_leaves : (drop_effect ws number).answer ≡ removal.Refused r → (drop_effect ws number).words ≡ ws
+  pub drop_leaves : (drop_effect ws number).answer ≡ Err r → (drop_effect ws number).words ≡ ws
   unfolding drop_effect
-  drop_leaves = refusal_leaves (drop_rows ws number) removal.Refused ws _ removal_apart r
+  drop_leaves = refusal_leaves (drop_rows ws number) ws _ _ r
 
 -- ---- the rows in the order of their numbers
 
@@ -89,9 +79,9 @@ module _ (ws : List ℕ) (w : Ledger ws) where
   store_preserves r good = go (first_given (store_rows ws r)) refl
     where
       go : (o : Option Refusal) → first_given (store_rows ws r) ≡ o
-          → Ledger (unless_refused o kept.Refused ws (record { answer = kept.Done; words = ledger_of (put_route r (routes_of ws)) })).words
-      go (some _) e = w
-      go none e =
+          → Ledger (unless_refused o ws (effect (Ok (tt {0})) (ledger_of (put_route r (routes_of ws))))).words
+      go (Some _) e = w
+      go None e =
           let room = not-false _ (row_passed _ _ (accepted_none (store_rows ws r) e 1)) in
           routes_ledger (put_route r (routes_of ws)) (put_ok (routes_of ws) (routes-ok ws w.ok) r good room)
 
@@ -101,6 +91,6 @@ module _ (ws : List ℕ) (w : Ledger ws) where
   drop_preserves number = go (first_given (drop_rows ws number))
     where
       go : (o : Option Refusal)
-          → Ledger (unless_refused o removal.Refused ws (record { answer = removal.Done; words = ledger_of (erase_route number (routes_of ws)) })).words
-      go (some _) = w
-      go none = routes_ledger (erase_route number (routes_of ws)) (without_ok (routes_of ws) (routes-ok ws w.ok) (eqb number))
+          → Ledger (unless_refused o ws (effect (Ok (tt {0})) (ledger_of (erase_route number (routes_of ws))))).words
+      go (Some _) = w
+      go None = routes_ledger (erase_route number (routes_of ws)) (without_ok (routes_of ws) (routes-ok ws w.ok) (eqb number))

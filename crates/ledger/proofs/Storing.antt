@@ -8,20 +8,19 @@ use borrow.Author.Tests.{eq-eqb, ne_eqb, le-leb, lt-leb}
 use lib.Dec.{leb}
 use lib.ListN.{length, get_or}
 use Rattle.types.specs.declared.Refusal.TheVariants.{TableLength, RoutesMalformed, RouteTaken, NoRoute, RoutesFull}
-use Rattle.types.specs.declared.Removal.TheVariants as removal
 use Rattle.types.specs.Rows.{first_given, effect}
 use Rattle.table.specs.Table.{Entry, bodies, encode, decode, insert_at, remove_at}
 use Rattle.table.specs.Helpers.{Insertable, Removable}
 use Rattle.table.proofs.Typed.{inserted_entries, removed_entries}
 use Rattle.keyed.proofs.Orders.{both_intro}
 use Rattle.ledger.specs.Routes.{route_head, route_tail}
-use Rattle.ledger.specs.declared.Kept.TheVariants as kept
 use Rattle.ledger.specs.Routes.{ledger_words, most_routes, most_path_words, Route, entry_of, routes_of, ledger_of, position_of, path_words, room_for, ledger_ok}
 use Rattle.ledger.specs.Calls.{holds_route, put_route, erase_route, store_effect, drop_effect}
 use Rattle.ledger.proofs.Entries.{decoded, length_routes, route_count, path_count}
 use Rattle.ledger.proofs.Holding.{sound, routes-ok, ordered, has_room, room_paths}
 use Rattle.ledger.proofs.Looking.{position_within}
 use Rattle.ledger.proofs.Placing.{put_at, routes_new, paths_new, position_under, erase_position}
+use Rattle.std.specs.Prelude.{Err, Ok}
 
 -- ---- a route goes in
 
@@ -33,7 +32,7 @@ entry_is r role ground_code verdict a b =
 
 -- A number that is taken.
 pub store_taken : (ws : List ℕ) (r : Route) → holds_route r.number (routes_of ws) ≡ true
-    → store_effect ws r ≡ record { answer = kept.Refused RouteTaken; words = ws }
+    → store_effect ws r ≡ record { answer = Err RouteTaken; words = ws }
 unfolding store_effect first_given
 store_taken ws r e = rw e
 
@@ -43,12 +42,12 @@ paths_short ws ok e = omega (arith, path_count ws (sound ws ok), room_paths (rou
 
 module _ (ws : List ℕ) (r : Route) (ok : ledger_ok ws ≡ true) (free : holds_route r.number (routes_of ws) ≡ false) where
   -- No room.
-  store_full : room_for (put_route r (routes_of ws)) ≡ false → store_effect ws r ≡ record { answer = kept.Refused RoutesFull; words = ws }
+  store_full : room_for (put_route r (routes_of ws)) ≡ false → store_effect ws r ≡ record { answer = Err RoutesFull; words = ws }
   unfolding store_effect first_given
   store_full e = rw (free, e)
 
   -- As many routes as may be are kept.
-  pub full_routes : {n : ℕ} → n ≡ get_or ws 0 0 → most_routes ≤ n → store_effect ws r ≡ record { answer = kept.Refused RoutesFull; words = ws }
+  pub full_routes : {n : ℕ} → n ≡ get_or ws 0 0 → most_routes ≤ n → store_effect ws r ≡ record { answer = Err RoutesFull; words = ws }
   unfolding room_for
   full_routes e h =
       let few : most_routes < length (put_route r (routes_of ws)) = omega (arith, route_count ws (sound ws ok), routes_new r (routes_of ws) free) in
@@ -56,7 +55,7 @@ module _ (ws : List ℕ) (r : Route) (ok : ledger_ok ws ≡ true) (free : holds_
 
   -- The path is longer than what is left.
   pub full_paths : {n : ℕ} → n ≡ get_or ws 1 0 → most_path_words - n < length r.path
-      → store_effect ws r ≡ record { answer = kept.Refused RoutesFull; words = ws }
+      → store_effect ws r ≡ record { answer = Err RoutesFull; words = ws }
   unfolding room_for
   full_paths e h =
       let many : most_path_words < path_words (put_route r (routes_of ws)) = omega (arith, path_count ws (sound ws ok), paths_new r (routes_of ws) free) in
@@ -104,9 +103,9 @@ module _ {ws : List ℕ} {r : Route} {position : ℕ} (s : Storable ws r positio
 
   -- With its entry in, the words are those of the definition.
   pub store_done : {ws' : List ℕ} → ws' ≡ encode (length ws) (insert_at position e (decode route_head route_tail ws))
-      → effect kept.Done ws' ≡ store_effect ws r
+      → effect (Ok tt) ws' ≡ store_effect ws r
   unfolding store_effect first_given room_for ledger_of
-  store_done {ws'} g = rw (s.free, fits) (ap (effect kept.Done) (g ∙ words))
+  store_done {ws'} g = rw (s.free, fits) (ap (effect (Ok tt)) (g ∙ words))
     where
       fits : room_for (put_route r (routes_of ws)) ≡ true
       fits =
@@ -123,19 +122,19 @@ module _ {ws : List ℕ} {r : Route} {position : ℕ} (s : Storable ws r positio
 
 module _ (ws : List ℕ) (number : ℕ) where
   -- Words of another length.
-  pub drop-length : (length ws ≡ ledger_words → ⊥) → drop_effect ws number ≡ record { answer = removal.Refused TableLength; words = ws }
+  pub drop-length : (length ws ≡ ledger_words → ⊥) → drop_effect ws number ≡ record { answer = Err TableLength; words = ws }
   unfolding drop_effect first_given
   drop-length a = rw (ne_eqb (length ws) ledger_words a)
 
   module _ (a : length ws ≡ ledger_words) where
     -- No ledger.
-    pub drop_malformed : ledger_ok ws ≡ false → drop_effect ws number ≡ record { answer = removal.Refused RoutesMalformed; words = ws }
+    pub drop_malformed : ledger_ok ws ≡ false → drop_effect ws number ≡ record { answer = Err RoutesMalformed; words = ws }
     unfolding drop_effect first_given
     drop_malformed b = rw (eq-eqb (length ws) ledger_words a, b)
 
     module _ (b : ledger_ok ws ≡ true) where
       -- No such route.
-      pub drop_none : holds_route number (routes_of ws) ≡ false → drop_effect ws number ≡ record { answer = removal.Refused NoRoute; words = ws }
+      pub drop_none : holds_route number (routes_of ws) ≡ false → drop_effect ws number ≡ record { answer = Err NoRoute; words = ws }
       unfolding drop_effect first_given
       drop_none e = rw (eq-eqb (length ws) ledger_words a, b, e)
 
@@ -148,9 +147,9 @@ module _ (ws : List ℕ) (number : ℕ) where
 
         -- With its entry out, the words are those of the definition.
         pub drop_done : {ws' : List ℕ} → ws' ≡ encode (length ws) (remove_at position (decode route_head route_tail ws))
-            → effect removal.Done ws' ≡ drop_effect ws number
+            → effect (Ok tt) ws' ≡ drop_effect ws number
         unfolding drop_effect first_given ledger_of
-        drop_done {ws'} g = rw (eq-eqb (length ws) ledger_words a, b, e) (ap (effect removal.Done) (g ∙ words))
+        drop_done {ws'} g = rw (eq-eqb (length ws) ledger_words a, b, e) (ap (effect (Ok tt)) (g ∙ words))
           where
             words : encode (length ws) (remove_at position (decode route_head route_tail ws)) ≡ encode ledger_words (map entry_of (erase_route number (routes_of ws)))
             words =

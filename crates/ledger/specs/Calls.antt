@@ -1,16 +1,11 @@
 -- A route stored in the ledger, Drop, and a route judged anew ("The calls").
-use Rattle.std.specs.Prelude.{ℕ, suc, Bool, not, cond, ◌&&◌, List, [], ◌∷◌, ltb, eqb, set}
-use Rattle.std.proofs.Math.Option.{Option}
+use Rattle.std.specs.Prelude.{ℕ, suc, Bool, not, cond, ◌&&◌, List, [], ◌∷◌, ltb, eqb, set, Ok, Option, Result}
 use Rattle.types.specs.declared.Refusal.{Refusal}
 use Rattle.types.specs.declared.Refusal.TheVariants.{RoutesMalformed, RouteTaken, NoRoute, RoutesFull}
 use Rattle.types.specs.declared.Verdict.{Verdict}
-use Rattle.types.specs.declared.Removal.{Removal}
-use Rattle.types.specs.declared.Removal.TheVariants as removal
 use Rattle.types.specs.Numbers.{verdict_number, verdict_ground, place_a, place_b}
-use Rattle.types.specs.Rows.{row_if, length_row, first_given, Effect, unless_refused}
+use Rattle.types.specs.Rows.{row_if, length_row, first_given, Effect, effect, unless_refused}
 use Rattle.keyed.specs.Keyed.{holds, find, put, without}
-use Rattle.ledger.specs.declared.Kept.{Kept}
-use Rattle.ledger.specs.declared.Kept.TheVariants as kept
 use Rattle.ledger.specs.Routes.{ledger_words, Route, routes_of, route_at, ledger_of, key_of, room_for, ledger_ok}
 
 -- ---- routes: looked for, put in, taken out
@@ -49,10 +44,10 @@ store_rows ws r =
     ∷ row_if (not (room_for (put_route r (routes_of ws)))) RoutesFull
     ∷ []
 
-unfoldable pub store_effect : List ℕ → Route → Effect Kept
+unfoldable pub store_effect : List ℕ → Route → Effect (Result Unit Refusal)
 store_effect ws r =
-    unless_refused (first_given (store_rows ws r)) kept.Refused ws
-    (record { answer = kept.Done; words = ledger_of (put_route r (routes_of ws)) })
+    unless_refused (first_given (store_rows ws r)) ws
+    (effect (Ok tt) (ledger_of (put_route r (routes_of ws))))
 
 -- ---- Drop: rows 1, 3, 19
 
@@ -66,10 +61,10 @@ drop_rows ws number =
     ∷ row_if (not (holds_route number (routes_of ws))) NoRoute
     ∷ []
 
-unfoldable pub drop_effect : List ℕ → ℕ → Effect Removal
+unfoldable pub drop_effect : List ℕ → ℕ → Effect (Result Unit Refusal)
 drop_effect ws number =
-    unless_refused (first_given (drop_rows ws number)) removal.Refused ws
-    (record { answer = removal.Done; words = ledger_of (erase_route number (routes_of ws)) })
+    unless_refused (first_given (drop_rows ws number)) ws
+    (effect (Ok tt) (ledger_of (erase_route number (routes_of ws))))
 
 -- ---- a verdict in a route
 

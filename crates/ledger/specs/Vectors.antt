@@ -1,7 +1,6 @@
 -- Paths in a ledger, by computation: two equal numbers side by side in one path, and in two; the most numbers and places.
-use Rattle.std.specs.Prelude.{ℕ, zero, suc, ◌-◌, ◌≡◌, refl, true, false, List, [], ◌∷◌, ◌++◌, length, replicate}
+use Rattle.std.specs.Prelude.{ℕ, zero, suc, ◌-◌, ◌≡◌, refl, true, false, List, [], ◌∷◌, ◌++◌, length, replicate, Err}
 use Rattle.types.specs.declared.Refusal.TheVariants.{RoutesMalformed}
-use Rattle.types.specs.declared.Removal.TheVariants.{Refused}
 use Rattle.types.specs.Rows.{first_given, effect}
 use Rattle.table.specs.Table.{bodies, decode_slots, decode, slots_ok, all_zero, well_formed}
 use Rattle.keyed.specs.Keyed.{ascends_from, ascends, every}
@@ -17,7 +16,7 @@ abbrev pub one : ℕ → ℕ → ℕ → List ℕ
 one x y z = filled (1 ∷ 3 ∷ 7 ∷ 1 ∷ 20 ∷ 0 ∷ 1 ∷ 3 ∷ 0 ∷ 0 ∷ 3 ∷ x ∷ y ∷ z ∷ [])
 
 -- What Keep stored of vector O before a run went on over a segment's end: 20 20 10. Drop refuses it by row 3, and leaves it.
-pub side_by_side : drop_effect (one 20 20 10) 7 ≡ effect (Refused RoutesMalformed) (one 20 20 10)
+pub side_by_side : drop_effect (one 20 20 10) 7 ≡ effect (Err RoutesMalformed) (one 20 20 10)
 unfolding drop_effect first_given bodies decode_slots decode slots_ok all_zero well_formed ascends_from ascends every routes_of path_words no_zero no_repeat no_runs path_ok route_ok room_for routes_ok ledger_ok
 side_by_side = refl
 

@@ -1,8 +1,6 @@
 // Kept routes in a table: limits, layout, and what storing one comes to. Crate `routes` has the code that reads it.
 #![tactic(auto)]
 
-use types::Refusal;
-
 pub const MOST_ROUTES: usize = 512;
 
 pub const MOST_PATH_WORDS: usize = 8192;
@@ -12,14 +10,13 @@ pub const HEAD: usize = 7;
 
 pub const TAIL: usize = 0;
 
+// The head and tail words, as crate `table` takes them.
+pub const LAYOUT: table::Layout = table::Layout {
+    head: HEAD,
+    tail: TAIL,
+};
+
 pub const WIDTH: usize = HEAD + table::SPAN + TAIL;
 
 // The words of a ledger.
 pub const WORDS: usize = table::COUNTERS + MOST_ROUTES * WIDTH + MOST_PATH_WORDS;
-
-// What storing a route comes to.
-#[derive(Clone, Copy)]
-pub enum Kept {
-    Done,
-    Refused(Refusal),
-}

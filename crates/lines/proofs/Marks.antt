@@ -1,45 +1,22 @@
--- Bytes up to a mark, and the parts that marks separate: each turn of the loops, and each way out. Assumes nothing.
-use Prim.Native.Nat.{ℕ, suc, ◌+◌, ◌≤◌, ◌<◌}
+-- Bytes up to a mark, and the parts that marks separate. Assumes nothing.
+use Prim.Native.Nat.{ℕ, suc, ◌+◌, ◌-◌, ◌≤◌}
 use mathlib.Core.Path.{◌≡◌, refl, sym, ap, ◌∙◌}
-use mathlib.Core.Bool.{Bool, true, false, cond}
+use mathlib.Core.Bool.{Bool, true, false, cond, not}
 use mathlib.Core.List.{List, [], ◌∷◌}
 use native.Mathlib.Omega.{arith}
-use native.Mathlib.Numerals.{add-one}
-use borrow.Author.Tests.{lt-ltb, eq-eqb, ne_eqb}
+use borrow.Author.Tests.{lt-ltb, ltb-true, ltb-false}
 use lib.Dec.{eqb, ltb, leb-suc-suc}
-use lib.ListN.{length, get_or, take, drop}
-use lib.Seq.{drop-cons, drop-length}
+use lib.ListN.{length, take, drop, length-drop, length-take}
+use lib.Seq.{take_all}
+use Rattle.std.proofs.Common.{Option, Some, None, MatchOption}
+use Rattle.std.specs.List.{slice_split, onto_first as library_onto_first, position, position_or_len, count_by}
+use Rattle.std.proofs.lemmas.List.Splits.{length-slice_split}
 use Rattle.lines.specs.Words.{before, split, onto_first, words_of}
 
 module _ (mark : ℕ) where
-  before_none : before mark [] ≡ []
-  unfolding before
-  before_none = refl
-
-  split_none : split mark [] ≡ [] ∷ []
-  unfolding split
-  split_none = refl
-
   -- What comes after a first part: nothing where no mark ends it.
   abbrev after : List ℕ → List ℕ → List (List ℕ)
   after part bs = cond (ltb (length part) (length bs)) (split mark (drop (suc (length part)) bs)) []
-
-  module _ {b : ℕ} (bs : List ℕ) where
-    before_mark : b ≡ mark → before mark (b ∷ bs) ≡ []
-    unfolding before
-    before_mark e = rw (eq-eqb b mark e) refl
-
-    before_other : (b ≡ mark → ⊥) → before mark (b ∷ bs) ≡ b ∷ before mark bs
-    unfolding before
-    before_other n = rw (ne_eqb b mark n) refl
-
-    split_mark : b ≡ mark → split mark (b ∷ bs) ≡ [] ∷ split mark bs
-    unfolding split
-    split_mark e = rw (eq-eqb b mark e) refl
-
-    split_other : (b ≡ mark → ⊥) → split mark (b ∷ bs) ≡ onto_first b (split mark bs)
-    unfolding split
-    split_other n = rw (ne_eqb b mark n) refl
 
   pub split_first : (bs : List ℕ) → split mark bs ≡ before mark bs ∷ after (before mark bs) bs
   unfolding before split
@@ -53,10 +30,6 @@ module _ (mark : ℕ) where
       go true e = rw (lt-ltb 0 (suc (length bs)) (omega arith)) refl
       go false e = rw (leb-suc-suc (suc (length (before mark bs))) (length bs)) (ap (onto_first b) e)
 
-  as_many : {b : ℕ} (bs : List ℕ) → (b ≡ mark → ⊥) → length (split mark (b ∷ bs)) ≡ length (split mark bs)
-  as_many {b} bs n =
-      ap length (split_other bs n) ∙ ap (λ ps. length (onto_first b ps)) (split_first bs) ∙ sym (ap length (split_first bs))
-
   pub before_taken : (bs : List ℕ) → take (length (before mark bs)) bs ≡ before mark bs
   unfolding before
   before_taken [] = refl
@@ -68,70 +41,61 @@ module _ (mark : ℕ) where
       go true e = refl
       go false e = ap (λ r. b ∷ r) e
 
--- The bytes from `from` to i are no marks.
-pub record Finding (bytes : List ℕ) (from mark i : ℕ) : Type 0 where
-  pub passed : i ≤ length bytes
-  pub rest : i + length (before mark (drop i bytes)) ≡ from + length (before mark (drop from bytes))
+  -- ---- the library's words for them
+
+  before_is : (bs : List ℕ) → position_or_len (λ b. eqb b mark) bs ≡ length (before mark bs)
+  unfolding before
+  before_is [] = refl
+  before_is (b ∷ bs) = go (eqb b mark) (before_is bs)
+    where
+      go :
+          (t : Bool) → position_or_len (λ b. eqb b mark) bs ≡ length (before mark bs)
+          → cond (not t) (1 + position_or_len (λ b. eqb b mark) bs) 0 ≡ length (cond t [] (b ∷ before mark bs))
+      go true e = refl
+      go false e = omega (arith, e)
+
+  onto_is : (b : ℕ) (ps : List (List ℕ)) → library_onto_first b ps ≡ onto_first b ps
+  onto_is b [] = refl
+  onto_is b (p ∷ ps) = refl
+
+  pub split_is : (bs : List ℕ) → slice_split (λ b. eqb b mark) bs ≡ split mark bs
+  unfolding split
+  split_is [] = refl
+  split_is (b ∷ bs) = go (eqb b mark) (split_is bs)
+    where
+      go :
+          (t : Bool) → slice_split (λ b. eqb b mark) bs ≡ split mark bs
+          → cond t ([] ∷ slice_split (λ b. eqb b mark) bs) (library_onto_first b (slice_split (λ b. eqb b mark) bs))
+          ≡ cond t ([] ∷ split mark bs) (onto_first b (split mark bs))
+      go true e = ap (λ ps. [] ∷ ps) e
+      go false e = ap (library_onto_first b) e ∙ onto_is b (split mark bs)
 
 -- What finding promises.
 abbrev pub Found : List ℕ → ℕ → ℕ → ℕ → Type 0
 Found bytes from mark r = (r ≡ from + length (before mark (drop from bytes))) × (r ≤ length bytes)
 
-pub looks : (bytes : List ℕ) (from mark : ℕ) → from ≤ length bytes → Finding bytes from mark from
-looks bytes from mark h = record { passed = h; rest = refl }
+-- What `position` answers on the bytes from index `from` on.
+pub finds :
+    (bytes : List ℕ) (from mark : ℕ) {r : Option ℕ} → from ≤ length bytes
+    → (let part = take (length bytes - from) (drop from bytes) in r ≡ position (λ b. eqb b mark) part)
+    → MatchOption r (Found bytes from mark (length bytes)) (λ k. Found bytes from mark (from + k))
+finds bytes from mark {r} h e =
+    let t : take (length bytes - from) (drop from bytes) ≡ drop from bytes =
+    take_all (length bytes - from) (drop from bytes) (omega (arith, length-drop from bytes)) in
+    go (ltb (length (before mark (drop from bytes))) (length (drop from bytes))) refl (rw (← before_is mark (drop from bytes)) (rw t at e))
+  where
+    room : length (before mark (drop from bytes)) ≤ length (drop from bytes)
+    room = omega (arith, ap length (before_taken mark (drop from bytes)), length-take (length (before mark (drop from bytes))) (drop from bytes))
 
-module _ {bytes : List ℕ} {from mark i : ℕ} (g : Finding bytes from mark i) where
-  -- Where no byte before a mark is left, the mark is found.
-  stops : (bs : List ℕ) → drop i bytes ≡ bs → before mark bs ≡ [] → Found bytes from mark i
-  stops bs d e =
-      let z : length (before mark (drop i bytes)) ≡ 0 = ap (λ l. length (before mark l)) d ∙ ap length e in
-      (omega (arith, g.rest), g.passed)
+    go :
+        (t : Bool) → ltb (length (before mark (drop from bytes))) (length (drop from bytes)) ≡ t
+        → r ≡ cond t (Some (length (before mark (drop from bytes)))) None
+        → MatchOption r (Found bytes from mark (length bytes)) (λ k. Found bytes from mark (from + k))
+    go true l q = rw q (refl, omega (arith, ltb-true _ _ l, length-drop from bytes))
+    go false l q = rw q (omega (arith, ltb-false _ _ l, length-drop from bytes, room), omega arith)
 
-  module _ (h : i < length bytes) where
-    pub found : get_or bytes i 0 ≡ mark → Found bytes from mark i
-    found e = stops (get_or bytes i 0 ∷ drop (suc i) bytes) (drop-cons bytes i 0 h) (before_mark mark (drop (suc i) bytes) e)
-
-    pub looks_on : (get_or bytes i 0 ≡ mark → ⊥) → Finding bytes from mark (i + 1)
-    looks_on n =
-        let e : length (before mark (drop i bytes)) ≡ suc (length (before mark (drop (suc i) bytes))) =
-        ap (λ l. length (before mark l)) (drop-cons bytes i 0 h) ∙ ap length (before_other mark (drop (suc i) bytes) n) in
-        record { passed = omega arith; rest = rw add-one (omega (arith, g.rest)) }
-
-  pub none_found : length bytes ≤ i → Found bytes from mark i
-  none_found h =
-      let z : i ≡ length bytes = omega (arith, g.passed) in
-      stops [] (rw z (drop-length bytes)) (before_none mark)
-
--- The words that begin up to i are counted.
-pub record Counting (line : List ℕ) (n i : ℕ) : Type 0 where
-  pub passed : i ≤ length line
-  pub few : n ≤ i + 1
-  pub rest : n + length (words_of (drop i line)) ≡ 1 + length (words_of line)
-
-pub counts : (line : List ℕ) → Counting line 1 0
-counts line = record { passed = omega arith; few = omega arith; rest = refl }
-
-module _ {line : List ℕ} {n i : ℕ} (g : Counting line n i) where
-  module _ (h : i < length line) where
-    counts_on :
-        (m : ℕ) → m ≤ n + 1
-        → m + length (words_of (drop (suc i) line)) ≡ n + length (words_of (get_or line i 0 ∷ drop (suc i) line))
-        → Counting line m (i + 1)
-    counts_on m l e =
-        record {
-          passed = omega arith;
-          few = omega (arith, g.few);
-          rest = rw (add-one i) (omega (arith, g.rest, ap (λ r. length (words_of r)) (drop-cons line i 0 h)));
-        }
-
-    pub counts_space : get_or line i 0 ≡ 32 → Counting line (n + 1) (i + 1)
-    counts_space e = counts_on (n + 1) (omega arith) (omega (arith, ap length (split_mark 32 (drop (suc i) line) e)))
-
-    pub counts_other : (get_or line i 0 ≡ 32 → ⊥) → Counting line n (i + 1)
-    counts_other e = counts_on n (omega arith) (omega (arith, as_many 32 (drop (suc i) line) e))
-
-  pub counted : length line ≤ i → n ≡ length (words_of line)
-  counted h =
-      let z : i ≡ length line = omega (arith, g.passed) in
-      let d : drop i line ≡ [] = rw z (drop-length line) in
-      omega (arith, g.rest, ap (λ l. length (words_of l)) d, ap length (split_none 32))
+-- How many words a line has.
+pub counted : (line : List ℕ) {n i : ℕ} → n ≡ count_by (λ b. eqb b 32) (take i line) + 1 → length line ≤ i → n ≡ length (words_of line)
+counted line {n} {i} e h =
+    let t : take i line ≡ line = take_all i line h in
+    (rw t at e) ∙ sym (length-slice_split (λ b. eqb b 32) line) ∙ ap length (split_is 32 line)

@@ -7,12 +7,9 @@ use native.Mathlib.Omega.{arith}
 use lib.Dec.{eqb, ltb}
 use lib.ListN.{length, get_or, take, drop}
 use lib.Seq.{sets, sets-eq, take_at}
-use Rattle.text.specs.declared.Number.{Number}
-use Rattle.text.specs.declared.Number.TheVariants.{Is, Bad}
-use Rattle.text.specs.declared.Bytes.TheVariants as bytes
+use Rattle.std.proofs.Common.{Option, Some, None}
 use Rattle.text.specs.Numbers.{number_of, if_number}
 use Rattle.text.specs.Bytes.{pairs, all_bytes, bytes_before, hex_of, hex_stored, bytes_of, bytes_stored, bytes_in}
-use Rattle.lines.specs.declared.List.TheVariants as list
 use Rattle.lines.specs.Words.{all_numbers, numbers_in, list_read}
 
 -- A buffer begins with what was written at its beginning.
@@ -24,17 +21,17 @@ stored into vs k e h =
 -- ---- numbers
 
 module _ (ws : List (List ℕ)) where
-  all_read : (k : ℕ) (t : Bool) → cond t (list.Read (length ws)) list.Bad ≡ list.Read k → (t ≡ true) × (length ws ≡ k)
+  all_read : (k : ℕ) (t : Bool) → cond t (Some (length ws)) None ≡ Some k → (t ≡ true) × (length ws ≡ k)
   all_read k true e = (refl, cc)
   all_read k false e = (cc, cc)
 
-  pub read_all : (k : ℕ) → list_read ws ≡ list.Read k → all_numbers ws ≡ true
+  pub read_all : (k : ℕ) → list_read ws ≡ Some k → all_numbers ws ≡ true
   read_all k e = (all_read k (all_numbers ws) e).0
 
-  pub read_none : list_read ws ≡ list.Bad → all_numbers ws ≡ false
+  pub read_none : list_read ws ≡ None → all_numbers ws ≡ false
   read_none = go (all_numbers ws)
     where
-      go : (t : Bool) → cond t (list.Read (length ws)) list.Bad ≡ list.Bad → t ≡ false
+      go : (t : Bool) → cond t (Some (length ws)) None ≡ None → t ≡ false
       go true e = cc
       go false e = refl
 
@@ -44,14 +41,14 @@ as_many [] e = refl
 as_many (w ∷ ws) e = go (number_of w) (as_many ws) e
   where
     go :
-        (r : Number) → (all_numbers ws ≡ true → length (numbers_in ws) ≡ length ws)
+        (r : Option ℕ) → (all_numbers ws ≡ true → length (numbers_in ws) ≡ length ws)
         → if_number r (λ n. all_numbers ws) false ≡ true
         → length (if_number r (λ n. n ∷ numbers_in ws) []) ≡ suc (length ws)
-    go (Is n) f e = ap suc (f e)
-    go Bad f e = cc
+    go (Some n) f e = ap suc (f e)
+    go None f e = cc
 
 pub read_list :
-    (ws : List (List ℕ)) (into : List ℕ) (k : ℕ) → list_read ws ≡ list.Read k → k ≤ length into
+    (ws : List (List ℕ)) (into : List ℕ) (k : ℕ) → list_read ws ≡ Some k → k ≤ length into
     → take k (sets into 0 (numbers_in ws)) ≡ numbers_in ws
 read_list ws into k e h =
     let p = all_read ws k (all_numbers ws) e in
@@ -71,11 +68,11 @@ all_before (v ∷ vs) e = go (ltb 255 v) (all_before vs) e
     go false f e = ap (λ r. v ∷ r) (f e)
 
 module _ (word into : List ℕ) (k : ℕ) where
-  read_hex_in : hex_of word ≡ bytes.Read k → k ≤ length into → take k (hex_stored into word) ≡ pairs word
+  read_hex_in : hex_of word ≡ Some k → k ≤ length into → take k (hex_stored into word) ≡ pairs word
   read_hex_in e h = go (all_bytes (pairs word)) refl e
     where
       go :
-          (t : Bool) → all_bytes (pairs word) ≡ t → cond t (bytes.Read (length (pairs word))) bytes.Bad ≡ bytes.Read k
+          (t : Bool) → all_bytes (pairs word) ≡ t → cond t (Some (length (pairs word))) None ≡ Some k
           → take k (hex_stored into word) ≡ pairs word
       go true g e =
           let f : bytes_before (pairs word) ≡ pairs word = all_before (pairs word) g in
@@ -83,12 +80,12 @@ module _ (word into : List ℕ) (k : ℕ) where
           ap (λ vs. take k (sets into 0 vs)) f ∙ stored into (pairs word) k l h
       go false g e = cc
 
-  pub read_bytes_in : bytes_of word ≡ bytes.Read k → k ≤ length into → take k (bytes_stored into word) ≡ bytes_in word
+  pub read_bytes_in : bytes_of word ≡ Some k → k ≤ length into → take k (bytes_stored into word) ≡ bytes_in word
   read_bytes_in e h = go (eqb (length word) 0) (eqb (length word) 1) (eqb (get_or word 0 0) 45) e
     where
       go :
           (none one dash : Bool)
-          → cond none bytes.Bad (cond one (cond dash (bytes.Read 0) bytes.Bad) (hex_of word)) ≡ bytes.Read k
+          → cond none None (cond one (cond dash (Some 0) None) (hex_of word)) ≡ Some k
           → take k (cond none into (cond one into (hex_stored into word))) ≡ cond one [] (pairs word)
       go true one dash e = cc
       go false true true e =

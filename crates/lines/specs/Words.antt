@@ -1,8 +1,6 @@
 -- A line's words ("The console"). Single spaces separate them: a line has one word more than spaces, and a word may be empty.
-use Rattle.std.specs.Prelude.{ℕ, Bool, true, false, cond, List, [], ◌∷◌, eqb, leb, length, drop, get_or}
+use Rattle.std.specs.Prelude.{ℕ, Bool, true, false, cond, List, [], ◌∷◌, Option, Some, None, eqb, length, get_or}
 use Rattle.text.specs.Numbers.{number_of, if_number}
-use Rattle.lines.specs.declared.List as list
-use Rattle.lines.specs.declared.List.TheVariants.{Read, Bad}
 
 -- The bytes before the first mark; all where there is none.
 unfoldable pub before : ℕ → List ℕ → List ℕ
@@ -22,10 +20,6 @@ split mark (b ∷ bs) = cond (eqb b mark) ([] ∷ split mark bs) (onto_first b (
 abbrev pub words_of : List ℕ → List (List ℕ)
 words_of line = split 32 line
 
--- The words from the one that begins at index i on; none past the line's end.
-unfoldable pub words_from : List ℕ → ℕ → List (List ℕ)
-words_from line i = cond (leb i (length line)) (split 32 (drop i line)) []
-
 -- Word k, from 0 on; empty past the last.
 abbrev pub word_at : List ℕ → ℕ → List ℕ
 word_at line k = get_or (words_of line) k []
@@ -41,9 +35,9 @@ unfoldable pub numbers_in : List (List ℕ) → List ℕ
 numbers_in [] = []
 numbers_in (w ∷ ws) = if_number (number_of w) (λ n. n ∷ numbers_in ws) []
 
-abbrev pub list_read : List (List ℕ) → list.List
-list_read ws = cond (all_numbers ws) (Read (length ws)) Bad
+abbrev pub list_read : List (List ℕ) → Option ℕ
+list_read ws = cond (all_numbers ws) (Some (length ws)) None
 
-abbrev pub list_count : list.List → ℕ
-list_count (Read n) = n
-list_count Bad = 0
+abbrev pub list_count : Option ℕ → ℕ
+list_count (Some n) = n
+list_count None = 0

@@ -3,7 +3,6 @@ use Prim.Native.Nat.{ℕ, zero, suc, ◌+◌, ◌≤◌, ◌<◌}
 use mathlib.Core.Path.{◌≡◌, refl, sym, ap, ◌∙◌}
 use mathlib.Core.Bool.{Bool, true, false, cond}
 use mathlib.Core.List.{List, [], ◌∷◌, ◌++◌, append-nil, append_assoc}
-use mathlib.Core.Option.{Option, none, some}
 use native.Mathlib.Omega.{arith}
 use native.Mathlib.Numerals.{add-one}
 use borrow.Author.Tests.{lt-ltb, le-ltb, ltb-true, ltb-false}
@@ -17,6 +16,7 @@ use Rattle.protocol.specs.Feeding.{answer_line, joined, command_in, Session, end
 use Rattle.protocol.specs.Sessions.{grown_by, answered, answers_to, start, fed_all, fed_all_text, served, joined_pieces, AnyCut}
 use Rattle.protocol.proofs.Feedings.{some_used}
 use Rattle.protocol.proofs.Joining.{joined_none, joined_some, joined_too_long}
+use Rattle.std.specs.Prelude.{None, Option, Some}
 
 -- ---- the parts of bytes with more after them
 
@@ -55,17 +55,17 @@ module _ (mark : ℕ) where
 
 -- ---- bytes added to a line twice
 
-joined_append_some : (line p x : List ℕ) → joined (some (line ++ p)) x ≡ joined (some line) (p ++ x)
+joined_append_some : (line p x : List ℕ) → joined (Some (line ++ p)) x ≡ joined (Some line) (p ++ x)
 unfolding joined
 joined_append_some line p x =
     let e : length (line ++ p) + length x ≡ length line + length (p ++ x) = omega (arith, length-append line p, length-append p x) in
-    λ i. cond (ltb most_line (e i)) none (some (append_assoc line p x i))
+    λ i. cond (ltb most_line (e i)) None (Some (append_assoc line p x i))
 
 joined_append : (l : Option (List ℕ)) (p x : List ℕ) → joined (joined l p) x ≡ joined l (p ++ x)
-joined_append none p x = ap (λ l. joined l x) (joined_too_long p) ∙ joined_too_long x ∙ sym (joined_too_long (p ++ x))
-joined_append (some line) p x = go (ltb most_line (length line + length p)) refl
+joined_append None p x = ap (λ l. joined l x) (joined_too_long p) ∙ joined_too_long x ∙ sym (joined_too_long (p ++ x))
+joined_append (Some line) p x = go (ltb most_line (length line + length p)) refl
   where
-    go : (b : Bool) → ltb most_line (length line + length p) ≡ b → joined (joined (some line) p) x ≡ joined (some line) (p ++ x)
+    go : (b : Bool) → ltb most_line (length line + length p) ≡ b → joined (joined (Some line) p) x ≡ joined (Some line) (p ++ x)
     go true e =
         let h : most_line < length line + length p = ltb-true _ _ e in
         let k : most_line < length line + length (p ++ x) = omega (arith, length-append p x) in
@@ -75,15 +75,15 @@ joined_append (some line) p x = go (ltb most_line (length line + length p)) refl
 -- ---- a line is never longer than the most bytes
 
 abbrev Short : Option (List ℕ) → Type 0
-Short none = Unit {0}
-Short (some line) = length line ≤ most_line
+Short None = Unit {0}
+Short (Some line) = length line ≤ most_line
 
 joined_short : (l : Option (List ℕ)) (part : List ℕ) → Short (joined l part)
 unfolding joined
-joined_short none part = tt
-joined_short (some line) part = go (ltb most_line (length line + length part)) refl
+joined_short None part = tt
+joined_short (Some line) part = go (ltb most_line (length line + length part)) refl
   where
-    go : (b : Bool) → ltb most_line (length line + length part) ≡ b → Short (cond b none (some (line ++ part)))
+    go : (b : Bool) → ltb most_line (length line + length part) ≡ b → Short (cond b None (Some (line ++ part)))
     go true e = tt
     go false e =
         let h : length line + length part ≤ most_line = ltb-false _ _ e in
@@ -109,8 +109,8 @@ fed_all_short (suc most) s p h = go (eqb (length p) 0) (fed_all_short most (fed 
     go false k = k
 
 joined_nothing : (l : Option (List ℕ)) → Short l → joined l [] ≡ l
-joined_nothing none h = joined_too_long []
-joined_nothing (some line) h = joined_some line [] (omega arith) ∙ ap some (append-nil line)
+joined_nothing None h = joined_too_long []
+joined_nothing (Some line) h = joined_some line [] (omega arith) ∙ ap Some (append-nil line)
 
 -- ---- what is still to be written for bytes that come
 

@@ -3,16 +3,17 @@ use Prim.Native.Nat.{ℕ, ◌+◌, ◌≤◌, ◌<◌}
 use mathlib.Core.Path.{◌≡◌, refl, sym, ap, ◌∙◌}
 use mathlib.Core.Bool.{Bool, true, false, cond}
 use mathlib.Core.List.{List, [], ◌++◌}
-use mathlib.Core.Option.{Option, some}
 use native.Mathlib.Omega.{arith}
 use borrow.Author.Tests.{lt-ltb, le-ltb, ne_eqb, ltb-true, ltb-false}
 use lib.Dec.{ltb}
 use lib.ListN.{length, take}
-use lib.Seq.{sets, length-take-le}
+use lib.Seq.{length-take-le}
 use Rattle.text.specs.Ascii.{ascii}
 use Rattle.lines.specs.Words.{before}
 use Rattle.lines.proofs.Marks.{before_taken}
-use Rattle.answers.proofs.Writing.{writes_on}
+use Rattle.text.specs.declared.Text.{Text}
+use Rattle.text.specs.Wrote.{Wrote}
+use Rattle.text.proofs.Wrote.{wrote_then}
 use Rattle.history.specs.Calls.{Tables}
 use Rattle.calls.specs.declared.Reply.{Reply}
 use Rattle.calls.specs.Commands.{Command, most_line}
@@ -20,19 +21,17 @@ use Rattle.calls.specs.Performing.{Result, after, performed}
 use Rattle.replies.specs.Texts.{reply_text, most_reply}
 use Rattle.protocol.specs.Feeding.{answer_line, joined, command_in, Session, grown, fed, fed_text, fed_bytes, is_blank, finished, last_text, line_in, most_text}
 use Rattle.protocol.proofs.Joining.{line_is, line_too_long}
+use Rattle.std.specs.Prelude.{Option, Some}
 
 -- A reply and a newline.
 pub answers :
-    (t : Tables) (c : Command) (o : List ℕ) (at : ℕ) (t' : Tables) (reply : Reply) {o₁ o₂ : List ℕ} {r₁ r₂ : ℕ}
+    (t : Tables) (c : Command) (t' : Tables) (reply : Reply) {first then last : Text}
     → record { reply = reply; tables = t' } ≡ performed t c
-    → (r₁ ≡ at + length (reply_text t' reply)) × (o₁ ≡ sets o at (reply_text t' reply)) × (r₁ ≤ at + most_reply)
-    → (r₂ ≡ r₁ + length (ascii "\n")) × (o₂ ≡ sets o₁ r₁ (ascii "\n"))
-    → (r₂ ≡ at + length (answer_line t c)) × (o₂ ≡ sets o at (answer_line t c)) × (r₂ ≤ at + most_text)
-answers t c o at t' reply {r₂ = r₂} p q s =
-    let w = writes_on o at (reply_text t' reply) (ascii "\n") q.0 q.1 s.0 s.1 in
+    → Wrote first then (reply_text t' reply) → then.end ≤ first.end + most_reply → Wrote then last (ascii "\n")
+    → Wrote first last (answer_line t c) × (last.end ≤ first.end + most_text)
+answers t c t' reply {first = first} {last = last} p w h n =
     let text : reply_text t' reply ++ (ascii "\n") ≡ answer_line t c = ap (λ (x : Result). reply_text x.tables x.reply ++ (ascii "\n")) p in
-    let end : r₂ ≤ at + most_text = omega (arith, q.2, s.0) in
-    (w.0 ∙ ap (λ x. at + length x) text, w.1 ∙ ap (sets o at) text, end)
+    (rw text at (wrote_then w n), omega (arith, h, n.end))
 
 -- ---- the bytes up to a newline
 
@@ -51,7 +50,7 @@ module _ (s : Session) (piece : List ℕ) (to : ℕ) (line : Option (List ℕ)) 
 
     -- The line ends, and is answered.
     pub line_ends :
-        {tables : Tables} {next : Option (List ℕ)} → tables ≡ after s.tables (command_in line) → next ≡ some []
+        {tables : Tables} {next : Option (List ℕ)} → tables ≡ after s.tables (command_in line) → next ≡ Some []
         → (record { tables = tables; line = next } ≡ fed s piece) × (answer_line s.tables (command_in line) ≡ fed_text s piece) × (to + 1 ≡ fed_bytes piece)
     unfolding fed fed_text fed_bytes
     line_ends a b =
@@ -85,8 +84,8 @@ some_used piece h = go (ltb (length (before 10 piece)) (length piece)) refl
 
 -- ---- the end
 
-pub no_line : (n : ℕ) (line : List ℕ) → n ≡ 0 → line_in n line ≡ some []
-no_line n line e = line_is n line (omega arith) ∙ ap (λ k. some (take k line)) e
+pub no_line : (n : ℕ) (line : List ℕ) → n ≡ 0 → line_in n line ≡ Some []
+no_line n line e = line_is n line (omega arith) ∙ ap (λ k. Some (take k line)) e
 
 pub blank_line : (n : ℕ) (line : List ℕ) → n ≡ 0 → is_blank (line_in n line) ≡ true
 blank_line n line e = ap is_blank (no_line n line e)
@@ -108,6 +107,6 @@ module _ (s : Session) where
 
   pub finishes :
       is_blank s.line ≡ false
-      → (record { tables = after s.tables (command_in s.line); line = some [] } ≡ finished s) × (answer_line s.tables (command_in s.line) ≡ last_text s)
+      → (record { tables = after s.tables (command_in s.line); line = Some [] } ≡ finished s) × (answer_line s.tables (command_in s.line) ≡ last_text s)
   unfolding finished last_text
   finishes e = rw e (refl, refl)

@@ -1,11 +1,10 @@
 -- Tables that are lent with some of their words, after a command. Assumes nothing.
 use Prim.Native.Nat.{ℕ, ◌+◌, ◌-◌, ◌≤◌}
 use mathlib.Core.Path.{◌≡◌, sym, ap, ◌∙◌}
-use mathlib.Core.List.{List, ◌++◌, append-nil}
+use mathlib.Core.List.{List, ◌++◌}
 use native.Mathlib.Omega.{arith}
-use lib.ListN.{length, take, drop, replicate, length-replicate, replicate-append-replicate, drop_of_length-le}
+use lib.ListN.{length, take, drop, replicate, take-append-drop, length-replicate, replicate-append-replicate}
 use lib.Seq.{length-take-le, take_at, drop_at}
-use Rattle.runs.specs.Words.{zeroed}
 use Rattle.table.specs.Table.{pad}
 use Rattle.table.proofs.Tables.{length_pad}
 use Rattle.calls.specs.Commands.{most_lent}
@@ -69,10 +68,6 @@ pub all_cut : (m : ℕ) (table : List ℕ) {cut : List ℕ} → Held m table →
 unfolding pad
 all_cut m table h e = e ∙ ap (λ k. replicate (k - 0) 0) h.size
 
--- Words cut off.
-pub cuts : (table : List ℕ) (to : ℕ) → to ≤ length table → zeroed table to (length table) ≡ pad (length table) (take to table)
-unfolding zeroed pad
-cuts table to h =
-    ap (λ l. take to table ++ (replicate (length table - to) 0 ++ l)) (drop_of_length-le table {i = length table} (omega arith))
-    ∙ ap (λ l. take to table ++ l) (append-nil (replicate (length table - to) 0))
-    ∙ ap (λ k. take to table ++ replicate (length table - k) 0) (sym (length-take-le to table h))
+-- What is lent stays, so all does.
+pub lent_stays : (n : ℕ) (table : List ℕ) {lent : List ℕ} → lent ≡ take n table → lent ++ drop n table ≡ table
+lent_stays n table e = ap (λ l. l ++ drop n table) e ∙ take-append-drop n table

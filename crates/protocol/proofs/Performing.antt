@@ -1,6 +1,6 @@
 -- What a command does with the tables in their buffers. Assumes nothing.
 use Prim.Native.Nat.{ℕ}
-use mathlib.Core.Path.{◌≡◌, refl, ◌∙◌}
+use mathlib.Core.Path.{◌≡◌, refl, sym, ap, ◌∙◌}
 use mathlib.Core.List.{List}
 use lib.ListN.{take, replicate}
 use Rattle.register.specs.Register.{register_words}
@@ -13,7 +13,6 @@ use Rattle.calls.specs.Commands.{Command, empty}
 use Rattle.calls.specs.Performing.{tables_of, result_of, performed}
 use Rattle.protocol.specs.Feeding.{Held, HeldAll}
 use Rattle.protocol.proofs.Holding.{Lends}
-use Rattle.calls.proofs.Parsing.{does}
 
 -- The words that each table is lent with, after a command.
 pub performs :
@@ -24,7 +23,7 @@ pub performs :
     ≡ performed (tables_of old_reg old_overrides old_led) c)
     × HeldAll r reg overrides led
 performs r reply reg overrides led xs ys zs old_reg old_overrides old_led c g o h e p = (
-  (λ i. result_of reply (g.words_are i) (o.words_are i) (h.words_are i)) ∙ does old_reg old_overrides old_led c e p,
+  (λ i. result_of reply (g.words_are i) (o.words_are i) (h.words_are i)) ∙ p ∙ ap (performed (tables_of old_reg old_overrides old_led)) (sym e),
   record { register_held = g.held; overrides_held = o.held; ledger_held = h.held },
 )
 

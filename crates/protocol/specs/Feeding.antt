@@ -1,6 +1,5 @@
 -- Bytes that arrive in pieces, and the lines that they make ("The console").
-use Rattle.std.specs.Prelude.{ℕ, ◌+◌, ◌≤◌, ◌≡◌, Bool, false, cond, List, [], ◌++◌, eqb, ltb, length, take}
-use Rattle.std.proofs.Math.Option.{Option, none, some}
+use Rattle.std.specs.Prelude.{ℕ, ◌+◌, ◌≤◌, ◌≡◌, Bool, false, cond, List, [], ◌++◌, eqb, ltb, length, take, None, Option, Some}
 use Rattle.std.proofs.lemmas.List.Edits.{sets}
 use Rattle.table.specs.Table.{pad}
 use Rattle.text.specs.Ascii.{ascii}
@@ -10,6 +9,7 @@ use Rattle.protocol.specs.declared.Lent.{Lent}
 use Rattle.protocol.specs.declared.State.{State}
 use Rattle.protocol.specs.declared.Fed.{Fed}
 use Rattle.protocol.specs.declared.Performed.{Performed}
+use Rattle.calls.specs.declared.Reply.TheVariants.{Done, Error}
 use Rattle.calls.specs.Commands.{Command, bad, most_lent, most_line}
 use Rattle.commands.specs.Commands.{command_of}
 use Rattle.calls.specs.Performing.{tables_of, reply_to, after, result_of, performed}
@@ -23,12 +23,12 @@ answer_line t c = reply_text (after t c) (reply_to t c) ++ ascii "\n"
 
 -- Bytes added to a line; none is a line that is too long.
 unfoldable pub joined : Option (List ℕ) → List ℕ → Option (List ℕ)
-joined none part = none
-joined (some line) part = cond (ltb most_line (length line + length part)) none (some (line ++ part))
+joined None part = None
+joined (Some line) part = cond (ltb most_line (length line + length part)) None (Some (line ++ part))
 
 unfoldable pub command_in : Option (List ℕ) → Command
-command_in none = bad
-command_in (some line) = command_of (words_of line)
+command_in None = bad
+command_in (Some line) = command_of (words_of line)
 
 -- ---- a piece, up to its first newline
 
@@ -46,7 +46,7 @@ grown s piece = joined s.line (before 10 piece)
 unfoldable pub fed : Session → List ℕ → Session
 fed s piece =
     cond (ends_line piece)
-    (record { tables = after s.tables (command_in (grown s piece)); line = some [] })
+    (record { tables = after s.tables (command_in (grown s piece)); line = Some [] })
     (record { tables = s.tables; line = grown s piece })
 
 unfoldable pub fed_text : Session → List ℕ → List ℕ
@@ -59,11 +59,11 @@ fed_bytes piece = cond (ends_line piece) (length (before 10 piece) + 1) (length 
 -- ---- the end: a last line without a newline counts
 
 abbrev pub is_blank : Option (List ℕ) → Bool
-is_blank none = false
-is_blank (some line) = eqb (length line) 0
+is_blank None = false
+is_blank (Some line) = eqb (length line) 0
 
 unfoldable pub finished : Session → Session
-finished s = cond (is_blank s.line) s (record { tables = after s.tables (command_in s.line); line = some [] })
+finished s = cond (is_blank s.line) s (record { tables = after s.tables (command_in s.line); line = Some [] })
 
 unfoldable pub last_text : Session → List ℕ
 last_text s = cond (is_blank s.line) [] (answer_line s.tables (command_in s.line))
@@ -86,7 +86,7 @@ lent_tables s reg overrides led = tables_of (take s.register reg) (take s.overri
 
 -- A line of n bytes, and of one more than the most where it is too long.
 unfoldable pub line_in : ℕ → List ℕ → Option (List ℕ)
-line_in n buffer = cond (ltb most_line n) none (some (take n buffer))
+line_in n buffer = cond (ltb most_line n) None (Some (take n buffer))
 
 abbrev pub session_in : State → List ℕ → List ℕ → List ℕ → List ℕ → Session
 session_in s line reg overrides led = record { tables = lent_tables s.lent reg overrides led; line = line_in s.line line }
@@ -122,6 +122,11 @@ Carried s reg overrides led c r reg' overrides' led' =
     (result_of r.reply (take r.lent.register reg') (take r.lent.overrides overrides') (take r.lent.ledger led')
     ≡ performed (lent_tables s reg overrides led) c)
     × HeldAll r.lent reg' overrides' led'
+
+-- A command that does no more than lend the tables with other numbers of words. What lends none is no command.
+abbrev pub carried_out : Lent → Option Lent → Performed
+carried_out s (Some lent) = record { lent = lent; reply = Done }
+carried_out s None = record { lent = s; reply = Error }
 
 -- The command that ends a line of n bytes.
 abbrev pub command_ending : State → List ℕ → Command

@@ -1,6 +1,5 @@
 -- All that is written for an input, however it is cut into pieces ("The console").
-use Rattle.std.specs.Prelude.{ℕ, zero, suc, ◌≡◌, cond, List, [], ◌∷◌, ◌++◌, eqb, length, drop}
-use Rattle.std.proofs.Math.Option.{some}
+use Rattle.std.specs.Prelude.{ℕ, zero, suc, ◌≡◌, cond, List, [], ◌∷◌, ◌++◌, eqb, length, drop, Some}
 use Rattle.lines.specs.Words.{split}
 use Rattle.history.specs.Calls.{blank}
 use Rattle.calls.specs.Performing.{after}
@@ -12,7 +11,7 @@ abbrev pub grown_by : Session → List ℕ → Session
 grown_by s part = record { tables = s.tables; line = joined s.line part }
 
 abbrev pub answered : Session → Session
-answered s = record { tables = after s.tables (command_in s.line); line = some [] }
+answered s = record { tables = after s.tables (command_in s.line); line = Some [] }
 
 -- The first line goes on from what stands in the session.
 unfoldable pub answers_to : Session → List (List ℕ) → List ℕ
@@ -23,7 +22,7 @@ answers_to s (line ∷ (next ∷ lines)) =
 
 -- All three tables empty, and no byte yet.
 abbrev pub start : Session
-start = record { tables = blank; line = some [] }
+start = record { tables = blank; line = Some [] }
 
 abbrev pub console_text : List ℕ → List ℕ
 console_text input = answers_to start (split 10 input)

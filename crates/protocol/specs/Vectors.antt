@@ -1,5 +1,5 @@
 -- Lines and answers of the console, by computation.
-use Rattle.std.specs.Prelude.{ℕ, ◌≡◌, refl, [], ◌∷◌, map, pos, negsuc}
+use Rattle.std.specs.Prelude.{ℕ, ◌≡◌, refl, [], ◌∷◌, map, pos, negsuc, Err, Ok}
 use Prim.Native.String.{String}
 use Rattle.text.specs.Ascii.{ascii}
 use Rattle.text.specs.Numbers.{value_from, all_digits, number_from, digits_before}
@@ -9,13 +9,11 @@ use Rattle.types.specs.declared.Answer.TheVariants.{Plain, WithGap}
 use Rattle.types.specs.declared.Origin.TheVariants as origin
 use Rattle.types.specs.declared.Origins.TheVariants.{One, Two}
 use Rattle.types.specs.declared.Hop.TheVariants.{NoAttestation, ProviderPlus, NotProviderPlus}
-use Rattle.types.specs.declared.Hopped.TheVariants as hopped
 use Rattle.types.specs.declared.Cause.TheVariants.{ByGround, ByHops}
 use Rattle.types.specs.declared.Ground.TheVariants.{AsSet}
 use Rattle.types.specs.declared.Verdict.TheVariants.{Valid, Invalid, Unknown}
 use Rattle.types.specs.declared.Fault.TheVariants.{UnknownType}
 use Rattle.types.specs.declared.Refusal.TheVariants.{RegisterMalformed, RegisterFull, Attribute}
-use Rattle.types.specs.declared.Judged.TheVariants.{Answered, Refused}
 use Rattle.types.specs.Rows.{first_given}
 use Rattle.answers.specs.Texts.{each_text, judged_text, hopped_text, list_text, spaced_text}
 use Rattle.effects.specs.Calls.{keeping}
@@ -28,9 +26,9 @@ use Rattle.ledger.specs.Routes as ledger
 use Rattle.snapshot.specs.Snapshot.{snapshot_of, bytes_of}
 use Rattle.snapshot.specs.Calls.{write_effect, read_effect}
 use Rattle.history.specs.Calls.{Tables, blank, file, withdraw, clear, keep, drop, rejudge}
-use Rattle.calls.specs.declared.Named.TheVariants.{Register, Overrides, Ledger, Neither}
-use Rattle.calls.specs.Commands.{Command, call, judge, hop, lookup, read, write, show, words, poke, resize, empty, bad, named_by, of_words, with_number, with_bytes, with_numbers, up_to, from_one}
-use Rattle.commands.specs.Commands.{look_command, ask_command, overrides_command, snapshot_command, route_command, lent_command, command_of}
+use Rattle.calls.specs.declared.Named.TheVariants.{Register, Overrides, Ledger}
+use Rattle.calls.specs.Commands.{Command, call, judge, hop, lookup, read, write, show, words, poke, resize, empty, bad, named_by}
+use Rattle.commands.specs.Commands.{lent_command, command_of}
 use Rattle.calls.specs.Performing.{after}
 use Rattle.protocol.specs.Feeding.{answer_line}
 
@@ -58,7 +56,7 @@ pub commands :
     ∷ resize Register 16384
     ∷ empty
     ∷ []
-unfolding command_of lent_command route_command snapshot_command overrides_command ask_command look_command named_by of_words with_number with_bytes with_numbers up_to from_one same_bytes split number_from all_digits value_from all_numbers numbers_in pairs pair_value hex_value all_bytes
+unfolding command_of lent_command named_by same_bytes split number_from all_digits value_from all_numbers numbers_in pairs pair_value hex_value all_bytes
 commands = refl
 
 -- Those of the overrides, and those that ask both registers. `lookup` has the customer before the source.
@@ -77,42 +75,39 @@ pub overrides_commands :
     ∷ poke Overrides 0 5
     ∷ resize Overrides 16384
     ∷ []
-unfolding command_of lent_command route_command snapshot_command overrides_command ask_command look_command named_by of_words with_number with_bytes with_numbers up_to from_one same_bytes split number_from all_digits value_from all_numbers numbers_in pairs pair_value hex_value all_bytes
+unfolding command_of lent_command named_by same_bytes split number_from all_digits value_from all_numbers numbers_in pairs pair_value hex_value all_bytes
 overrides_commands = refl
 
 -- Lines that are none: too few words, too many, a leading zero, 2^32, a space too many, odd, upper-case and no hex, a length or a capacity past the most.
 pub no_commands :
     map command ("file 1" ∷ "rejudge now" ∷ "clear 07" ∷ "clear 4294967296" ∷ "clear  7" ∷ "clear 7 " ∷ "judge 3 64500 020" ∷ "judge 3 64500 0A" ∷ "judge 3 64500 xy" ∷ "judge 3 64500" ∷ "resize register 16385" ∷ "read" ∷ "read 00 ff" ∷ "write 131073" ∷ [])
     ≡ bad ∷ bad ∷ bad ∷ bad ∷ bad ∷ bad ∷ bad ∷ bad ∷ bad ∷ bad ∷ bad ∷ bad ∷ bad ∷ bad ∷ []
-unfolding command_of lent_command route_command snapshot_command overrides_command ask_command look_command named_by of_words with_number with_bytes with_numbers up_to from_one same_bytes split number_from all_digits value_from all_numbers numbers_in pairs pair_value hex_value all_bytes
+unfolding command_of lent_command named_by same_bytes split number_from all_digits value_from all_numbers numbers_in pairs pair_value hex_value all_bytes
 no_commands = refl
 
 -- A hop with 0, or with one number or three; a look-up with one number or three; a leading zero, a word too many, a length past the most.
 pub no_overrides_commands :
     map command ("hop 0 5" ∷ "hop 5 0" ∷ "hop 5" ∷ "hop 5 6 7" ∷ "lookup 5" ∷ "lookup 5 1 2" ∷ "dclear 07" ∷ "dfile 1" ∷ "dwithdraw 1" ∷ "drawer 1" ∷ "resize drawer 16385" ∷ [])
     ≡ bad ∷ bad ∷ bad ∷ bad ∷ bad ∷ bad ∷ bad ∷ bad ∷ bad ∷ bad ∷ bad ∷ []
-unfolding command_of lent_command route_command snapshot_command overrides_command ask_command look_command named_by of_words with_number with_bytes with_numbers up_to from_one same_bytes split number_from all_digits value_from all_numbers numbers_in pairs pair_value hex_value all_bytes
+unfolding command_of lent_command named_by same_bytes split number_from all_digits value_from all_numbers numbers_in pairs pair_value hex_value all_bytes
 no_overrides_commands = refl
 
--- A line with another first word asks for a table that there is not. Such a command answers as a bad one does, and changes nothing.
-pub unknown : map command ("" ∷ "hello" ∷ "File" ∷ []) ≡ show Neither ∷ show Neither ∷ show Neither ∷ []
-unfolding command_of lent_command route_command snapshot_command overrides_command ask_command look_command named_by of_words same_bytes split
+-- A line with another first word is none, and nor is one that speaks of a table that there is not.
+pub unknown : map command ("" ∷ "hello" ∷ "File" ∷ "words x" ∷ "poke x 0 5" ∷ "resize x 0" ∷ []) ≡ bad ∷ bad ∷ bad ∷ bad ∷ bad ∷ bad ∷ []
+unfolding command_of lent_command named_by same_bytes split number_from all_digits value_from all_numbers numbers_in pairs pair_value hex_value all_bytes
 unknown = refl
 
-pub no_table :
-    (t : Tables) (index value to : ℕ)
-    → map (answer_line t) (bad ∷ show Neither ∷ words Neither ∷ poke Neither index value ∷ resize Neither to ∷ [])
-    ≡ ascii "error\n" ∷ ascii "error\n" ∷ ascii "error\n" ∷ ascii "error\n" ∷ ascii "error\n" ∷ []
-no_table t index value to = refl
+-- Such a line answers `error`, and changes nothing.
+pub no_table : (t : Tables) → answer_line t bad ≡ ascii "error\n"
+no_table t = refl
 
-pub nothing_changes :
-    (t : Tables) (index value to : ℕ) → map (after t) (bad ∷ show Neither ∷ words Neither ∷ poke Neither index value ∷ resize Neither to ∷ []) ≡ t ∷ t ∷ t ∷ t ∷ t ∷ []
-nothing_changes t index value to = refl
+pub nothing_changes : (t : Tables) → after t bad ≡ t
+nothing_changes t = refl
 
 -- Answers.
 pub answers :
     map judged_text
-    (Answered (Plain Valid) ∷ Answered (WithGap Valid (pos 0)) ∷ Answered (WithGap (Invalid (ByHops 2 1 (Two origin.Public origin.Overrides))) (negsuc 2)) ∷ Answered (Plain (Invalid (ByHops 3 0 (One origin.Overrides)))) ∷ Answered (Plain (Invalid (ByGround AsSet))) ∷ Answered (Plain (Unknown 10 3)) ∷ Refused RegisterFull ∷ Refused (Attribute UnknownType 102) ∷ [])
+    (Ok (Plain Valid) ∷ Ok (WithGap Valid (pos 0)) ∷ Ok (WithGap (Invalid (ByHops 2 1 (Two origin.Public origin.Overrides))) (negsuc 2)) ∷ Ok (Plain (Invalid (ByHops 3 0 (One origin.Overrides)))) ∷ Ok (Plain (Invalid (ByGround AsSet))) ∷ Ok (Plain (Unknown 10 3)) ∷ Err RegisterFull ∷ Err (Attribute UnknownType 102) ∷ [])
     ≡ ascii "Valid"
     ∷ ascii "Valid gap 0"
     ∷ ascii "Invalid 2 1 public drawer gap -3"
@@ -127,7 +122,7 @@ answers = refl
 
 pub hop_answers :
     map hopped_text
-    (hopped.Answered NoAttestation ∷ hopped.Answered (ProviderPlus origin.Public 3) ∷ hopped.Answered (ProviderPlus origin.Overrides 0) ∷ hopped.Answered (NotProviderPlus origin.Overrides) ∷ hopped.Answered (NotProviderPlus origin.Public) ∷ hopped.Refused RegisterMalformed ∷ [])
+    (Ok NoAttestation ∷ Ok (ProviderPlus origin.Public 3) ∷ Ok (ProviderPlus origin.Overrides 0) ∷ Ok (NotProviderPlus origin.Overrides) ∷ Ok (NotProviderPlus origin.Public) ∷ Err RegisterMalformed ∷ [])
     ≡ ascii "none" ∷ ascii "provider public 3" ∷ ascii "provider drawer 0" ∷ ascii "other drawer" ∷ ascii "other public" ∷ ascii "refused 2" ∷ []
 unfolding digits_before
 hop_answers = refl

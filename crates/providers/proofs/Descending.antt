@@ -63,6 +63,9 @@ module _ (l : List ℕ) (i : ℕ) where
   unfolding descents_from
   descents_whole h = rw (drop_of_length-le l h)
 
+-- The loop's turns.
+pub ruleset counting = (no_fall, one_fall, descents_first, descents_on, descents_whole)
+
 -- ---- lists that ascend, and lists end to end
 
 -- The numbers behind another ascend if nothing descends.
@@ -76,7 +79,7 @@ rises_behind x (y ∷ l) = go (rises_behind y l) (ltb x y)
     go e false = sym (ne_eqb (descents_from y l + 1) 0 (omega arith))
 
 -- A list ascends if nothing descends in it.
-rises_is : (l : List ℕ) → rises l ≡ eqb (descents_in l) 0
+pub rises_is : (l : List ℕ) → rises l ≡ eqb (descents_in l) 0
 unfolding rises descents_in
 rises_is [] = refl
 rises_is (x ∷ l) = rises_behind x l

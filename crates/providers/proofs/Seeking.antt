@@ -1,10 +1,9 @@
 -- A number sought in a list: each turn of the loop over it, and two lists together. Assumes nothing.
 use Prim.Native.Nat.{ℕ, ◌+◌, ◌≤◌, ◌<◌}
 use mathlib.Core.Path.{◌≡◌, refl, sym, ◌∙◌, ap}
-use mathlib.Core.Bool.{Bool, true, false, ◌||◌, or-true, or-false}
+use mathlib.Core.Bool.{Bool, true, false, ◌||◌, or-false, or_assoc}
 use mathlib.Core.List.{List, [], ◌∷◌, ◌++◌}
 use native.Mathlib.Numerals.{add-one}
-use borrow.Author.Tests.{eq-eqb, ne_eqb}
 use lib.Dec.{eqb}
 use lib.ListN.{length, get_or, drop, drop_of_length-le}
 use lib.Seq.{drop-cons}
@@ -15,22 +14,14 @@ pub record Seeking (y : ℕ) (l : List ℕ) (has : Bool) (i : ℕ) : Type 0 wher
   pub says : (has || is_in y (drop i l)) ≡ is_in y l
 
 module _ {y : ℕ} {l : List ℕ} {has : Bool} {i : ℕ} (s : Seeking y l has i) where
-  module _ (h : i < length l) {next : Bool} where
-    -- It stands at i: the flag is raised.
-    pub raised : get_or l i 0 ≡ y → next ≡ true → Seeking y l next (i + 1)
-    unfolding is_in
-    raised e f = record { says = rw f (sym (or-true has) ∙ ap (λ b. has || b) here ∙ s.says) }
-      where
-        here : true ≡ is_in y (drop i l)
-        here = rw (drop-cons l i 0 h, eq-eqb (get_or l i 0) y e)
-
-    -- It does not: the flag stays.
-    pub stays : (get_or l i 0 ≡ y → ⊥) → next ≡ has → Seeking y l next (i + 1)
-    unfolding is_in
-    stays e f = record { says = rw f (ap (λ b. has || b) behind ∙ s.says) }
-      where
-        behind : is_in y (drop (i + 1) l) ≡ is_in y (drop i l)
-        behind = rw (add-one, drop-cons l i 0 h, ne_eqb (get_or l i 0) y e)
+  -- One number more.
+  pub turns : i < length l → {next : Bool} → next ≡ (has || eqb (get_or l i 0) y) → Seeking y l next (i + 1)
+  unfolding is_in
+  turns h e =
+      record { says = rw (e, or_assoc has (eqb (get_or l i 0) y) (is_in y (drop (i + 1) l))) (ap (λ b. has || b) here ∙ s.says) }
+    where
+      here : (eqb (get_or l i 0) y || is_in y (drop (i + 1) l)) ≡ is_in y (drop i l)
+      here = rw (add-one, drop-cons l i 0 h)
 
   -- The list is through.
   pub ended : length l ≤ i → has ≡ is_in y l

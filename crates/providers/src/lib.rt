@@ -12,104 +12,67 @@ use types::AsNumber;
 // The numbers in one list.
 pub const MOST_PROVIDERS: usize = 256;
 
-// A list ascends strictly.
-fn is_rising(list: &[u32]) -> bool
-    ensures { result ≡ rises list.now }
-{
-    if list.len() == 0 {
-        return true;
-    }
-    let mut x = list[0];
-    let mut i: usize = 1;
-    while i < list.len() {
-        let y = list[i];
-        if y <= x {
-            return false;
-        }
-        x = y;
-        i += 1;
-    }
-    true
-}
+// The words that are compared with a number at once.
+const AT_ONCE: usize = 16;
 
 // Whether an ascending list holds a number, by halves: at most nine looks at a list of 256. Of any other list it may say either.
+#[tactic(auto, using(crate::proofs::Halving::search_says))]
 fn holds(list: &[u32], number: AsNumber) -> bool
-    requires { 1 ≤ length list.now }
     ensures { rises list.now ≡ true → result ≡ is_in number.0 list.now }
 {
-    let x = number.0;
-    let mut from: usize = 0;
-    let mut many = list.len();
-    while 1 < many {
-        let half = many / 2;
-        many -= half;
-        if list[from + half] <= x {
-            from += half;
-        }
-    }
-    list[from] == x
+    list.binary_search(&number.0).is_ok()
 }
 
 // A list that may be filed for a customer.
+#[tactic(auto, using(crate::proofs::Descending::rises_is), unfolding(crate::specs::Lists::list_ok))]
 pub fn is_list(customer: AsNumber, list: &[u32]) -> bool
     ensures { result ≡ list_ok customer.0 list.now }
 {
-    if list.len() < 1 {
+    if list.is_empty() || MOST_PROVIDERS < list.len() {
         return false;
     }
-    if MOST_PROVIDERS < list.len() {
-        return false;
-    }
-    if !is_rising(list) {
-        return false;
-    }
-    !holds(list, customer)
+    descents(list) == 0 && !holds(list, customer)
 }
 
 // How often a number does not stand above the one before it. The loop has no early exit, so that the compiler takes several words at
 // a time.
+#[tactic(auto, using(crate::proofs::Descending::counting))]
 pub fn descents(list: &[u32]) -> u32
     requires { length list.now < 2 ^ 32 }
     ensures { (result ≡ descents_in list.now) × (result ≤ length list.now) }
 {
     let mut many: u32 = 0;
-    let mut i: usize = 1;
-    while i < list.len() {
+    for i in 1..list.len() {
         if list[i] <= list[i - 1] {
             many += 1;
         }
-        i += 1;
     }
     many
 }
 
-// Whether one of the first eight words is a number: compared at once, without a branch.
-fn is_among_eight(words: &[u32], number: AsNumber) -> bool
-    requires { 8 ≤ length words.now }
-    ensures { result ≡ is_in number.0 (take 8 words.now) }
+// Whether a number is among some words. The loop has no early exit, so that the compiler takes several words at a time.
+#[tactic(auto, using(crate::proofs::Seeking::turns, crate::proofs::Seeking::ended))]
+fn is_among(words: &[u32], number: AsNumber) -> bool
+    ensures { result ≡ is_in number.0 words.now }
 {
-    let x = number.0;
-    (words[0] == x)
-        | ((words[1] == x)
-            | ((words[2] == x)
-                | ((words[3] == x)
-                    | ((words[4] == x) | ((words[5] == x) | ((words[6] == x) | (words[7] == x)))))))
+    let mut found = false;
+    for word in words {
+        found |= *word == number.0;
+    }
+    found
 }
 
 // The same as `holds` of the list of `count` numbers that begins at a word. Most lists are short, and no processor foresees their
 // lengths and numbers: so sixteen words are compared at once, though some may belong to other lists, and only if one of them is the
 // number the list is searched.
+#[tactic(auto, using(crate::proofs::Halving::not_among))]
 pub fn holds_at(reg: &[u32], from: usize, count: usize, number: AsNumber) -> bool
-    requires { (1 ≤ count) × (from + count ≤ length reg.now) }
+    requires { from + count ≤ length reg.now }
     ensures { rises (list_at reg.now from count) ≡ true → result ≡ is_in number.0 (list_at reg.now from count) }
 {
-    if count <= 16 {
-        if from + 16 <= reg.len() {
-            let low = is_among_eight(&reg[from..from + 8], number);
-            let high = is_among_eight(&reg[from + 8..from + 16], number);
-            if !(low | high) {
-                return false;
-            }
+    if count <= AT_ONCE && from + AT_ONCE <= reg.len() {
+        if !is_among(&reg[from..from + AT_ONCE], number) {
+            return false;
         }
     }
     holds(&reg[from..from + count], number)
@@ -123,23 +86,15 @@ pub struct Listed {
 }
 
 // The loop has no early exit, so that the compiler takes several words at a time.
+#[tactic(auto, using(crate::proofs::Seeking::turns, crate::proofs::Seeking::ended))]
 pub fn scan(list: &[u32], y: AsNumber, z: AsNumber) -> Listed
     ensures { (result.y ≡ is_in y.0 list.now) × (result.z ≡ is_in z.0 list.now) }
 {
-    let a = y.0;
-    let b = z.0;
     let mut has_y = false;
     let mut has_z = false;
-    let mut i: usize = 0;
-    while i < list.len() {
-        let p = list[i];
-        if p == a {
-            has_y = true;
-        }
-        if p == b {
-            has_z = true;
-        }
-        i += 1;
+    for p in list {
+        has_y |= *p == y.0;
+        has_z |= *p == z.0;
     }
     Listed { y: has_y, z: has_z }
 }

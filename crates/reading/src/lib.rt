@@ -1,139 +1,130 @@
 // Reading an AS_PATH attribute: its first fault, its ground, its merged path.
 #![tactic(auto)]
 
-ghost use Rattle.std.specs.Prelude.{◌≡◌, ◌+◌, ◌*◌, ◌^◌, ◌≤◌, ◌<◌, length, set};
+ghost use Rattle.std.specs.Prelude.{◌≡◌, ◌+◌, ◌*◌, ◌^◌, ◌≤◌, ◌<◌, length, set, None};
 ghost use Rattle.types.specs.Numbers.{role_number};
-ghost use Rattle.as_path.specs.declared.Scan.TheVariants.{Clean};
-ghost use Rattle.as_path.specs.Segments.{number_bytes, number_at, body_numbers, segment_at, segments};
-ghost use Rattle.as_path.specs.Faults.{first_fault};
+ghost use Rattle.as_path.specs.Segments.{number_bytes, body_numbers, end_of, segment_at, segments};
+ghost use Rattle.as_path.specs.Faults.{segment_fault, first_fault};
 ghost use Rattle.as_path.specs.Grounds.{has_set, ground_of, is_not_neighbour};
 ghost use Rattle.as_path.specs.Merging.{runs_after, merged_path};
 ghost use Rattle.as_path.specs.Reading.{content_of, reading_of, buffer_after};
 ghost use Rattle.as_path.specs.Helpers.{Stored, last_after};
 
-use as_path::{Grounded, Reading, Scan};
-use types::{AsNumber, Fault, Ground, Refusal, Role};
+use as_path::{MOST_NUMBERS, Reading};
+use types::{AsNumber, Fault, Ground, Neighbour, Refusal};
+
+// The bytes of a segment before its numbers: its type and how many numbers it has.
+const HEADER_BYTES: usize = 2;
 
 // The width of a number, in bytes.
 const NUMBER_BYTES: usize = 4;
 
-fn wide(x: u8) -> u32
-    ensures { (result ≡ x) × (result ≤ 255) }
+// The types of segments (RFC 4271, RFC 5065).
+const AS_SET: u8 = 1;
+
+const AS_SEQUENCE: u8 = 2;
+
+const AS_CONFED_SEQUENCE: u8 = 3;
+
+const AS_CONFED_SET: u8 = 4;
+
+// Where the segment at `at` ends and the next one begins. A `while` goes from one to the next, since each has a length of its own.
+fn segment_end(attr: &[u8], at: usize) -> usize
+    requires { at + 1 < length attr.now }
+    ensures { result ≡ end_of number_bytes attr.now at }
 {
-    x as u32
+    at + HEADER_BYTES + NUMBER_BYTES * usize::from(attr[at + 1])
 }
 
-fn size(x: u8) -> usize
-    ensures { (result ≡ x) × (result ≤ 255) }
+// The fault of the segment at `at`, with its offset.
+#[tactic(auto, unfolding(as_path::specs::Faults::segment_fault))]
+fn segment_fault(attr: &[u8], at: usize) -> Option<(Fault, usize)>
+    requires { at < length attr.now }
+    ensures { result ≡ segment_fault number_bytes attr.now at None }
 {
-    x as usize
+    if attr.len() - at < HEADER_BYTES {
+        return Some((Fault::CutShort, at));
+    }
+    match attr[at] {
+        AS_SET | AS_SEQUENCE => {}
+        AS_CONFED_SEQUENCE | AS_CONFED_SET => return Some((Fault::Confederation, at)),
+        _ => return Some((Fault::UnknownType, at)),
+    }
+    if attr[at + 1] == 0 {
+        return Some((Fault::NoNumbers, at));
+    }
+    let from = at + HEADER_BYTES;
+    let end = segment_end(attr, at);
+    if attr.len() < end {
+        return Some((Fault::CutShort, at));
+    }
+    let (numbers, _) = attr[from..end].as_chunks::<NUMBER_BYTES>();
+    for (k, number) in numbers.iter().enumerate() {
+        if u32::from_be_bytes(*number) == 0 {
+            return Some((Fault::ZeroNumber, from + NUMBER_BYTES * k));
+        }
+    }
+    None
 }
 
-// Number k of a segment's body.
-fn number_at(body: &[u8], k: usize) -> u32
-    requires { number_bytes * k + number_bytes ≤ length body.now }
-    ensures { result ≡ number_at number_bytes body.now (number_bytes * k) }
-{
-    let i = NUMBER_BYTES * k;
-    let a = wide(body[i]);
-    let b = wide(body[i + 1]);
-    let c = wide(body[i + 2]);
-    let d = wide(body[i + 3]);
-    a * 16777216 + b * 65536 + c * 256 + d
-}
-
-fn first_fault(attr: &[u8]) -> Scan
+fn first_fault(attr: &[u8]) -> Option<(Fault, usize)>
     ensures { result ≡ first_fault number_bytes attr.now }
 {
-    let mut at: usize = 0;
-    'segments: loop {
-        if attr.len() <= at {
-            break 'segments Scan::Clean;
+    let mut at = 0;
+    while at < attr.len() {
+        if let Some(fault) = segment_fault(attr, at) {
+            return Some(fault);
         }
-        let left = attr.len() - at;
-        if left < 2 {
-            break 'segments Scan::Faulty(Fault::CutShort, at);
-        }
-        let kind = attr[at];
-        if kind == 0 {
-            break 'segments Scan::Faulty(Fault::UnknownType, at);
-        }
-        if 4 < kind {
-            break 'segments Scan::Faulty(Fault::UnknownType, at);
-        }
-        if 2 < kind {
-            break 'segments Scan::Faulty(Fault::Confederation, at);
-        }
-        let from = at + 2;
-        let count = size(attr[at + 1]);
-        if count == 0 {
-            break 'segments Scan::Faulty(Fault::NoNumbers, at);
-        }
-        if left - 2 < NUMBER_BYTES * count {
-            break 'segments Scan::Faulty(Fault::CutShort, at);
-        }
-        let to = from + NUMBER_BYTES * count;
-        let body = &attr[from..to];
-        let mut k: usize = 0;
-        while k < count {
-            if number_at(body, k) == 0 {
-                break 'segments Scan::Faulty(Fault::ZeroNumber, from + NUMBER_BYTES * k);
-            }
-            k += 1;
-        }
-        at = to;
+        at = segment_end(attr, at);
     }
+    None
 }
 
-// A segment of type 1 anywhere.
+// Whether a segment is a set.
 fn has_set(attr: &[u8]) -> bool
-    requires { first_fault number_bytes attr.now ≡ Clean }
+    requires { first_fault number_bytes attr.now ≡ None }
     ensures { result ≡ has_set (segments number_bytes attr.now) }
 {
-    let mut at: usize = 0;
+    let mut at = 0;
     while at < attr.len() {
-        if attr[at] == 1 {
+        if attr[at] == AS_SET {
             return true;
         }
-        let count = size(attr[at + 1]);
-        at = at + 2 + NUMBER_BYTES * count;
+        at = segment_end(attr, at);
     }
     false
 }
 
 // The first segment is a sequence, and its first number ought to be the neighbour and is not.
-fn is_not_neighbour(role: Role, neighbour: AsNumber, attr: &[u8]) -> bool
-    requires { (0 < length attr.now) × (first_fault number_bytes attr.now ≡ Clean) }
-    ensures { result ≡ is_not_neighbour (role_number role) neighbour.0 (segment_at number_bytes attr.now 0) }
+fn is_not_neighbour(neighbour: Neighbour, attr: &[u8]) -> bool
+    requires { (0 < length attr.now) × (first_fault number_bytes attr.now ≡ None) }
+    ensures { result ≡ is_not_neighbour (role_number neighbour.role) neighbour.number.0 (segment_at number_bytes attr.now 0) }
 {
-    if attr[0] != 2 {
+    if attr[0] != AS_SEQUENCE || neighbour.role.is_route_server() {
         return false;
     }
-    if role.is_route_server() {
-        return false;
-    }
-    let first = number_at(&attr[2..6], 0);
-    let expected = neighbour.0;
-    first != expected
+    let (numbers, _) = attr[HEADER_BYTES..].as_chunks::<NUMBER_BYTES>();
+    AsNumber(u32::from_be_bytes(numbers[0])) != neighbour.number
 }
 
-fn ground(role: Role, neighbour: AsNumber, attr: &[u8]) -> Grounded
-    requires { first_fault number_bytes attr.now ≡ Clean }
-    ensures { result ≡ ground_of (role_number role) neighbour.0 (segments number_bytes attr.now) }
+#[tactic(auto, using(as_path::proofs::Grounding::ground_empty, as_path::proofs::Grounding::ground_is))]
+fn ground(neighbour: Neighbour, attr: &[u8]) -> Option<Ground>
+    requires { first_fault number_bytes attr.now ≡ None }
+    ensures { result ≡ ground_of (role_number neighbour.role) neighbour.number.0 (segments number_bytes attr.now) }
 {
-    if attr.len() == 0 {
-        return Grounded::By(Ground::Empty);
+    if attr.is_empty() {
+        return Some(Ground::Empty);
     }
-    if is_not_neighbour(role, neighbour, attr) {
-        return Grounded::By(Ground::NotNeighbour);
+    if is_not_neighbour(neighbour, attr) {
+        return Some(Ground::NotNeighbour);
     }
     if has_set(attr) {
-        return Grounded::By(Ground::AsSet);
+        return Some(Ground::AsSet);
     }
-    Grounded::Not
+    None
 }
 
-// A store that a buffer without the index passes over.
+// A store that a buffer without the index passes over. After a write through `get_mut` the check knows the buffer's length and none of its numbers.
 fn put(path: &mut [u32], i: usize, x: u32)
     ensures { path.new ≡ set path.old i x }
 {
@@ -155,17 +146,14 @@ fn merge_segment(body: &[u8], path: &mut [u32], end: End) -> End
     ensures { Stored path.old end.to (runs_after end.last (body_numbers body.now)) path.new result.to
         × (result.last ≡ last_after end.last (body_numbers body.now)) }
 {
-    let count = body.len() / NUMBER_BYTES;
-    let mut to = end.to;
-    let mut last = end.last;
-    let mut k: usize = 0;
-    while k < count {
-        let x = number_at(body, k);
-        k += 1;
-        if x != last {
-            put(path, to, x);
+    let End { mut to, mut last } = end;
+    let (numbers, _) = body.as_chunks::<NUMBER_BYTES>();
+    for bytes in numbers {
+        let number = u32::from_be_bytes(*bytes);
+        if number != last {
+            put(path, to, number);
             to += 1;
-            last = x;
+            last = number;
         }
     }
     End { to, last }
@@ -173,37 +161,34 @@ fn merge_segment(body: &[u8], path: &mut [u32], end: End) -> End
 
 // Stores the merged path; answers how many numbers it has. A run goes on over a segment's end.
 fn merge(attr: &[u8], path: &mut [u32]) -> usize
-    requires { first_fault number_bytes attr.now ≡ Clean }
+    requires { first_fault number_bytes attr.now ≡ None }
     ensures { Stored path.old 0 (merged_path (segments number_bytes attr.now)) path.new result }
 {
     let mut end = End { to: 0, last: 0 };
-    let mut at: usize = 0;
+    let mut at = 0;
     while at < attr.len() {
-        let from = at + 2;
-        let count = size(attr[at + 1]);
-        let to = from + NUMBER_BYTES * count;
-        end = merge_segment(&attr[from..to], path, end);
-        at = to;
+        let next = segment_end(attr, at);
+        end = merge_segment(&attr[at + HEADER_BYTES..next], path, end);
+        at = next;
     }
     end.to
 }
 
 // Reads an attribute. Of a merged path the buffer takes as much as it holds.
-pub fn read(role: Role, neighbour: AsNumber, attr: &[u8], path: &mut [u32]) -> Reading
-    ensures { (result ≡ reading_of (content_of (role_number role) neighbour.0 attr.now))
-        × (path.new ≡ buffer_after (content_of (role_number role) neighbour.0 attr.now) path.old) }
+#[tactic(auto, unfolding(as_path::specs::Reading::content_of))]
+pub fn read(neighbour: Neighbour, attr: &[u8], path: &mut [u32]) -> Result<Reading, Refusal>
+    ensures { (result ≡ reading_of (content_of (role_number neighbour.role) neighbour.number.0 attr.now))
+        × (path.new ≡ buffer_after (content_of (role_number neighbour.role) neighbour.number.0 attr.now) path.old) }
 {
-    match first_fault(attr) {
-        Scan::Faulty(fault, at) => Reading::Refused(Refusal::Attribute(fault, at)),
-        Scan::Clean => match ground(role, neighbour, attr) {
-            Grounded::By(g) => Reading::OnGround(g),
-            Grounded::Not => {
-                let n = merge(attr, path);
-                if as_path::MOST_NUMBERS < n {
-                    return Reading::Refused(Refusal::PathLength);
-                }
-                Reading::Path(n)
-            }
-        },
+    if let Some((fault, at)) = first_fault(attr) {
+        return Err(Refusal::Attribute(fault, at));
     }
+    if let Some(ground) = ground(neighbour, attr) {
+        return Ok(Reading::OnGround(ground));
+    }
+    let n = merge(attr, path);
+    if MOST_NUMBERS < n {
+        return Err(Refusal::PathLength);
+    }
+    Ok(Reading::Path(n))
 }

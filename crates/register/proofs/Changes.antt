@@ -3,7 +3,6 @@ use Prim.Native.Nat.{ℕ, ◌+◌, ◌≤◌}
 use mathlib.Core.Path.{◌≡◌, refl, sym, ◌∙◌, ap}
 use mathlib.Core.Bool.{Bool, true, false, cond}
 use mathlib.Core.List.{List, [], ◌∷◌}
-use mathlib.Core.Option.{none, some}
 use native.Mathlib.Omega.{arith}
 use borrow.Author.Tests.{le-leb, leb-true, ltb-false}
 use lib.Dec.{leb, ltb, eqb}
@@ -17,6 +16,7 @@ use Rattle.register.specs.Register.{most_records, most_listed, last_source, key_
 use Rattle.register.specs.Calls.{put_record, erase_record, clear_records, count_records, of_source}
 use Rattle.register.specs.Calls.{find_record}
 use Rattle.register.proofs.Holding.{room_records, room_lists, has_room, each_ok, in-order}
+use Rattle.std.specs.Prelude.{None, Some}
 
 -- A record whose parts passed rows 4, 5 and 6.
 pub record-ok : (r : Record) → ltb last_source r.source ≡ false → eqb r.customer 0 ≡ false → list_ok r.customer r.providers ≡ true → record_ok r ≡ true
@@ -76,16 +76,16 @@ module _ (rs : List Record) (e : records_ok rs ≡ true) where
 -- ---- what is found after a call
 
 -- A filing changes the list of its own pair and of no other.
-pub filed_finds : (k : ℕ × ℕ) (r : Record) (rs : List Record) → find_record k (put_record r rs) ≡ cond (same_pair k (key_of r)) (some r) (find_record k rs)
+pub filed_finds : (k : ℕ × ℕ) (r : Record) (rs : List Record) → find_record k (put_record r rs) ≡ cond (same_pair k (key_of r)) (Some r) (find_record k rs)
 filed_finds k r rs = find_put key_of same_pair before_pair ordered_pairs k r rs
 
 -- A withdrawal takes out its own pair's list and no other.
 pub withdrawn_finds : (k : ℕ × ℕ) (customer source : ℕ) (rs : List Record)
-    → find_record k (erase_record customer source rs) ≡ cond (same_pair (customer, source) k) none (find_record k rs)
+    → find_record k (erase_record customer source rs) ≡ cond (same_pair (customer, source) k) None (find_record k rs)
 withdrawn_finds k customer source rs = find_without key_of same_pair before_pair ordered_pairs k (same_pair (customer, source)) rs
 
 -- A clearing takes out its own source's lists and no other.
-pub cleared_finds : (k : ℕ × ℕ) (source : ℕ) (rs : List Record) → find_record k (clear_records source rs) ≡ cond (eqb k.1 source) none (find_record k rs)
+pub cleared_finds : (k : ℕ × ℕ) (source : ℕ) (rs : List Record) → find_record k (clear_records source rs) ≡ cond (eqb k.1 source) None (find_record k rs)
 cleared_finds k source rs = find_without key_of same_pair before_pair ordered_pairs k (of_source source) rs
 
 -- A clearing's count is the number of that source's records before it.
@@ -93,7 +93,7 @@ pub cleared_count : (source : ℕ) (rs : List Record) → length (clear_records 
 cleared_count source rs = count_without key_of same_pair before_pair (of_source source) rs
 
 -- Room that is given up is used again: a record that is withdrawn and filed once more is where it was.
-pub refiled : (r : Record) (rs : List Record) → records_ok rs ≡ true → find_record (key_of r) rs ≡ some r
+pub refiled : (r : Record) (rs : List Record) → records_ok rs ≡ true → find_record (key_of r) rs ≡ Some r
     → put_record r (erase_record r.customer r.source rs) ≡ rs
 refiled r rs e f =
     same_finds key_of same_pair before_pair ordered_pairs _ rs
@@ -102,9 +102,9 @@ refiled r rs e f =
   where
     finds : (k : ℕ × ℕ) → find_record k (put_record r (erase_record r.customer r.source rs)) ≡ find_record k rs
     finds k =
-        filed_finds k r _ ∙ ap (cond (same_pair k (key_of r)) (some r)) (withdrawn_finds k r.customer r.source rs)
+        filed_finds k r _ ∙ ap (cond (same_pair k (key_of r)) (Some r)) (withdrawn_finds k r.customer r.source rs)
         ∙ go (same_pair k (key_of r)) refl
       where
-        go : (b : Bool) → same_pair k (key_of r) ≡ b → cond b (some r) (cond (same_pair (key_of r) k) none (find_record k rs)) ≡ find_record k rs
+        go : (b : Bool) → same_pair k (key_of r) ≡ b → cond b (Some r) (cond (same_pair (key_of r) k) None (find_record k rs)) ≡ find_record k rs
         go true q = sym f ∙ ap (λ j. find_record j rs) (sym (ordered_pairs.same_is k (key_of r) q))
         go false q = rw (same_flip same_pair before_pair ordered_pairs (key_of r) k, q)

@@ -4,14 +4,11 @@ use mathlib.Core.Path.{◌≡◌, refl, sym, ◌∙◌, ap}
 use mathlib.Core.Bool.{Bool, true, false, cond, and-false}
 use mathlib.Core.List.{List, [], ◌∷◌, ◌++◌, map}
 use native.Mathlib.Omega.{arith}
-use borrow.Author.Tests.{eq-eqb, ne_eqb, le-ltb, lt-ltb, le-leb, lt-leb}
+use borrow.Author.Tests.{eq-eqb, ne_eqb, le-ltb, lt-ltb, le-leb, lt-leb, eqb-true, ltb-false, not-false}
 use lib.Dec.{leb, eqb}
 use lib.ListN.{length, get_or, take, drop, length-append, length-drop}
 use lib.Seq.{length-take-le, take_at, drop_at}
 use Rattle.types.specs.declared.Refusal.TheVariants.{TableLength, RegisterMalformed, SourceNumber, CustomerZero, ProviderList, NoRecord, RegisterFull}
-use Rattle.types.specs.declared.Filed.TheVariants as filed
-use Rattle.types.specs.declared.Removal.TheVariants as removal
-use Rattle.types.specs.declared.Cleared.TheVariants as cleared
 use Rattle.types.specs.Rows.{first_given, effect}
 use Rattle.table.specs.Table.{counters, bodies, encode, decode, Sound, staying_entries, insert_at, remove_at}
 use Rattle.table.specs.Helpers.{Insertable, Removable, Clearable}
@@ -23,38 +20,88 @@ use Rattle.keyed.proofs.Puts.{length_put_new, length_put_over}
 use Rattle.rules.specs.Records.{Record}
 use Rattle.register.specs.Register.{record_head, record_tail, record_width, source_word, count_word, register_words, most_records, most_listed, last_source, entry_of, records_of, register_of, record_at, key_of, listed, list_ok, room_for, register_ok, position_of}
 use Rattle.register.specs.Helpers.{Passed}
-use Rattle.register.specs.Calls.{holds_record, put_record, erase_record, clear_records, count_records, record_for, file_effect, withdraw_effect, clear_effect}
+use Rattle.register.specs.Calls.{holds_record, put_record, erase_record, clear_records, count_records, record_for, file_effect, file_rows, withdraw_rows, clear_rows, withdraw_effect, clear_effect}
 use Rattle.register.proofs.Entries.{decoded, length_records, record_count, list_count, length_is, slot_within, listed_next, listed_take, bodies_listed, length_entries}
 use Rattle.register.proofs.Holding.{sound, records-ok, ordered, has_room, room_records, room_lists}
 use Rattle.register.proofs.Changes.{cleared_count}
 use Rattle.register.proofs.Placing.{inserted_entries, removed_entries, listed_append, listed_at, put_at, listed_new, put_in_position, position_within, listed_over, erase_position}
+use Rattle.std.specs.Prelude.{Ok, Err, Some, None}
+use Rattle.types.specs.declared.Refusal.{Refusal}
+use Rattle.types.proofs.Refusing.{accepted_none, row_passed, first_front}
+use Rattle.types.specs.declared.Filed.TheVariants.{New}
+use Rattle.types.specs.declared.Filed.TheVariants.{Replaced}
 
--- ---- the rows of a filing, one after the other
+-- ---- the rows that every call tests first, 1, 2 and 4
 
-module _ (ws : List ℕ) (source customer : ℕ) (list : List ℕ) where
-  pub file_length : (length ws ≡ register_words → ⊥) → file_effect ws source customer list ≡ record { answer = filed.Refused TableLength; words = ws }
-  unfolding file_effect first_given
-  file_length a = rw (ne_eqb (length ws) register_words a)
+module _ (ws : List ℕ) (source : ℕ) where
+  pub rows_length : (length ws ≡ register_words → ⊥) → first_given (clear_rows ws source) ≡ Some TableLength
+  unfolding first_given
+  rows_length a = rw (ne_eqb (length ws) register_words a)
 
   module _ (a : length ws ≡ register_words) where
-    pub file_malformed : register_ok ws ≡ false → file_effect ws source customer list ≡ record { answer = filed.Refused RegisterMalformed; words = ws }
-    unfolding file_effect first_given
-    file_malformed b = rw (eq-eqb (length ws) register_words a, b)
+    pub rows_malformed : register_ok ws ≡ false → first_given (clear_rows ws source) ≡ Some RegisterMalformed
+    unfolding first_given
+    rows_malformed b = rw (eq-eqb (length ws) register_words a, b)
 
     module _ (b : register_ok ws ≡ true) where
-      pub file_source : last_source < source → file_effect ws source customer list ≡ record { answer = filed.Refused SourceNumber; words = ws }
-      unfolding file_effect first_given
-      file_source c = rw (eq-eqb (length ws) register_words a, b, lt-ltb last_source source c)
+      pub rows_source : last_source < source → first_given (clear_rows ws source) ≡ Some SourceNumber
+      unfolding first_given
+      rows_source c = rw (eq-eqb (length ws) register_words a, b, lt-ltb last_source source c)
 
-      module _ (c : source ≤ last_source) where
-        pub file_customer : customer ≡ 0 → file_effect ws source customer list ≡ record { answer = filed.Refused CustomerZero; words = ws }
-        unfolding file_effect first_given
-        file_customer d = rw (eq-eqb (length ws) register_words a, b, le-ltb last_source source c, eq-eqb customer 0 d)
+      pub rows_pass : source ≤ last_source → first_given (clear_rows ws source) ≡ None
+      unfolding first_given
+      rows_pass c = rw (eq-eqb (length ws) register_words a, b, le-ltb last_source source c)
 
-        module _ (d : customer ≡ 0 → ⊥) where
-          pub file_list : list_ok customer list ≡ false → file_effect ws source customer list ≡ record { answer = filed.Refused ProviderList; words = ws }
-          unfolding file_effect first_given
-          file_list e = rw (eq-eqb (length ws) register_words a, b, le-ltb last_source source c, ne_eqb customer 0 d, e)
+-- What a call knows of which none is given.
+pub record Passes (ws : List ℕ) (source : ℕ) : Type 0 where
+  pub long : length ws ≡ register_words
+  pub ok : register_ok ws ≡ true
+  pub known : source ≤ last_source
+
+pub passes : (ws : List ℕ) (source : ℕ) → first_given (clear_rows ws source) ≡ None → Passes ws source
+passes ws source e =
+    let given = accepted_none (clear_rows ws source) e in
+    record {
+      long = eqb-true _ _ (not-false _ (row_passed _ _ (given 0)));
+      ok = not-false _ (row_passed _ _ (given 1));
+      known = ltb-false _ _ (row_passed _ _ (given 2));
+    }
+
+-- ---- a refusal by them
+
+pub file_early : (ws : List ℕ) (source customer : ℕ) (list : List ℕ) (r : Refusal) → first_given (clear_rows ws source) ≡ Some r
+    → effect (Err r) ws ≡ file_effect ws source customer list
+unfolding file_effect
+file_early ws source customer list r e =
+    let given : first_given (file_rows ws source customer list) ≡ Some r = first_front (clear_rows ws source) _ r e in
+    rw given
+
+pub withdraw_early : (ws : List ℕ) (source customer : ℕ) (r : Refusal) → first_given (clear_rows ws source) ≡ Some r
+    → effect (Err r) ws ≡ withdraw_effect ws source customer
+unfolding withdraw_effect
+withdraw_early ws source customer r e =
+    let given : first_given (withdraw_rows ws source customer) ≡ Some r = first_front (clear_rows ws source) _ r e in
+    rw given
+
+pub clear_early : (ws : List ℕ) (source : ℕ) (r : Refusal) → first_given (clear_rows ws source) ≡ Some r → effect (Err r) ws ≡ clear_effect ws source
+unfolding clear_effect
+clear_early ws source r e = rw e
+
+-- ---- the rows of a filing behind them
+
+module _ (ws : List ℕ) (source customer : ℕ) (list : List ℕ) (p : Passes ws source) where
+  pub file_customer : customer ≡ 0 → effect (Err CustomerZero) ws ≡ file_effect ws source customer list
+  unfolding file_effect first_given
+  file_customer d = rw (eq-eqb (length ws) register_words p.long, p.ok, le-ltb last_source source p.known, eq-eqb customer 0 d)
+
+  module _ (d : customer ≡ 0 → ⊥) where
+    pub file_list : list_ok customer list ≡ false → effect (Err ProviderList) ws ≡ file_effect ws source customer list
+    unfolding file_effect first_given
+    file_list e = rw (eq-eqb (length ws) register_words p.long, p.ok, le-ltb last_source source p.known, ne_eqb customer 0 d, e)
+
+    pub file_passed : list_ok customer list ≡ true → {position : ℕ} → position ≡ position_of customer source (records_of ws)
+        → Passed ws position source customer list
+    file_passed e h = record { long = p.long; ok = p.ok; known = p.known; some = d; rising = e; here = h }
 
 -- ---- row 8, and the filing
 
@@ -68,13 +115,13 @@ module _ {ws : List ℕ} {position source customer : ℕ} {list : List ℕ} (p :
   s : Sound record_head record_tail ws
   s = sound ws p.ok
 
-  pub file_full : room_for (put_record r rs) ≡ false → file_effect ws source customer list ≡ record { answer = filed.Refused RegisterFull; words = ws }
+  pub file_full : room_for (put_record r rs) ≡ false → file_effect ws source customer list ≡ record { answer = Err RegisterFull; words = ws }
   unfolding file_effect first_given
   file_full e =
       rw (eq-eqb (length ws) register_words p.long, p.ok, le-ltb last_source source p.known, ne_eqb customer 0 p.some, p.rising, e)
 
   pub file_done : (b : Bool) → holds_record customer source rs ≡ b → room_for (put_record r rs) ≡ true
-      → file_effect ws source customer list ≡ record { answer = cond b filed.Replaced filed.New; words = register_of (put_record r rs) }
+      → file_effect ws source customer list ≡ effect (Ok (cond b Replaced New)) (register_of (put_record r rs))
   unfolding file_effect first_given
   file_done b h e =
       rw (eq-eqb (length ws) register_words p.long, p.ok, le-ltb last_source source p.known, ne_eqb customer 0 p.some, p.rising, e, h)
@@ -101,13 +148,13 @@ module _ {ws : List ℕ} {position source customer : ℕ} {list : List ℕ} (p :
 
   -- A new record.
   module _ (free : holds_record customer source rs ≡ false) where
-    pub full_records : most_records ≤ length rs → file_effect ws source customer list ≡ record { answer = filed.Refused RegisterFull; words = ws }
+    pub full_records : most_records ≤ length rs → file_effect ws source customer list ≡ record { answer = Err RegisterFull; words = ws }
     unfolding room_for
     full_records h =
         let n : length (put_record r rs) ≡ suc (length rs) = length_put_new key_of same_pair before_pair r rs free in
         file_full (rw (lt-leb (length (put_record r rs)) most_records (omega arith)) refl)
 
-    pub full_lists : most_listed - listed rs < length list → file_effect ws source customer list ≡ record { answer = filed.Refused RegisterFull; words = ws }
+    pub full_lists : most_listed - listed rs < length list → file_effect ws source customer list ≡ record { answer = Err RegisterFull; words = ws }
     unfolding room_for
     full_lists h =
         let b : listed (put_record r rs) ≡ listed rs + length list = listed_new r rs free in
@@ -126,9 +173,9 @@ module _ {ws : List ℕ} {position source customer : ℕ} {list : List ℕ} (p :
           }
 
       pub new_done : {ws' : List ℕ} → ws' ≡ encode (length ws) (insert_at position (entry_of r) (decode record_head record_tail ws))
-          → effect filed.New ws' ≡ file_effect ws source customer list
+          → effect (Ok New) ws' ≡ file_effect ws source customer list
       unfolding room_for register_of
-      new_done {ws'} e = ap (effect filed.New) (e ∙ words) ∙ sym done
+      new_done {ws'} e = ap (effect (Ok New)) (e ∙ words) ∙ sym done
         where
           fits : room_for (put_record r rs) ≡ true
           fits =
@@ -136,7 +183,7 @@ module _ {ws : List ℕ} {position source customer : ℕ} {list : List ℕ} (p :
               let b : listed (put_record r rs) ≡ listed rs + length list = listed_new r rs free in
               both_intro _ _ (le-leb (length (put_record r rs)) most_records (omega arith)) (le-leb (listed (put_record r rs)) most_listed (omega (arith, little)))
 
-          done : file_effect ws source customer list ≡ record { answer = filed.New; words = register_of (put_record r rs) }
+          done : file_effect ws source customer list ≡ record { answer = Ok New; words = register_of (put_record r rs) }
           done = file_done false free fits
 
           words : encode (length ws) (insert_at position (entry_of r) (decode record_head record_tail ws)) ≡ encode register_words (map entry_of (put_record r rs))
@@ -166,7 +213,7 @@ module _ {ws : List ℕ} {position source customer : ℕ} {list : List ℕ} (p :
     others = rw p.here (listed_over r rs asc taken)
 
     pub full_over : most_listed - (listed rs - length (record_at rs position).providers) < length list
-        → file_effect ws source customer list ≡ record { answer = filed.Refused RegisterFull; words = ws }
+        → file_effect ws source customer list ≡ record { answer = Err RegisterFull; words = ws }
     unfolding room_for
     full_over h =
         file_full (rw (lt-leb (listed (put_record r rs)) most_listed (omega (arith, others, old_within, little))) (and-false (leb (length (put_record r rs)) most_records)))
@@ -208,16 +255,16 @@ module _ {ws : List ℕ} {position source customer : ℕ} {list : List ℕ} (p :
           }
 
       pub over_done : {ws₂ : List ℕ} → ws₂ ≡ encode (length ws₁) (insert_at position (entry_of r) (decode record_head record_tail ws₁))
-          → effect filed.Replaced ws₂ ≡ file_effect ws source customer list
+          → effect (Ok Replaced) ws₂ ≡ file_effect ws source customer list
       unfolding room_for register_of
-      over_done {ws₂} e = ap (effect filed.Replaced) (e ∙ words) ∙ sym done
+      over_done {ws₂} e = ap (effect (Ok Replaced)) (e ∙ words) ∙ sym done
         where
           fits : room_for (put_record r rs) ≡ true
           fits =
               let n : length (put_record r rs) ≡ length rs = length_put_over key_of same_pair before_pair ordered_pairs r rs asc taken in
               both_intro _ _ (le-leb (length (put_record r rs)) most_records (omega (arith, few))) (le-leb (listed (put_record r rs)) most_listed (omega (arith, others, old_within, little)))
 
-          done : file_effect ws source customer list ≡ record { answer = filed.Replaced; words = register_of (put_record r rs) }
+          done : file_effect ws source customer list ≡ record { answer = Ok Replaced; words = register_of (put_record r rs) }
           done = file_done true taken fits
 
           put_here : put_record r rs ≡ take position rs ++ (r ∷ drop (suc position) rs)
@@ -232,51 +279,36 @@ module _ {ws : List ℕ} {position source customer : ℕ} {list : List ℕ} (p :
 
 -- ---- Withdraw
 
-module _ (ws : List ℕ) (source customer : ℕ) where
-  pub withdraw_length : (length ws ≡ register_words → ⊥) → withdraw_effect ws source customer ≡ record { answer = removal.Refused TableLength; words = ws }
+module _ (ws : List ℕ) (source customer : ℕ) (p : Passes ws source) where
+  pub withdraw_customer : customer ≡ 0 → effect (Err CustomerZero) ws ≡ withdraw_effect ws source customer
   unfolding withdraw_effect first_given
-  withdraw_length a = rw (ne_eqb (length ws) register_words a)
+  withdraw_customer d = rw (eq-eqb (length ws) register_words p.long, p.ok, le-ltb last_source source p.known, eq-eqb customer 0 d)
 
-  module _ (a : length ws ≡ register_words) where
-    pub withdraw_malformed : register_ok ws ≡ false → withdraw_effect ws source customer ≡ record { answer = removal.Refused RegisterMalformed; words = ws }
+  module _ (d : customer ≡ 0 → ⊥) where
+    pub withdraw_none : holds_record customer source (records_of ws) ≡ false → effect (Err NoRecord) ws ≡ withdraw_effect ws source customer
     unfolding withdraw_effect first_given
-    withdraw_malformed b = rw (eq-eqb (length ws) register_words a, b)
+    withdraw_none e = rw (eq-eqb (length ws) register_words p.long, p.ok, le-ltb last_source source p.known, ne_eqb customer 0 d, e)
 
-    module _ (b : register_ok ws ≡ true) where
-      pub withdraw_source : last_source < source → withdraw_effect ws source customer ≡ record { answer = removal.Refused SourceNumber; words = ws }
-      unfolding withdraw_effect first_given
-      withdraw_source c = rw (eq-eqb (length ws) register_words a, b, lt-ltb last_source source c)
+    module _ (e : holds_record customer source (records_of ws) ≡ true) {position : ℕ} (f : position ≡ position_of customer source (records_of ws)) where
+      asc' : ascends key_of same_pair before_pair (records_of ws) ≡ true
+      asc' = ordered ws p.ok
 
-      module _ (c : source ≤ last_source) where
-        pub withdraw_customer : customer ≡ 0 → withdraw_effect ws source customer ≡ record { answer = removal.Refused CustomerZero; words = ws }
-        unfolding withdraw_effect first_given
-        withdraw_customer d = rw (eq-eqb (length ws) register_words a, b, le-ltb last_source source c, eq-eqb customer 0 d)
+      pub withdraw_goes : Removable record_head record_tail ws position
+      withdraw_goes =
+          let h : position < length (records_of ws) = rw f (position_within (record_for source customer []) (records_of ws) asc' e) in
+          record { sound = sound ws p.ok; within = omega (arith, length_records ws (sound ws p.ok)); small = omega (arith, p.long) }
 
-        module _ (d : customer ≡ 0 → ⊥) where
-          pub withdraw_none : holds_record customer source (records_of ws) ≡ false → withdraw_effect ws source customer ≡ record { answer = removal.Refused NoRecord; words = ws }
-          unfolding withdraw_effect first_given
-          withdraw_none e = rw (eq-eqb (length ws) register_words a, b, le-ltb last_source source c, ne_eqb customer 0 d, e)
-
-          module _ (e : holds_record customer source (records_of ws) ≡ true) {position : ℕ} (f : position ≡ position_of customer source (records_of ws)) where
-            asc' : ascends key_of same_pair before_pair (records_of ws) ≡ true
-            asc' = ordered ws b
-
-            pub withdraw_goes : Removable record_head record_tail ws position
-            withdraw_goes =
-                let h : position < length (records_of ws) = rw f (position_within (record_for source customer []) (records_of ws) asc' e) in
-                record { sound = sound ws b; within = omega (arith, length_records ws (sound ws b)); small = omega (arith, a) }
-
-            pub withdraw_done : {ws' : List ℕ} → ws' ≡ encode (length ws) (remove_at position (decode record_head record_tail ws))
-                → effect removal.Done ws' ≡ withdraw_effect ws source customer
-            unfolding register_of withdraw_effect first_given
-            withdraw_done {ws'} g =
-                rw (eq-eqb (length ws) register_words a, b, le-ltb last_source source c, ne_eqb customer 0 d, e) (ap (effect removal.Done) (g ∙ words))
-              where
-                words : encode (length ws) (remove_at position (decode record_head record_tail ws)) ≡ encode register_words (map entry_of (erase_record customer source (records_of ws)))
-                words =
-                    (λ i. encode (a i) (remove_at (f i) (decoded ws (sound ws b) i)))
-                    ∙ ap (encode register_words)
-                    (removed_entries (position_of customer source (records_of ws)) (records_of ws) ∙ ap (map entry_of) (sym (erase_position customer source (records_of ws) asc' e)))
+      pub withdraw_done : {ws' : List ℕ} → ws' ≡ encode (length ws) (remove_at position (decode record_head record_tail ws))
+          → effect (Ok tt) ws' ≡ withdraw_effect ws source customer
+      unfolding register_of withdraw_effect first_given
+      withdraw_done {ws'} g =
+          rw (eq-eqb (length ws) register_words p.long, p.ok, le-ltb last_source source p.known, ne_eqb customer 0 d, e) (ap (effect (Ok tt)) (g ∙ words))
+        where
+          words : encode (length ws) (remove_at position (decode record_head record_tail ws)) ≡ encode register_words (map entry_of (erase_record customer source (records_of ws)))
+          words =
+              (λ i. encode (p.long i) (remove_at (f i) (decoded ws (sound ws p.ok) i)))
+              ∙ ap (encode register_words)
+              (removed_entries (position_of customer source (records_of ws)) (records_of ws) ∙ ap (map entry_of) (sym (erase_position customer source (records_of ws) asc' e)))
 
 -- ---- Clear
 
@@ -292,43 +324,29 @@ kept_entries source (r ∷ rs) = go (eqb r.source source) (kept_entries source r
     go true h = h
     go false h = ap (λ l. entry_of r ∷ l) h
 
-module _ (ws : List ℕ) (source : ℕ) where
-  pub clear_length : (length ws ≡ register_words → ⊥) → clear_effect ws source ≡ record { answer = cleared.Refused TableLength; words = ws }
-  unfolding clear_effect first_given
-  clear_length a = rw (ne_eqb (length ws) register_words a)
+module _ (ws : List ℕ) (source : ℕ) (p : Passes ws source) where
+  pub clear_may : Clearable record_head record_tail ws source_word
+  clear_may = record { sound = sound ws p.ok; within = omega arith; small = omega (arith, p.long) }
 
-  module _ (a : length ws ≡ register_words) where
-    pub clear_malformed : register_ok ws ≡ false → clear_effect ws source ≡ record { answer = cleared.Refused RegisterMalformed; words = ws }
-    unfolding clear_effect first_given
-    clear_malformed b = rw (eq-eqb (length ws) register_words a, b)
+  kept : staying_entries source_word source (decode record_head record_tail ws) ≡ map entry_of (clear_records source (records_of ws))
+  kept = ap (staying_entries source_word source) (decoded ws (sound ws p.ok)) ∙ kept_entries source (records_of ws)
 
-    module _ (b : register_ok ws ≡ true) where
-      pub clear_source : last_source < source → clear_effect ws source ≡ record { answer = cleared.Refused SourceNumber; words = ws }
-      unfolding clear_effect first_given
-      clear_source c = rw (eq-eqb (length ws) register_words a, b, lt-ltb last_source source c)
+  module _ {gone : ℕ} (g : gone + length (staying_entries source_word source (decode record_head record_tail ws)) ≡ length (decode record_head record_tail ws)) where
+    pub gone_is : gone ≡ count_records source (records_of ws)
+    gone_is =
+        omega (
+          arith,
+          cleared_count source (records_of ws),
+          ap length kept ∙ length_entries (clear_records source (records_of ws)),
+          length_records ws (sound ws p.ok),
+        )
 
-      pub clear_may : Clearable record_head record_tail ws source_word
-      clear_may = record { sound = sound ws b; within = omega arith; small = omega (arith, a) }
+    pub gone_few : gone ≤ most_records
+    gone_few = omega (arith, length_records ws (sound ws p.ok), room_records (records_of ws) (has_room (records_of ws) (records-ok ws p.ok)))
 
-      kept : staying_entries source_word source (decode record_head record_tail ws) ≡ map entry_of (clear_records source (records_of ws))
-      kept = ap (staying_entries source_word source) (decoded ws (sound ws b)) ∙ kept_entries source (records_of ws)
-
-      module _ {gone : ℕ} (g : gone + length (staying_entries source_word source (decode record_head record_tail ws)) ≡ length (decode record_head record_tail ws)) where
-        pub gone_is : gone ≡ count_records source (records_of ws)
-        gone_is =
-            omega (
-              arith,
-              cleared_count source (records_of ws),
-              ap length kept ∙ length_entries (clear_records source (records_of ws)),
-              length_records ws (sound ws b),
-            )
-
-        pub gone_few : gone ≤ most_records
-        gone_few = omega (arith, length_records ws (sound ws b), room_records (records_of ws) (has_room (records_of ws) (records-ok ws b)))
-
-        pub clear_done : {ws' : List ℕ} → source ≤ last_source → ws' ≡ encode (length ws) (staying_entries source_word source (decode record_head record_tail ws))
-            → effect (cleared.Gone gone) ws' ≡ clear_effect ws source
-        unfolding clear_effect first_given register_of
-        clear_done c e =
-            rw (eq-eqb (length ws) register_words a, b, le-ltb last_source source c)
-            (λ i. effect (cleared.Gone (gone_is i)) ((e ∙ (λ j. encode (a j) (kept j))) i))
+    pub clear_done : {ws' : List ℕ} → ws' ≡ encode (length ws) (staying_entries source_word source (decode record_head record_tail ws))
+        → effect (Ok gone) ws' ≡ clear_effect ws source
+    unfolding clear_effect first_given register_of
+    clear_done e =
+        rw (eq-eqb (length ws) register_words p.long, p.ok, le-ltb last_source source p.known)
+        (λ i. effect (Ok (gone_is i)) ((e ∙ (λ j. encode (p.long j) (kept j))) i))

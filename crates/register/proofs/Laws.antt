@@ -3,12 +3,9 @@ use Prim.Native.Nat.{ℕ, ◌+◌, ◌≤◌}
 use mathlib.Core.Path.{◌≡◌, refl, sym, ◌∙◌, ap}
 use mathlib.Core.Bool.{Bool, true, false, cond}
 use mathlib.Core.List.{List}
-use mathlib.Core.Option.{none, some}
 use native.Mathlib.Omega.{arith}
 use borrow.Author.Tests.{not-false, eq-eqb, ne_eqb, le-ltb}
 use lib.ListN.{length}
-use Rattle.types.specs.declared.Filed.TheVariants.{New}
-use Rattle.types.specs.declared.Cleared.TheVariants.{Gone}
 use Rattle.types.specs.Rows.{first_given, effect}
 use Rattle.types.proofs.Refusing.{row_passed, accepted_none}
 use Rattle.keyed.specs.Keyed.{same_pair, before_pair, without}
@@ -27,6 +24,8 @@ use Rattle.register.proofs.Changes as changes
 use Rattle.register.proofs.Refusals.{records_register, file_preserves, withdraw_preserves, clear_preserves}
 use Rattle.register.proofs.Filing.{file_done}
 use Rattle.register.proofs.Uniting as uniting
+use Rattle.std.specs.Prelude.{None, Ok, Some}
+use Rattle.types.specs.declared.Filed.TheVariants.{New}
 
 -- Records that fit are read back from their words.
 read_back : (rs : List Record) → room_for rs ≡ true → records_of (register_of rs) ≡ rs
@@ -34,7 +33,7 @@ read_back rs e = records_of_words rs (room_records rs e) (room_lists rs e)
 
 -- ---- accepted calls
 
-module _ (ws : List ℕ) (source customer : ℕ) (list : List ℕ) (e : first_given (file_rows ws source customer list) ≡ none) where
+module _ (ws : List ℕ) (source customer : ℕ) (list : List ℕ) (e : first_given (file_rows ws source customer list) ≡ None) where
   file_words : (file_effect ws source customer list).words ≡ register_of (put_record (record_for source customer list) (records_of ws))
   unfolding file_effect
   file_words = rw e
@@ -50,7 +49,7 @@ rest_back : (ws : List ℕ) (test : ℕ × ℕ → Bool) → register_ok ws ≡ 
     → records_of (register_of (without key_of same_pair before_pair test (records_of ws))) ≡ without key_of same_pair before_pair test (records_of ws)
 rest_back ws test ok = read_back _ (has_room _ (without_ok (records_of ws) (records-ok ws ok) test))
 
-module _ (ws : List ℕ) (source customer : ℕ) (e : first_given (withdraw_rows ws source customer) ≡ none) where
+module _ (ws : List ℕ) (source customer : ℕ) (e : first_given (withdraw_rows ws source customer) ≡ None) where
   withdraw_words : (withdraw_effect ws source customer).words ≡ register_of (erase_record customer source (records_of ws))
   unfolding withdraw_effect
   withdraw_words = rw e
@@ -60,8 +59,8 @@ module _ (ws : List ℕ) (source customer : ℕ) (e : first_given (withdraw_rows
       ap records_of withdraw_words
       ∙ rest_back ws (same_pair (customer, source)) (not-false _ (row_passed _ _ (accepted_none (withdraw_rows ws source customer) e 1)))
 
-module _ (ws : List ℕ) (source : ℕ) (e : first_given (clear_rows ws source) ≡ none) where
-  clear_is : clear_effect ws source ≡ effect (Gone (count_records source (records_of ws))) (register_of (clear_records source (records_of ws)))
+module _ (ws : List ℕ) (source : ℕ) (e : first_given (clear_rows ws source) ≡ None) where
+  clear_is : clear_effect ws source ≡ effect (Ok (count_records source (records_of ws))) (register_of (clear_records source (records_of ws)))
   unfolding clear_effect
   clear_is = rw e
 
@@ -71,7 +70,7 @@ module _ (ws : List ℕ) (source : ℕ) (e : first_given (clear_rows ws source) 
 
 -- ---- a record withdrawn and filed once more
 
-module _ (ws : List ℕ) (r : Record) (w : Register ws) (f : find_record (key_of r) (records_of ws) ≡ some r) where
+module _ (ws : List ℕ) (r : Record) (w : Register ws) (f : find_record (key_of r) (records_of ws) ≡ Some r) where
   abbrev rs : List Record
   rs = records_of ws
 
@@ -104,8 +103,8 @@ module _ (ws : List ℕ) (r : Record) (w : Register ws) (f : find_record (key_of
   rest_read : records_of (register_of rest) ≡ rest
   rest_read = read_back rest (has_room rest rest_ok)
 
-  gone : find_record (key_of r) rest ≡ none
-  gone = withdrawn_finds (key_of r) r.customer r.source rs ∙ ap (λ b. cond b none (find_record (key_of r) rs)) (ordered_pairs.same_self (key_of r))
+  gone : find_record (key_of r) rest ≡ None
+  gone = withdrawn_finds (key_of r) r.customer r.source rs ∙ ap (λ b. cond b None (find_record (key_of r) rs)) (ordered_pairs.same_self (key_of r))
 
   rest_free : holds_record r.customer r.source (records_of (register_of rest)) ≡ false
   rest_free = ap (holds_record r.customer r.source) rest_read ∙ find_holds key_of same_pair before_pair (key_of r) rest ∙ ap is_some gone
@@ -118,11 +117,11 @@ module _ (ws : List ℕ) (r : Record) (w : Register ws) (f : find_record (key_of
       let formed = records_register rest rest_ok in
       record { long = formed.long; ok = formed.ok; known = source_known; some = customer_some; rising = record_list r own; here = refl }
 
-  refiled : file_effect (withdraw_effect ws r.source r.customer).words r.source r.customer r.providers ≡ effect New ws
+  refiled : file_effect (withdraw_effect ws r.source r.customer).words r.source r.customer r.providers ≡ effect (Ok New) ws
   refiled =
       ap (λ l. file_effect l r.source r.customer r.providers) taken_out
       ∙ file_done passed false rest_free (ap room_for put_back ∙ has_room rs ok)
-      ∙ ap (effect New) (ap register_of put_back ∙ sym (words_are ws (sound ws w.ok) w.long))
+      ∙ ap (effect (Ok New)) (ap register_of put_back ∙ sym (words_are ws (sound ws w.ok) w.long))
 
 pub register_laws : RegisterLaws
 register_laws = record {

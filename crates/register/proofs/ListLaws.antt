@@ -9,7 +9,6 @@ use borrow.Author.Tests.{le-leb, leb-true, leb-false}
 use lib.Dec.{leb}
 use lib.ListN.{length}
 use Rattle.types.specs.declared.Refusal.TheVariants.{ProviderList}
-use Rattle.types.specs.declared.Filed.TheVariants.{Refused}
 use Rattle.types.specs.declared.Origin.{Origin}
 use Rattle.types.specs.declared.Hop.TheVariants.{ProviderPlus}
 use Rattle.types.proofs.Clashes.{clash}
@@ -26,6 +25,7 @@ use Rattle.register.proofs.Holding.{records-ok, has_room, each_ok, in-order}
 use Rattle.register.proofs.Changes.{record_customer, record_source, record_list}
 use Rattle.register.proofs.Filing.{file_list, file_full, file_done}
 use Rattle.register.proofs.Uniting.{united_listed, hop_is}
+use Rattle.std.specs.Prelude.{Err}
 
 -- ---- a list that may not be filed
 
@@ -70,20 +70,20 @@ from_bad customer l b e = go b
 -- ---- row 6
 
 module _ (ws : List ℕ) (w : Register ws) (source customer : ℕ) (list : List ℕ) (known : source ≤ last_source) (some : 1 ≤ customer) where
-  row_six : ((file_effect ws source customer list).answer ≡ Refused ProviderList) ↔ BadList customer list
+  row_six : ((file_effect ws source customer list).answer ≡ Err ProviderList) ↔ BadList customer list
   row_six = (to (list_ok customer list) refl, λ b. from (list_ok customer list) refl b)
     where
       some_customer : customer ≡ 0 → ⊥
       some_customer e = omega arith
 
-      refused : list_ok customer list ≡ false → (file_effect ws source customer list).answer ≡ Refused ProviderList
-      refused e = ap (λ s. s.answer) (file_list ws source customer list w.long w.ok known some_customer e)
+      refused : list_ok customer list ≡ false → (file_effect ws source customer list).answer ≡ Err ProviderList
+      refused e = ap (λ s. s.answer) (sym (file_list ws source customer list (record { long = w.long; ok = w.ok; known = known }) some_customer e))
 
       passes : list_ok customer list ≡ true → Passed ws (position_of customer source (records_of ws)) source customer list
       passes e = record { long = w.long; ok = w.ok; known = known; some = some_customer; rising = e; here = refl }
 
       room : list_ok customer list ≡ true → (b : Bool) → room_for (put_record (record_for source customer list) (records_of ws)) ≡ b
-          → (file_effect ws source customer list).answer ≡ Refused ProviderList → ⊥
+          → (file_effect ws source customer list).answer ≡ Err ProviderList → ⊥
       room e false r h = let z = ap (λ s. s.answer) (file_full (passes e) r) in clash (cc)
       room e true r h = done (holds_record customer source (records_of ws)) refl
         where
@@ -91,11 +91,11 @@ module _ (ws : List ℕ) (w : Register ws) (source customer : ℕ) (list : List 
           done true q = let z = ap (λ s. s.answer) (file_done (passes e) true q r) in clash (cc)
           done false q = let z = ap (λ s. s.answer) (file_done (passes e) false q r) in clash (cc)
 
-      to : (b : Bool) → list_ok customer list ≡ b → (file_effect ws source customer list).answer ≡ Refused ProviderList → BadList customer list
+      to : (b : Bool) → list_ok customer list ≡ b → (file_effect ws source customer list).answer ≡ Err ProviderList → BadList customer list
       to false e h = to_bad customer list e
       to true e h = absurd (room e (room_for (put_record (record_for source customer list) (records_of ws))) refl h)
 
-      from : (b : Bool) → list_ok customer list ≡ b → BadList customer list → (file_effect ws source customer list).answer ≡ Refused ProviderList
+      from : (b : Bool) → list_ok customer list ≡ b → BadList customer list → (file_effect ws source customer list).answer ≡ Err ProviderList
       from false e b = refused e
       from true e b = absurd (from_bad customer list b e)
 

@@ -6,7 +6,7 @@ use mathlib.Core.List.{List}
 use native.Mathlib.Omega.{arith}
 use borrow.Author.Tests.{eq-eqb, ne_eqb}
 use lib.Dec.{eqb}
-use lib.ListN.{length, get_or}
+use lib.ListN.{length, get_or, take, drop}
 use Rattle.table.specs.Table.{counters}
 use Rattle.table.proofs.Sounds.{long}
 use Rattle.keyed.specs.Keyed.{same_pair, before_pair, ascends}
@@ -18,10 +18,11 @@ use Rattle.halves.proofs.Positions.{alike, at_rank}
 use Rattle.halves.proofs.Counts.{eleven}
 use Rattle.halves.proofs.Searches as searches
 use Rattle.rules.specs.Records.{Record}
-use Rattle.register.specs.Register.{record_head, record_tail, record_width, source_word, most_records, records_of, record_at, key_of, position_of, register_ok}
+use Rattle.register.specs.Register.{record_head, record_tail, record_width, source_word, start_word, count_word, most_records, records_of, record_at}
+use Rattle.register.specs.Register.{key_of, position_of, listed, register_ok}
 use Rattle.register.specs.Helpers.{most_steps}
 use Rattle.register.specs.Calls.{holds_record}
-use Rattle.register.proofs.Entries.{record_count, customer_is, source_is, slot_within}
+use Rattle.register.proofs.Entries.{record_count, customer_is, source_is, slot_within, list_start, length_is, list_is, list_within}
 use Rattle.register.proofs.Holding.{sound, records-ok, ordered, has_room, room_records}
 
 -- ---- positions among records
@@ -47,6 +48,10 @@ module _ (ws : List ℕ) (e : register_ok ws ≡ true) where
   pub few : length (records_of ws) ≤ most_records
   few = room_records (records_of ws) (has_room (records_of ws) (records-ok ws e))
 
+  -- No position is behind the last record's.
+  pub position_within : (c s : ℕ) → position_of c s (records_of ws) ≤ length (records_of ws)
+  position_within c s = (begins (records_of ws) (ordered ws e) c s).within
+
   -- Slot i is within the words.
   pub slot_in : (i : ℕ) → i < length (records_of ws) → counters + i * record_width + record_width ≤ length ws
   slot_in i h = slot_within ws (sound ws e) i h
@@ -56,35 +61,60 @@ module _ (ws : List ℕ) (e : register_ok ws ≡ true) where
       → ◌≡◌ {A = ℕ × ℕ} (get_or ws (counters + i * record_width) 0, get_or ws (counters + i * record_width + source_word) 0) (key_of (record_at (records_of ws) i))
   key_is i h = λ q. (customer_is ws (sound ws e) i h q, source_is ws (sound ws e) i h q)
 
-  module _ (c s : ℕ) {position n : ℕ} (p : position ≡ position_of c s (records_of ws)) (q : n ≡ get_or ws 0 0) where
+  module _ (i : ℕ) (h : i < length (records_of ws)) where
+    -- The words of slot i.
+    pub customer_in : get_or ws (counters + i * record_width) 0 ≡ (record_at (records_of ws) i).customer
+    customer_in = customer_is ws (sound ws e) i h
+
+    pub source_in : get_or ws (counters + i * record_width + source_word) 0 ≡ (record_at (records_of ws) i).source
+    source_in = source_is ws (sound ws e) i h
+
+    pub start_in : get_or ws (counters + i * record_width + start_word) 0 ≡ listed (take i (records_of ws))
+    start_in = list_start ws (sound ws e) i h
+
+    pub count_in : get_or ws (counters + i * record_width + count_word) 0 ≡ length (record_at (records_of ws) i).providers
+    count_in = length_is ws (sound ws e) i h
+
+    -- Its list ends within the words.
+    pub list_in :
+        counters + length (records_of ws) * record_width + listed (take i (records_of ws)) + length (record_at (records_of ws) i).providers
+        ≤ length ws
+    list_in = list_within ws (sound ws e) i h
+
+    -- It is the part of the words that begins there.
+    pub list_part : (from n : ℕ) → from ≡ counters + length (records_of ws) * record_width + listed (take i (records_of ws))
+        → n ≡ length (record_at (records_of ws) i).providers → take (from + n - from) (drop from ws) ≡ (record_at (records_of ws) i).providers
+    list_part from n ef en =
+        let z : from + n - from ≡ length (record_at (records_of ws) i).providers = omega arith in
+        rw (z, ef) (list_is ws (sound ws e) i h)
+
+  module _ (c s : ℕ) {position : ℕ} (p : position ≡ position_of c s (records_of ws)) where
     -- Past the last record the register does not hold the pair's.
-    pub past : n ≤ position → false ≡ holds_record c s (records_of ws)
+    pub past : length (records_of ws) ≤ position → false ≡ holds_record c s (records_of ws)
     unfolding position_of
     past h =
         sym (holds_not_end key_of same_pair before_pair ordered_pairs (c, s) (records_of ws) (ordered ws e)
-        (omega (arith, count_is, (begins (records_of ws) (ordered ws e) c s).within)))
+        (omega (arith, position_within c s)))
 
-    module _ (h : position < n) where
-      -- The slot at the position is within the words.
-      pub there_in : counters + position * record_width + record_width ≤ length ws
-      there_in = slot_in position (omega (arith, count_is))
-
-      -- What stands at the position decides whether the register holds the record.
-      decides : holds_record c s (records_of ws) ≡ (eqb (get_or ws (counters + position * record_width) 0) c && eqb (get_or ws (counters + position * record_width + source_word) 0) s)
+    module _ (h : position < length (records_of ws)) where
+      -- The record at the position decides whether the register holds the pair's.
+      decides : holds_record c s (records_of ws) ≡ (eqb (record_at (records_of ws) position).customer c && eqb (record_at (records_of ws) position).source s)
       unfolding position_of
       decides =
           rw p (
-          holds_is key_of same_pair before_pair ordered_pairs (c, s) (records_of ws) _ (ordered ws e) (omega (arith, count_is))
-          ∙ same_flip same_pair before_pair ordered_pairs (c, s) (key_of (record_at (records_of ws) (position_of c s (records_of ws))))
-          ∙ (λ t. same_pair (sym (key_is (position_of c s (records_of ws)) (omega (arith, count_is))) t) (c, s)))
+          holds_is key_of same_pair before_pair ordered_pairs (c, s) (records_of ws) _ (ordered ws e) (omega arith)
+          ∙ same_flip same_pair before_pair ordered_pairs (c, s) (key_of (record_at (records_of ws) (position_of c s (records_of ws)))))
 
       -- The customer is the pair's: the source decides.
-      pub there : get_or ws (counters + position * record_width) 0 ≡ c → eqb (get_or ws (counters + position * record_width + source_word) 0) s ≡ holds_record c s (records_of ws)
-      there t = rw (decides, eq-eqb (get_or ws (counters + position * record_width) 0) c t)
+      pub there : (record_at (records_of ws) position).customer ≡ c → eqb (record_at (records_of ws) position).source s ≡ holds_record c s (records_of ws)
+      there t = rw (decides, eq-eqb (record_at (records_of ws) position).customer c t)
 
       -- It is not: the register does not hold the record.
-      pub other : (get_or ws (counters + position * record_width) 0 ≡ c → ⊥) → false ≡ holds_record c s (records_of ws)
-      other t = rw (decides, ne_eqb (get_or ws (counters + position * record_width) 0) c t)
+      pub other : ((record_at (records_of ws) position).customer ≡ c → ⊥) → false ≡ holds_record c s (records_of ws)
+      other t = rw (decides, ne_eqb (record_at (records_of ws) position).customer c t)
+
+-- What the words of a well-formed register say of its records.
+pub ruleset words = (head_within, count_is, few, slot_in, customer_in, source_in, start_in, count_in, list_in, list_part)
 
 -- ---- the search
 

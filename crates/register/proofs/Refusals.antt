@@ -1,22 +1,17 @@
 -- Each call is refused by the first of its rows that is given, and by no other; a refusal leaves the words. Assumes nothing.
 use Prim.Native.Nat.{ℕ}
 use mathlib.Core.Path.{◌≡◌, refl}
-use mathlib.Core.Bool.{Bool, true, false, cond, not}
+use mathlib.Core.Bool.{true, not}
 use mathlib.Core.Logic.{◌↔◌}
 use mathlib.Core.List.{List, [], ◌∷◌, map}
-use mathlib.Core.Option.{Option, none, some}
 use borrow.Author.Tests.{not-false}
-use native.Mathlib.Omega.{arith}
 use lib.Dec.{ltb, eqb}
 use lib.ListN.{length}
 use Rattle.types.specs.declared.Refusal.{Refusal}
 use Rattle.types.specs.declared.Refusal.TheVariants.{TableLength, RegisterMalformed, SourceNumber, CustomerZero, ProviderList, NoRecord, RegisterFull}
 use Rattle.types.specs.Numbers.{refusal_number}
-use Rattle.types.specs.declared.Filed.TheVariants as filed
-use Rattle.types.specs.declared.Removal.TheVariants as removal
-use Rattle.types.specs.declared.Cleared.TheVariants as cleared
-use Rattle.types.specs.Rows.{first_given, unless_refused, FirstAt, Numbered}
-use Rattle.types.proofs.Refusing.{row_passed, accepted_none, answers_first, refusal_leaves, numbered, removal_apart, removal_same}
+use Rattle.types.specs.Rows.{first_given, effect, unless_refused, FirstAt, Numbered}
+use Rattle.types.proofs.Refusing.{row_passed, accepted_none, answers_first, refusal_leaves, numbered}
 use Rattle.table.proofs.Exact.{length_encode}
 use Rattle.keyed.specs.Keyed.{same_pair}
 use Rattle.rules.specs.Records.{Record}
@@ -26,68 +21,53 @@ pub use Rattle.register.specs.Laws.{Register}
 use Rattle.register.proofs.Entries.{entries_wide, records_fit}
 use Rattle.register.proofs.Holding.{room_records, room_lists, has_room, words_ok, records-ok}
 use Rattle.register.proofs.Changes.{record-ok, put_ok, without_ok}
-
--- A refusal is told from an acceptance, and from every other refusal.
-filed_apart : (b : Bool) (r : Refusal) → cond b filed.Replaced filed.New ≡ filed.Refused r → ⊥
-filed_apart true r e = let z : ◌≡◌ {A = ℕ} 0 1 = cc in omega arith
-filed_apart false r e = let z : ◌≡◌ {A = ℕ} 0 1 = cc in omega arith
-
-filed_same : (r s : Refusal) → filed.Refused r ≡ filed.Refused s → r ≡ s
-filed_same r s e = cc
-
-cleared_apart : (n : ℕ) (r : Refusal) → cleared.Gone n ≡ cleared.Refused r → ⊥
-cleared_apart n r e = let z : ◌≡◌ {A = ℕ} 0 1 = cc in omega arith
-
-cleared_same : (r s : Refusal) → cleared.Refused r ≡ cleared.Refused s → r ≡ s
-cleared_same r s e = cc
+use Rattle.std.specs.Prelude.{Err, None, Ok, Option, Some}
 
 -- ---- exactly when a call is refused, and what a refusal leaves
 
 module _ (ws : List ℕ) (source customer : ℕ) (list : List ℕ) (r : Refusal) where
-  pub file_refuses : ((file_effect ws source customer list).answer ≡ filed.Refused r) ↔ ((i : ℕ) × FirstAt (file_rows ws source customer list) i r)
+  pub file_refuses : ((file_effect ws source customer list).answer ≡ Err r) ↔ ((i : ℕ) × FirstAt (file_rows ws source customer list) i r)
   unfolding file_effect
   file_refuses =
-      answers_first (file_rows ws source customer list) filed.Refused ws _ filed_same
-      (filed_apart (holds_record customer source (records_of ws))) r
+      answers_first (file_rows ws source customer list) ws _ _ r
 
-  pub file_leaves : (file_effect ws source customer list).answer ≡ filed.Refused r → (file_effect ws source customer list).words ≡ ws
+  pub file_leaves : (file_effect ws source customer list).answer ≡ Err r → (file_effect ws source customer list).words ≡ ws
   unfolding file_effect
   file_leaves =
-      refusal_leaves (file_rows ws source customer list) filed.Refused ws _
-      (filed_apart (holds_record customer source (records_of ws))) r
+      refusal_leaves (file_rows ws source customer list) ws _ _ r
 
 module _ (ws : List ℕ) (source customer : ℕ) (r : Refusal) where
-  pub withdraw_refuses : ((withdraw_effect ws source customer).answer ≡ removal.Refused r) ↔ ((i : ℕ) × FirstAt (withdraw_rows ws source customer) i r)
+  pub withdraw_refuses : ((withdraw_effect ws source customer).answer ≡ Err r) ↔ ((i : ℕ) × FirstAt (withdraw_rows ws source customer) i r)
   unfolding withdraw_effect
-  withdraw_refuses = answers_first (withdraw_rows ws source customer) removal.Refused ws _ removal_same removal_apart r
+  withdraw_refuses = answers_first (withdraw_rows ws source customer) ws _ _ r
 
-  pub withdraw_leaves : (withdraw_effect ws source customer).answer ≡ removal.Refused r → (withdraw_effect ws source customer).words ≡ ws
+  pub withdraw_leaves : (withdraw_effect ws source customer).answer ≡ Err r → (withdraw_effect ws source customer).words ≡ ws
   unfolding withdraw_effect
-  withdraw_leaves = refusal_leaves (withdraw_rows ws source customer) removal.Refused ws _ removal_apart r
+  withdraw_leaves = refusal_leaves (withdraw_rows ws source customer) ws _ _ r
 
 module _ (ws : List ℕ) (source : ℕ) (r : Refusal) where
-  pub clear_refuses : ((clear_effect ws source).answer ≡ cleared.Refused r) ↔ ((i : ℕ) × FirstAt (clear_rows ws source) i r)
+  pub clear_refuses : ((clear_effect ws source).answer ≡ Err r) ↔ ((i : ℕ) × FirstAt (clear_rows ws source) i r)
   unfolding clear_effect
   clear_refuses =
-      answers_first (clear_rows ws source) cleared.Refused ws _ cleared_same (cleared_apart (count_records source (records_of ws))) r
+      answers_first (clear_rows ws source) ws _ _ r
 
-  pub clear_leaves : (clear_effect ws source).answer ≡ cleared.Refused r → (clear_effect ws source).words ≡ ws
+  pub clear_leaves : (clear_effect ws source).answer ≡ Err r → (clear_effect ws source).words ≡ ws
   unfolding clear_effect
-  clear_leaves = refusal_leaves (clear_rows ws source) cleared.Refused ws _ (cleared_apart (count_records source (records_of ws))) r
+  clear_leaves = refusal_leaves (clear_rows ws source) ws _ _ r
 
 -- ---- the rows in the order of their numbers
 
 module _ (ws : List ℕ) (source customer : ℕ) where
-  wrong_length : (r : Refusal) → table_row ws ≡ some r → refusal_number r ≡ 1
+  wrong_length : (r : Refusal) → table_row ws ≡ Some r → refusal_number r ≡ 1
   wrong_length = numbered (not (eqb (length ws) register_words)) TableLength
 
-  malformed : (r : Refusal) → register_row ws ≡ some r → refusal_number r ≡ 2
+  malformed : (r : Refusal) → register_row ws ≡ Some r → refusal_number r ≡ 2
   malformed = numbered (not (register_ok ws)) RegisterMalformed
 
-  source_over : (r : Refusal) → source_row source ≡ some r → refusal_number r ≡ 4
+  source_over : (r : Refusal) → source_row source ≡ Some r → refusal_number r ≡ 4
   source_over = numbered (ltb last_source source) SourceNumber
 
-  no_customer : (r : Refusal) → customer_row customer ≡ some r → refusal_number r ≡ 5
+  no_customer : (r : Refusal) → customer_row customer ≡ Some r → refusal_number r ≡ 5
   no_customer = numbered (eqb customer 0) CustomerZero
 
   pub file_numbers : (list : List ℕ) → Numbered (file_rows ws source customer list) (1 ∷ 2 ∷ 4 ∷ 5 ∷ 6 ∷ 8 ∷ [])
@@ -145,9 +125,9 @@ module _ (ws : List ℕ) (w : Register ws) where
       r = record_for source customer list
 
       go : (o : Option Refusal) → first_given rows ≡ o
-          → Register (unless_refused o filed.Refused ws (record { answer = filed_as r rs; words = register_of (put_record r rs) })).words
-      go (some _) e = w
-      go none e =
+          → Register (unless_refused o ws (effect (Ok (filed_as r rs)) (register_of (put_record r rs)))).words
+      go (Some _) e = w
+      go None e =
           let given = accepted_none rows e in
           records_register (put_record r rs)
           (put_ok rs (records-ok ws w.ok) r
@@ -159,15 +139,15 @@ module _ (ws : List ℕ) (w : Register ws) where
   withdraw_preserves source customer = go (first_given (withdraw_rows ws source customer))
     where
       go : (o : Option Refusal)
-          → Register (unless_refused o removal.Refused ws (record { answer = removal.Done; words = register_of (erase_record customer source rs) })).words
-      go (some _) = w
-      go none = records_register (erase_record customer source rs) (without_ok rs (records-ok ws w.ok) (same_pair (customer, source)))
+          → Register (unless_refused o ws (effect (Ok (tt {0})) (register_of (erase_record customer source rs)))).words
+      go (Some _) = w
+      go None = records_register (erase_record customer source rs) (without_ok rs (records-ok ws w.ok) (same_pair (customer, source)))
 
   pub clear_preserves : (source : ℕ) → Register (clear_effect ws source).words
   unfolding clear_effect
   clear_preserves source = go (first_given (clear_rows ws source))
     where
       go : (o : Option Refusal)
-          → Register (unless_refused o cleared.Refused ws (record { answer = cleared.Gone (count_records source rs); words = register_of (clear_records source rs) })).words
-      go (some _) = w
-      go none = records_register (clear_records source rs) (without_ok rs (records-ok ws w.ok) (of_source source))
+          → Register (unless_refused o ws (effect (Ok (count_records source rs)) (register_of (clear_records source rs)))).words
+      go (Some _) = w
+      go None = records_register (clear_records source rs) (without_ok rs (records-ok ws w.ok) (of_source source))

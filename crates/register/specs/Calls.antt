@@ -1,18 +1,14 @@
 -- File, Withdraw and Clear ("The calls"): the answer, and the register's words after it, for every argument and all words before.
-use Rattle.std.specs.Prelude.{ℕ, Bool, not, cond, List, [], ◌∷◌, ltb, eqb}
-use Rattle.std.proofs.Math.Option.{Option}
+use Rattle.std.specs.Prelude.{ℕ, Bool, not, cond, List, [], ◌∷◌, ltb, eqb, Ok, Option, Result}
 use Rattle.types.specs.declared.Refusal.{Refusal}
 use Rattle.types.specs.declared.Refusal.TheVariants.{RegisterMalformed, SourceNumber, CustomerZero, ProviderList, NoRecord, RegisterFull}
-use Rattle.types.specs.declared.Filed.{Filed}
-use Rattle.types.specs.declared.Filed.TheVariants as filed
-use Rattle.types.specs.declared.Removal.{Removal}
-use Rattle.types.specs.declared.Removal.TheVariants as removal
-use Rattle.types.specs.declared.Cleared.{Cleared}
-use Rattle.types.specs.declared.Cleared.TheVariants as cleared
-use Rattle.types.specs.Rows.{row_if, length_row, first_given, Effect, unless_refused}
+use Rattle.types.specs.Rows.{row_if, length_row, first_given, Effect, effect, unless_refused}
 use Rattle.keyed.specs.Keyed.{same_pair, before_pair, holds, find, put, without, count_of}
 use Rattle.rules.specs.Records.{Record}
 use Rattle.register.specs.Register.{register_words, last_source, records_of, register_of, key_of, list_ok, room_for, register_ok}
+use Rattle.types.specs.declared.Filed.{Filed}
+use Rattle.types.specs.declared.Filed.TheVariants.{New}
+use Rattle.types.specs.declared.Filed.TheVariants.{Replaced}
 
 -- ---- records: looked for, put in, taken out
 
@@ -81,23 +77,21 @@ clear_rows ws source = table_row ws ∷ register_row ws ∷ source_row source �
 
 -- File answers whether the pair had a list, and replaces only that pair's.
 abbrev pub filed_as : Record → List Record → Filed
-filed_as r rs = cond (holds_record r.customer r.source rs) filed.Replaced filed.New
+filed_as r rs = cond (holds_record r.customer r.source rs) Replaced New
 
-unfoldable pub file_effect : List ℕ → ℕ → ℕ → List ℕ → Effect Filed
+unfoldable pub file_effect : List ℕ → ℕ → ℕ → List ℕ → Effect (Result Filed Refusal)
 file_effect ws source customer list =
-    unless_refused (first_given (file_rows ws source customer list)) filed.Refused ws
-    (record {
-      answer = filed_as (record_for source customer list) (records_of ws);
-      words = register_of (put_record (record_for source customer list) (records_of ws));
-    })
+    unless_refused (first_given (file_rows ws source customer list)) ws
+    (effect (Ok (filed_as (record_for source customer list) (records_of ws)))
+    (register_of (put_record (record_for source customer list) (records_of ws))))
 
-unfoldable pub withdraw_effect : List ℕ → ℕ → ℕ → Effect Removal
+unfoldable pub withdraw_effect : List ℕ → ℕ → ℕ → Effect (Result Unit Refusal)
 withdraw_effect ws source customer =
-    unless_refused (first_given (withdraw_rows ws source customer)) removal.Refused ws
-    (record { answer = removal.Done; words = register_of (erase_record customer source (records_of ws)) })
+    unless_refused (first_given (withdraw_rows ws source customer)) ws
+    (effect (Ok tt) (register_of (erase_record customer source (records_of ws))))
 
 -- Clear answers how many records went, zero included.
-unfoldable pub clear_effect : List ℕ → ℕ → Effect Cleared
+unfoldable pub clear_effect : List ℕ → ℕ → Effect (Result ℕ Refusal)
 clear_effect ws source =
-    unless_refused (first_given (clear_rows ws source)) cleared.Refused ws
-    (record { answer = cleared.Gone (count_records source (records_of ws)); words = register_of (clear_records source (records_of ws)) })
+    unless_refused (first_given (clear_rows ws source)) ws
+    (effect (Ok (count_records source (records_of ws))) (register_of (clear_records source (records_of ws))))

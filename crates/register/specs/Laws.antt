@@ -1,9 +1,6 @@
 -- What the documents say of the register, as statements. proofs/Laws.antt has their proof.
-use Rattle.std.specs.Prelude.{ℕ, suc, ◌+◌, ◌/◌, ◌≤◌, ◌<◌, ◌≡◌, true, cond, List, ◌↔◌, eqb, ltb, length, get_or}
-use Rattle.std.proofs.Math.Option.{none, some}
+use Rattle.std.specs.Prelude.{ℕ, suc, ◌+◌, ◌/◌, ◌≤◌, ◌<◌, ◌≡◌, true, cond, List, ◌↔◌, eqb, ltb, length, get_or, Err, None, Ok, Some}
 use Rattle.types.specs.declared.Refusal.TheVariants.{ProviderList}
-use Rattle.types.specs.declared.Filed.TheVariants.{New, Refused}
-use Rattle.types.specs.declared.Cleared.TheVariants.{Gone}
 use Rattle.types.specs.Rows.{first_given, effect}
 use Rattle.types.specs.declared.Origin.{Origin}
 use Rattle.types.specs.declared.Hop.TheVariants.{ProviderPlus}
@@ -13,6 +10,7 @@ use Rattle.halves.specs.Halves.{Begins, size, middle, In, stepped}
 use Rattle.rules.specs.Records.{Record, is_in, united, hop_of}
 use Rattle.register.specs.Register.{register_words, most_providers, last_source, records_of, key_of, record_at, position_of, room_for, records_ok, register_ok}
 use Rattle.register.specs.Calls.{find_record, count_records, record_for, file_rows, withdraw_rows, clear_rows, file_effect, withdraw_effect, clear_effect}
+use Rattle.types.specs.declared.Filed.TheVariants.{New}
 
 -- A register of the right length that keeps the word rules (rows 1 and 2).
 pub record Register (ws : List ℕ) : Type 0 where
@@ -35,22 +33,22 @@ pub record RegisterLaws : Type 0 where
   pub withdraw_formed : (ws : List ℕ) → Register ws → (source customer : ℕ) → Register (withdraw_effect ws source customer).words
   pub clear_formed : (ws : List ℕ) → Register ws → (source : ℕ) → Register (clear_effect ws source).words
   -- A filing that no row refuses changes the list of its own pair and of no other.
-  pub filed : (ws : List ℕ) (source customer : ℕ) (list : List ℕ) → first_given (file_rows ws source customer list) ≡ none → (k : ℕ × ℕ)
+  pub filed : (ws : List ℕ) (source customer : ℕ) (list : List ℕ) → first_given (file_rows ws source customer list) ≡ None → (k : ℕ × ℕ)
       → find_record k (records_of (file_effect ws source customer list).words)
-      ≡ cond (same_pair k (customer, source)) (some (record_for source customer list)) (find_record k (records_of ws))
+      ≡ cond (same_pair k (customer, source)) (Some (record_for source customer list)) (find_record k (records_of ws))
   -- A withdrawal takes out the list of its own pair and no other.
-  pub withdrawn : (ws : List ℕ) (source customer : ℕ) → first_given (withdraw_rows ws source customer) ≡ none → (k : ℕ × ℕ)
-      → find_record k (records_of (withdraw_effect ws source customer).words) ≡ cond (same_pair (customer, source) k) none (find_record k (records_of ws))
+  pub withdrawn : (ws : List ℕ) (source customer : ℕ) → first_given (withdraw_rows ws source customer) ≡ None → (k : ℕ × ℕ)
+      → find_record k (records_of (withdraw_effect ws source customer).words) ≡ cond (same_pair (customer, source) k) None (find_record k (records_of ws))
   -- A clearing takes out the lists of its own source and no other.
-  pub cleared : (ws : List ℕ) (source : ℕ) → first_given (clear_rows ws source) ≡ none → (k : ℕ × ℕ)
-      → find_record k (records_of (clear_effect ws source).words) ≡ cond (eqb k.1 source) none (find_record k (records_of ws))
+  pub cleared : (ws : List ℕ) (source : ℕ) → first_given (clear_rows ws source) ≡ None → (k : ℕ × ℕ)
+      → find_record k (records_of (clear_effect ws source).words) ≡ cond (eqb k.1 source) None (find_record k (records_of ws))
   -- A clearing answers the number of that source's records before it, and so many fewer are left.
-  pub cleared_count : (ws : List ℕ) (source : ℕ) → first_given (clear_rows ws source) ≡ none
-      → ((clear_effect ws source).answer ≡ Gone (count_records source (records_of ws)))
+  pub cleared_count : (ws : List ℕ) (source : ℕ) → first_given (clear_rows ws source) ≡ None
+      → ((clear_effect ws source).answer ≡ Ok (count_records source (records_of ws)))
       × (length (records_of (clear_effect ws source).words) + count_records source (records_of ws) ≡ length (records_of ws))
   -- Room that is given up is used again: a record that is withdrawn is accepted once more, as new, and every word is as it was.
-  pub refiled : (ws : List ℕ) (r : Record) → Register ws → find_record (key_of r) (records_of ws) ≡ some r
-      → file_effect (withdraw_effect ws r.source r.customer).words r.source r.customer r.providers ≡ effect New ws
+  pub refiled : (ws : List ℕ) (r : Record) → Register ws → find_record (key_of r) (records_of ws) ≡ Some r
+      → file_effect (withdraw_effect ws r.source r.customer).words r.source r.customer r.providers ≡ effect (Ok New) ws
 
 -- ---- look-up ("P3")
 
@@ -88,7 +86,7 @@ pub record RecordRules (rs : List Record) : Type 0 where
 pub record ListLaws : Type 0 where
   -- A filing that rows 1, 2, 4 and 5 pass is refused by 6 exactly for these reasons, whatever the register holds.
   pub row_six : (ws : List ℕ) → Register ws → (source customer : ℕ) (list : List ℕ) → source ≤ last_source → 1 ≤ customer
-      → ((file_effect ws source customer list).answer ≡ Refused ProviderList) ↔ BadList customer list
+      → ((file_effect ws source customer list).answer ≡ Err ProviderList) ↔ BadList customer list
   -- The word rules say the same of each record's list.
   pub each_list : (rs : List Record) → (records_ok rs ≡ true) ↔ RecordRules rs
   -- No well-formed register says Provider+ of a number and itself.

@@ -1,2 +1,3 @@
 pub mod Registers
+pub mod Words
 pub mod Laws

@@ -6,19 +6,15 @@ use mathlib.Core.List.{List, []}
 use native.Mathlib.Omega.{arith}
 use lib.ListN.{length}
 use lib.Seq.{set-get_or}
-use Rattle.types.specs.declared.Verdict.{Verdict}
-use Rattle.types.specs.declared.Answer.{Answer}
-use Rattle.types.specs.Numbers.{verdict_of}
 use Rattle.types.specs.Rows.{effect}
 use Rattle.rules.specs.Hops.{HopFunction}
-use Rattle.rules.specs.Verdicts.{judged}
 use Rattle.verdict.specs.Helpers.{longest_path}
 use Rattle.ledger.specs.Routes.{Route, routes_of, route_at}
-use Rattle.ledger.specs.Calls.{stamped, change_effect}
+use Rattle.ledger.specs.Calls.{change_effect}
 use Rattle.ledger.specs.Helpers.{RouteIn}
 use Rattle.ledger.proofs.Entries.{words_are}
 use Rattle.rejudge.specs.Rejudging.{rejudged_route}
-use Rattle.rejudge.proofs.Rejudgements.{not_differs, left_alone, gets_verdict, some_numbers, few_numbers}
+use Rattle.rejudge.proofs.Rejudgements.{not_differs, left_alone, some_numbers, few_numbers}
 
 -- What is promised of a route: whether it changed, and the words at the exit.
 abbrev pub Promised : HopFunction → List ℕ → ℕ → List ℕ → Bool → Type 0
@@ -46,10 +42,3 @@ module _ {ws : List ℕ} {i : ℕ} (p : RouteIn ws i) where
           let l : length path ≡ length route.path = ap length same in
           let short = few_numbers route p.ok (sym its ∙ none) in
           (omega (arith, some_numbers route p.ok (sym its ∙ none)), omega arith)
-
-      -- Its verdict stored keeps the promise.
-      pub rejudged-route : (hop : HopFunction) {role : ℕ} {a : Answer} {v : Verdict} {out : List ℕ} {b : Bool} → role ≡ route.role
-          → a ≡ judged hop path role → v ≡ verdict_of a → effect b out ≡ change_effect ws i (stamped v) → Promised hop ws i out b
-      rejudged-route hop {role} {a} {v} er ea ev q =
-          let f : v ≡ verdict_of (judged hop route.path route.role) = ev ∙ ap verdict_of (ea ∙ (λ z. judged hop (same z) (er z))) in
-          rw (gets_verdict hop route (sym its ∙ none), ← f) q

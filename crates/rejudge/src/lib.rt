@@ -3,59 +3,37 @@
 
 ghost use Rattle.std.specs.Prelude.{◌≡◌, true, length};
 ghost use Rattle.types.specs.Rows.{effect};
-ghost use Rattle.registers.specs.Registers.{lent, hop_in, both_ok};
+ghost use Rattle.registers.specs.Registers.{hop_in};
+ghost use Rattle.registers.specs.Words.{words_of};
 ghost use Rattle.ledger.specs.Routes.{ledger_words, ledger_ok};
 ghost use Rattle.ledger.specs.Helpers.{RouteIn};
 ghost use Rattle.ledger.specs.Calls.{change_effect};
 ghost use Rattle.rejudge.specs.Rejudging.{rejudged_route, rejudged_effect};
 
+use hints::Hinted;
+use registers::Registers;
+
 // Route i judged anew; answers whether its verdict or a place changed.
-fn rejudge_route<'a>(
-    public: &'a [u32],
-    overrides: &'a [u32],
-    public_hints: &[u32],
-    own_hints: &[u32],
-    led: &mut [u32],
-    i: usize,
-) -> bool
-    requires { (both_ok (lent public.now overrides.now) ≡ true) × RouteIn led.old i }
-    ensures { effect result led.new
-        ≡ change_effect led.old i (rejudged_route (hop_in (lent public.now overrides.now))) }
+fn rejudge_route(registers: Registers<'_>, led: &mut [u32], i: usize) -> bool
+    requires { RouteIn led.old i }
+    ensures { effect result led.new ≡ change_effect led.old i (rejudged_route (hop_in (words_of registers.entry))) }
 {
     if routes::ground(led, i) != 0 {
         return false;
     }
-    let role = routes::role(led, i);
-    let answer = verdict::judge_hinted(
-        public,
-        overrides,
-        public_hints,
-        own_hints,
-        role,
-        routes::path(led, i),
-    );
-    let v = answer.verdict();
-    routes::stamp(led, i, v)
+    let answer = verdict::judge(registers, routes::role(led, i), routes::path(led, i));
+    routes::stamp(led, i, answer.verdict())
 }
 
-// Every route judged anew, with hints for each register; answers how many changed.
-fn rejudge_routes<'a>(
-    public: &'a [u32],
-    overrides: &'a [u32],
-    public_hints: &[u32],
-    own_hints: &[u32],
-    led: &mut [u32],
-) -> usize
-    requires { (both_ok (lent public.now overrides.now) ≡ true) × (length led.old ≡ ledger_words) × (ledger_ok led.old ≡ true) }
-    ensures { effect result led.new ≡ rejudged_effect (hop_in (lent public.now overrides.now)) led.old }
+// Every route judged anew; answers how many changed.
+fn rejudge_routes(registers: Registers<'_>, led: &mut [u32]) -> usize
+    requires { (length led.old ≡ ledger_words) × (ledger_ok led.old ≡ true) }
+    ensures { effect result led.new ≡ rejudged_effect (hop_in (words_of registers.entry)) led.old }
 {
     let n = routes::count(led);
-    let mut changed: usize = 0;
-    let mut i: usize = 0;
-    while i < n {
-        let moved = rejudge_route(public, overrides, public_hints, own_hints, led, i);
-        i += 1;
-        if moved {
+    let mut changed = 0;
+    for i in 0..n {
+        if rejudge_route(registers, led, i) {
             changed += 1;
         }
     }
@@ -63,22 +41,18 @@ fn rejudge_routes<'a>(
 }
 
 // Answers how many routes changed. Hints are worth their filling when there are more numbers to look up than records.
-pub fn rejudge_all<'a>(public: &'a [u32], overrides: &'a [u32], led: &mut [u32]) -> usize
-    requires { (both_ok (lent public.now overrides.now) ≡ true) × (length led.old ≡ ledger_words) × (ledger_ok led.old ≡ true) }
-    ensures { effect result led.new ≡ rejudged_effect (hop_in (lent public.now overrides.now)) led.old }
+pub fn rejudge_all(registers: Registers<'_>, led: &mut [u32]) -> usize
+    requires { (length led.old ≡ ledger_words) × (ledger_ok led.old ≡ true) }
+    ensures { effect result led.new ≡ rejudged_effect (hop_in (words_of registers.entry)) led.old }
 {
-    if routes::path_words(led) <= table::word(public, 0) {
-        return rejudge_routes(
-            public,
-            overrides,
-            &registers::NO_HINTS,
-            &registers::NO_HINTS,
-            led,
-        );
+    if routes::path_words(led) <= registers.public.register.count() {
+        return rejudge_routes(registers, led);
     }
     let mut public_hints = [0u32; hints::WORDS];
     let mut own_hints = [0u32; hints::WORDS];
-    hints::fill(public, &mut public_hints);
-    hints::fill(overrides, &mut own_hints);
-    rejudge_routes(public, overrides, &public_hints, &own_hints, led)
+    let hinted = Registers {
+        public: Hinted::filled(registers.public.register, &mut public_hints),
+        overrides: Hinted::filled(registers.overrides.register, &mut own_hints),
+    };
+    rejudge_routes(hinted, led)
 }

@@ -1,4 +1,4 @@
-pub mod Spacing
 pub mod Trimming
-pub mod Snapshots
+pub mod Spacing
 pub mod Lookups
+pub mod Snapshots

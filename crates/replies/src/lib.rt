@@ -1,159 +1,99 @@
-// A reply as text, from index at of a buffer on.
-#![tactic(auto)]
+// A reply as text, with the tables as its command leaves them.
+#![tactic(auto, using(text::proofs::Wrote::writing))]
 
-ghost use Rattle.std.specs.Prelude.{◌≡◌, ◌+◌, ◌*◌, ◌≤◌, ◌<◌, ◌^◌, min, length, take, get_or, replicate};
-ghost use Rattle.std.proofs.lemmas.List.Edits.{sets};
-ghost use Rattle.calls.specs.Performing.{tables_of};
-ghost use Rattle.replies.specs.Texts.{without_zeros, sized_text, shown_text, sized_in, effect_text, snapshot_text, lookup_text, reply_text, most_reply};
+ghost use Rattle.std.specs.Prelude.{◌≡◌, ◌+◌, ◌*◌, ◌≤◌, ◌<◌, ◌^◌, length, replicate};
+ghost use Rattle.text.specs.Wrote.{Room, Wrote};
+ghost use Rattle.calls.specs.Lent.{tables_in, registers_in};
 ghost use Rattle.calls.specs.Commands.{most_lent, most_output};
-ghost use Rattle.snapshot.specs.Calls.{write_effect};
-ghost use Rattle.registers.specs.Registers.{lent};
-ghost use Rattle.answers.specs.Texts.{spaced_text, answer_room};
+ghost use Rattle.answers.specs.Texts.{spaced_text};
+ghost use Rattle.replies.specs.Texts.{table_named, slot_width, used_words, without_zeros, sized_text, snapshot_text, lookup_text, reply_text};
+ghost use Rattle.replies.specs.Texts.{Small, most_reply};
 
-use calls::{Named, Reply};
+use answers::Put;
+use calls::{Named, Reply, Tables};
+use text::Text;
 use types::AsNumber;
 
 // The room that a reply takes at most: a snapshot's length, and two digits for each of its bytes. The words of a table, of eleven bytes each at
 // most, take less.
 pub const MOST_REPLY: usize = 128 + 2 * calls::MOST_OUTPUT;
 
-fn wide(x: u32) -> u64
-    ensures { result ≡ x }
+fn named<'a>(tables: &'a Tables<'_>, name: Named) -> &'a [u32]
+    requires { Small (tables_in tables.now) }
+    ensures same { result.now ≡ table_named (tables_in tables.now) name }
+    ensures small { length result.now ≤ most_lent }
 {
-    x as u64
-}
-
-fn size(x: u32) -> usize
-    ensures { (result ≡ x) × (result < 2 ^ 32) }
-{
-    x as usize
-}
-
-// A word; 0 past the end.
-fn word(table: &[u32], i: usize) -> usize
-    ensures { (result ≡ get_or table.now i 0) × (result < 2 ^ 32) }
-{
-    if i < table.len() {
-        return size(table[i]);
+    match name {
+        Named::Register => tables.register,
+        Named::Overrides => tables.overrides,
+        Named::Ledger => tables.ledger,
     }
-    0
 }
 
-fn least(a: usize, b: usize) -> usize
-    ensures { (result ≡ min a b) × (result ≤ b) }
+// The words of a slot of the table of a name.
+fn width(name: Named) -> usize
+    ensures same { result ≡ slot_width name }
+    ensures small { result < 2 ^ 16 }
 {
-    if a < b { a } else { b }
+    match name {
+        Named::Register | Named::Overrides => register::WIDTH,
+        Named::Ledger => ledger::WIDTH,
+    }
 }
 
-// How many words there are up to the last of the bodies, where a slot has so many words. In a malformed table the counts may lead past
-// the end: then all.
-fn used(table: &[u32], width: usize) -> usize
+// The words up to the last of the bodies, where a slot has so many words. In a malformed table the counts may lead past the end: then all.
+fn used(table: &[u32], width: usize) -> &[u32]
     requires { width < 2 ^ 16 }
-    ensures { (result ≡ min (2 + width * get_or table.now 0 0 + get_or table.now 1 0) (length table.now))
-        × (result ≤ length table.now) }
+    ensures { result.now ≡ used_words width table.now }
 {
-    let slots = width * word(table, 0);
-    least(2 + slots + word(table, 1), table.len())
+    match table {
+        [slots, bodies, ..] => {
+            let end = table::COUNTERS + width * *slots as usize + *bodies as usize;
+            &table[..end.min(table.len())]
+        }
+        _ => table,
+    }
 }
 
-// How many words there are up to the last that is not zero.
-fn nonzero(table: &[u32]) -> usize
-    ensures { (result ≡ length (without_zeros table.now)) × (take result table.now ≡ without_zeros table.now)
-        × (result ≤ length table.now) }
+// The words up to the last that is not zero.
+#[tactic(auto, using(crate::proofs::Trimming::trimming))]
+fn without_zeros(table: &[u32]) -> &[u32]
+    ensures same { result.now ≡ without_zeros table.now }
+    ensures short { length result.now ≤ length table.now }
 {
-    let mut n = table.len();
-    while 0 < n {
-        if table[n - 1] != 0 {
-            return n;
+    let mut rest = table;
+    while let [before @ .., last] = rest {
+        if *last != 0 {
+            return rest;
         }
-        n -= 1;
+        rest = before;
     }
-    n
+    rest
 }
 
 // Words separated by spaces.
-fn put_spaced(out: &mut [u8], at: usize, words: &[u32]) -> usize
-    requires { (length words.now ≤ most_lent) × (at + most_reply ≤ length out.old) }
-    ensures { (result ≡ at + length (spaced_text words.now))
-        × (out.new ≡ sets out.old at (spaced_text words.now)) × (result ≤ at + most_reply) }
+#[tactic(auto, using(crate::proofs::Spacing::spacing))]
+fn put_spaced(text: &mut Text, words: &[u32])
+    requires few { length words.now ≤ most_lent }
+    requires room { Room text.old most_reply }
+    ensures wrote { Wrote text.old text.new (spaced_text words.now) }
+    ensures within { text.new.end ≤ text.old.end + most_reply }
 {
-    if words.len() == 0 {
-        return at;
+    if let [first, others @ ..] = words {
+        text.put_decimal(u64::from(*first));
+        answers::put_each(text, others);
     }
-    let next = text::put_decimal(wide(words[0]), out, at);
-    answers::put_each(out, next, &words[1..])
 }
 
 // A table's length, then its words up to the last that is not zero.
-fn put_sized(out: &mut [u8], at: usize, table: &[u32]) -> usize
-    requires { (length table.now ≤ most_lent) × (at + most_reply ≤ length out.old) }
-    ensures { (result ≡ at + length (sized_text table.now))
-        × (out.new ≡ sets out.old at (sized_text table.now)) × (result ≤ at + most_reply) }
+fn put_sized(text: &mut Text, table: &[u32])
+    requires few { length table.now ≤ most_lent }
+    requires room { Room text.old most_reply }
+    ensures wrote { Wrote text.old text.new (sized_text table.now) }
+    ensures within { text.new.end ≤ text.old.end + most_reply }
 {
-    let next = text::put_decimal(table.len() as u64, out, at);
-    let n = nonzero(table);
-    answers::put_each(out, next, &table[..n])
-}
-
-fn put_shown(
-    out: &mut [u8],
-    at: usize,
-    named: Named,
-    reg: &[u32],
-    overrides: &[u32],
-    led: &[u32],
-) -> usize
-    requires { (length reg.now ≤ most_lent) × (length overrides.now ≤ most_lent) × (length led.now ≤ most_lent) × (at + most_reply ≤ length out.old) }
-    ensures { (result ≡ at + length (shown_text (tables_of reg.now overrides.now led.now) named))
-        × (out.new ≡ sets out.old at (shown_text (tables_of reg.now overrides.now led.now) named))
-        × (result ≤ at + most_reply) }
-{
-    match named {
-        Named::Register => {
-            let n = used(reg, register::WIDTH);
-            put_spaced(out, at, &reg[..n])
-        }
-        Named::Overrides => {
-            let n = used(overrides, register::WIDTH);
-            put_spaced(out, at, &overrides[..n])
-        }
-        Named::Ledger => {
-            let n = used(led, ledger::WIDTH);
-            put_spaced(out, at, &led[..n])
-        }
-        Named::Neither => text::put(b"error", out, at),
-    }
-}
-
-fn put_all(
-    out: &mut [u8],
-    at: usize,
-    named: Named,
-    reg: &[u32],
-    overrides: &[u32],
-    led: &[u32],
-) -> usize
-    requires { (length reg.now ≤ most_lent) × (length overrides.now ≤ most_lent) × (length led.now ≤ most_lent) × (at + most_reply ≤ length out.old) }
-    ensures { (result ≡ at + length (sized_in (tables_of reg.now overrides.now led.now) named))
-        × (out.new ≡ sets out.old at (sized_in (tables_of reg.now overrides.now led.now) named)) × (result ≤ at + most_reply) }
-{
-    match named {
-        Named::Register => put_sized(out, at, reg),
-        Named::Overrides => put_sized(out, at, overrides),
-        Named::Ledger => put_sized(out, at, led),
-        Named::Neither => text::put(b"error", out, at),
-    }
-}
-
-// A snapshot of the public register and the ledger, written to an output and put as text.
-fn put_effect(out: &mut [u8], at: usize, output: &mut [u8], reg: &[u32], led: &[u32]) -> usize
-    requires { at + (answer_room + 2 * length output.old) ≤ length out.old }
-    ensures { (result ≡ at + length (effect_text (write_effect reg.now led.now output.old)))
-        × (out.new ≡ sets out.old at (effect_text (write_effect reg.now led.now output.old)))
-        × (result ≤ at + (answer_room + 2 * length output.old)) }
-{
-    let written = snapshot::write(reg, led, output);
-    answers::put_written(out, at, written, output)
+    text.put_decimal(table.len() as u64);
+    answers::put_each(text, without_zeros(table));
 }
 
 // The array is made in a function of its own, so that no proof has to look at its elements.
@@ -163,61 +103,48 @@ fn no_output() -> [u8; calls::MOST_OUTPUT]
     [0; calls::MOST_OUTPUT]
 }
 
-fn put_snapshot(out: &mut [u8], at: usize, capacity: usize, reg: &[u32], led: &[u32]) -> usize
-    requires { at + most_reply ≤ length out.old }
-    ensures { (result ≡ at + length (snapshot_text reg.now led.now capacity))
-        × (out.new ≡ sets out.old at (snapshot_text reg.now led.now capacity))
-        × (result ≤ at + most_reply) }
+// A snapshot of the public register and the ledger, written to an output of so many bytes and put as text.
+fn put_snapshot(text: &mut Text, capacity: usize, tables: &Tables<'_>)
+    requires { Room text.old most_reply }
+    ensures wrote { Wrote text.old text.new (snapshot_text tables.now.register.now tables.now.ledger.now capacity) }
+    ensures within { text.new.end ≤ text.old.end + most_reply }
 {
     let mut output = no_output();
-    let n = least(capacity, calls::MOST_OUTPUT);
-    put_effect(out, at, &mut output[..n], reg, led)
+    let lent = &mut output[..capacity.min(calls::MOST_OUTPUT)];
+    let written = snapshot::write(tables.register, tables.ledger, lent);
+    answers::put_written(text, written, lent);
 }
 
 // The part of a register that is looked up goes into the text as it stands there.
-fn put_lookup<'a>(
-    out: &mut [u8],
-    at: usize,
-    source: u32,
-    customer: u32,
-    reg: &'a [u32],
-    overrides: &'a [u32],
-) -> usize
-    requires { at + most_reply ≤ length out.old }
-    ensures { (result ≡ at + length (lookup_text (lent reg.now overrides.now) source customer))
-        × (out.new ≡ sets out.old at (lookup_text (lent reg.now overrides.now) source customer))
-        × (result ≤ at + most_reply) }
+#[tactic(auto, using(crate::proofs::Lookups::list_short))]
+fn put_lookup(text: &mut Text, source: u32, customer: AsNumber, tables: &Tables<'_>)
+    requires { Room text.old most_reply }
+    ensures wrote { Wrote text.old text.new (lookup_text (registers_in tables.now) source customer.0) }
+    ensures within { text.new.end ≤ text.old.end + most_reply }
 {
-    let providers = filter::lookup(reg, overrides, source, AsNumber(customer));
-    answers::put_list(out, at, providers)
+    let providers = filter::lookup(tables.register, tables.overrides, source, customer);
+    answers::put_list(text, providers);
 }
 
-pub fn put<'a>(
-    out: &mut [u8],
-    at: usize,
-    reply: Reply,
-    reg: &'a [u32],
-    overrides: &'a [u32],
-    led: &[u32],
-) -> usize
-    requires { (length reg.now ≤ most_lent) × (length overrides.now ≤ most_lent) × (length led.now ≤ most_lent) × (at + most_reply ≤ length out.old) }
-    ensures { (result ≡ at + length (reply_text (tables_of reg.now overrides.now led.now) reply))
-        × (out.new ≡ sets out.old at (reply_text (tables_of reg.now overrides.now led.now) reply))
-        × (result ≤ at + most_reply) }
+pub fn put(text: &mut Text, reply: Reply, tables: &Tables<'_>)
+    requires small { Small (tables_in tables.now) }
+    requires room { Room text.old most_reply }
+    ensures wrote { Wrote text.old text.new (reply_text (tables_in tables.now) reply) }
+    ensures within { text.new.end ≤ text.old.end + most_reply }
 {
     match reply {
-        Reply::Done => text::put(b"done", out, at),
-        Reply::Error => text::put(b"error", out, at),
-        Reply::Filed(a) => answers::put_filed(out, at, a),
-        Reply::Removed(a) => answers::put_removal(out, at, a),
-        Reply::Cleared(a) => answers::put_cleared(out, at, a),
-        Reply::Judged(a) => answers::put_judged(out, at, a),
-        Reply::Hopped(a) => answers::put_hopped(out, at, a),
-        Reply::Rejudged(a) => answers::put_rejudged(out, at, a),
-        Reply::Restored(a) => answers::put_restored(out, at, a),
-        Reply::Written(n) => put_snapshot(out, at, n, reg, led),
-        Reply::Listed(source, customer) => put_lookup(out, at, source, customer, reg, overrides),
-        Reply::Shown(t) => put_shown(out, at, t, reg, overrides, led),
-        Reply::Sized(t) => put_all(out, at, t, reg, overrides, led),
+        Reply::Done => text.put(b"done"),
+        Reply::Error => text.put(b"error"),
+        Reply::Filed(filed) => filed.put(text),
+        Reply::Removed(done) => done.put(text),
+        Reply::Cleared(count) => answers::put_count(text, b"cleared ", count),
+        Reply::Judged(answer) => answer.put(text),
+        Reply::Hopped(hop) => hop.put(text),
+        Reply::Rejudged(count) => answers::put_count(text, b"changed ", count),
+        Reply::Restored(done) => done.put(text),
+        Reply::Written(capacity) => put_snapshot(text, capacity, tables),
+        Reply::Listed(source, customer) => put_lookup(text, source, AsNumber(customer), tables),
+        Reply::Shown(name) => put_spaced(text, used(named(tables, name), width(name))),
+        Reply::Sized(name) => put_sized(text, named(tables, name)),
     }
 }

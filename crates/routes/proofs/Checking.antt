@@ -1,40 +1,22 @@
--- The check of a ledger: the order of two routes, each turn of the loop over the routes, and the tests of the whole. Assumes nothing.
+-- The check of a ledger: each turn of the loop over the routes, and the tests of the whole. Assumes nothing.
 use Prim.Native.Nat.{ℕ, zero, suc, ◌+◌, ◌-◌, ◌≤◌, ◌<◌}
 use mathlib.Core.Path.{◌≡◌, refl, sym, ◌∙◌, ap}
 use mathlib.Core.Bool.{Bool, true, false, ◌&&◌}
 use mathlib.Core.List.{List, [], ◌∷◌}
 use native.Mathlib.Omega.{arith}
 use native.Mathlib.Numerals.{add-one}
-use borrow.Author.Tests.{le-leb, lt-leb, eq-eqb, ne_eqb}
+use borrow.Author.Tests.{ne_eqb}
 use lib.Dec.{leb, ltb, eqb}
 use lib.ListN.{length, get_or, take, drop, length-drop, drop_of_length-le}
 use lib.Seq.{drop-cons}
-use Rattle.table.specs.Table.{bodies, Sound, well_formed}
+use Rattle.table.specs.Table.{counters, bodies, Sound, well_formed}
 use Rattle.table.proofs.Exact.{passes_sound}
 use Rattle.keyed.specs.Keyed.{ascends, ascends_from, every}
-use Rattle.ledger.specs.Routes.{route_head, route_tail, route_width, slot_at, count_word}
+use Rattle.ledger.specs.Routes.{route_head, route_tail, slot_at}
 use Rattle.ledger.specs.Routes.{most_routes, most_path_words, Route, routes_of, route_at, key_of, path_words, route_ok, is_behind}
 use Rattle.ledger.specs.Routes.{room_for, routes_ok, ledger_ok}
 use Rattle.ledger.specs.Helpers.{PathFrom}
-use Rattle.ledger.proofs.Entries.{slot_within, number_is}
-use Rattle.ledger.proofs.Entries.{route_count, path_count, path_length, paths_next}
-
--- ---- the order of two routes
-
--- The first route stands behind none.
-pub first_behind : (rs : List Route) (i : ℕ) → i ≡ 0 → true ≡ is_behind rs i
-unfolding is_behind
-first_behind rs i e = rw (eq-eqb i 0 e)
-
-module _ {ws : List ℕ} {i : ℕ} (p : Sound route_head route_tail ws × (i < length (routes_of ws))) where
-  -- The slot of a route is within the words.
-  pub behind_in : slot_at i + route_width ≤ length ws
-  behind_in = slot_within ws p.0 i p.1
-
-  -- Another one stands behind the one before it.
-  pub next_behind : (i ≡ 0 → ⊥) → ltb (get_or ws (slot_at (i - 1)) 0) (get_or ws (slot_at i) 0) ≡ is_behind (routes_of ws) i
-  unfolding is_behind
-  next_behind k = rw (ne_eqb i 0 k, number_is ws p.0 i p.1, number_is ws p.0 (i - 1) (omega arith))
+use Rattle.ledger.proofs.Entries.{route_count, path_count, paths_next}
 
 -- ---- the routes
 
@@ -113,26 +95,26 @@ module _ {ws : List ℕ} {n from i : ℕ} (g : Checked ws n from i) where
 
   module _ (h : i < n) where
     -- Route i is one of the routes.
-    pub inside : Sound route_head route_tail ws × (i < length (routes_of ws))
-    inside = (g.sound, omega (arith, g.count))
+    inside : i < length (routes_of ws)
+    inside = omega (arith, g.count)
 
     -- The tests of route i, and the rules of those behind it.
     tested : (is_behind (routes_of ws) i && (route_ok (route_at (routes_of ws) i) && rules_from (i + 1) (routes_of ws))) ≡ rules (routes_of ws)
-    tested = sym (rules_step (routes_of ws) i inside.1) ∙ g.same
+    tested = sym (rules_step (routes_of ws) i inside) ∙ g.same
 
     -- It does not stand behind the one before it.
     pub no_order : is_behind (routes_of ws) i ≡ false → false ≡ rules (routes_of ws)
     no_order q = rw q at tested
 
-    module _ {m : ℕ} (e : m ≡ get_or ws (slot_at i + count_word) 0) where
+    module _ {m : ℕ} (e : m ≡ length (route_at (routes_of ws) i).path) where
       -- Its path.
       pub its_path : PathFrom ws i from (from + m)
       its_path =
           record {
             sound = g.sound;
-            within = inside.1;
+            within = inside;
             start = omega (arith, g.start, g.count);
-            end = omega (arith, e, path_length ws g.sound i inside.1);
+            end = ap (λ k. from + k) e;
           }
 
       module _ (q : is_behind (routes_of ws) i ≡ true) where
@@ -147,7 +129,7 @@ module _ {ws : List ℕ} {n from i : ℕ} (g : Checked ws n from i) where
               sound = g.sound;
               count = g.count;
               within = omega arith;
-              start = rw (add-one i) (omega (arith, g.start, e, path_length ws g.sound i inside.1, paths_next (routes_of ws) i inside.1));
+              start = rw (add-one i) (omega (arith, g.start, e, paths_next (routes_of ws) i inside));
               same = rw (q, r) at tested;
             }
 
@@ -159,20 +141,15 @@ unfolding ledger_ok
 not_formed ws e = rw e
 
 module _ (ws : List ℕ) (e : well_formed route_head route_tail ws ≡ true) where
-  -- The two limits, on the words.
-  limits : ledger_ok ws ≡ ((leb (get_or ws 0 0) most_routes && leb (get_or ws 1 0) most_path_words) && rules (routes_of ws))
+  -- A packed table holds routes.
+  pub formed_sound : Sound route_head route_tail ws
+  formed_sound = passes_sound route_head route_tail ws e
+
+  -- It has two counters.
+  pub formed_long : counters ≤ length ws
+  formed_long = omega (arith, formed_sound.fits)
+
+  -- The two limits, on the words, and then the routes decide.
+  pub limits : ledger_ok ws ≡ ((leb (get_or ws 0 0) most_routes && leb (get_or ws 1 0) most_path_words) && rules (routes_of ws))
   unfolding ledger_ok routes_ok room_for
-  limits = let s = passes_sound route_head route_tail ws e in rw (e, route_count ws s, path_count ws s)
-
-  -- Too many routes.
-  pub routes_over : most_routes < get_or ws 0 0 → false ≡ ledger_ok ws
-  routes_over h = rw (limits, lt-leb (get_or ws 0 0) most_routes h)
-
-  module _ (h : get_or ws 0 0 ≤ most_routes) where
-    -- Too many numbers.
-    pub paths_over : most_path_words < get_or ws 1 0 → false ≡ ledger_ok ws
-    paths_over k = rw (limits, le-leb (get_or ws 0 0) most_routes h, lt-leb (get_or ws 1 0) most_path_words k)
-
-    -- Otherwise the routes decide.
-    pub routes_decide : get_or ws 1 0 ≤ most_path_words → rules (routes_of ws) ≡ ledger_ok ws
-    routes_decide k = rw (limits, le-leb (get_or ws 0 0) most_routes h, le-leb (get_or ws 1 0) most_path_words k)
+  limits = rw (e, route_count ws formed_sound, path_count ws formed_sound)

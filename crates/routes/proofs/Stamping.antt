@@ -1,11 +1,10 @@
 -- A verdict stored in a route's slot: the ledger of the routes with that one stamped. Assumes nothing.
 use Prim.Native.Nat.{ℕ, zero, suc, ◌+◌, ◌≤◌, ◌<◌}
 use mathlib.Core.Path.{◌≡◌, refl, sym, ◌∙◌, ap, subst}
-use mathlib.Core.Bool.{not, ◌&&◌}
+use mathlib.Core.Bool.{Bool}
 use mathlib.Core.List.{List, [], ◌∷◌, map}
 use native.Mathlib.Omega.{arith}
-use lib.Dec.{eqb}
-use lib.ListN.{length, get_or, set, length-set}
+use lib.ListN.{length, set, length-set}
 use lib.Seq.{get_or-set_same, set-set}
 use Rattle.types.specs.declared.Verdict.{Verdict}
 use Rattle.types.specs.Numbers.{verdict_number, place_a, place_b}
@@ -16,7 +15,7 @@ use Rattle.table.proofs.Setting.{with_head, set_head_sound}
 use Rattle.ledger.specs.Routes.{route_head, route_tail, route_width, slot_at, verdict_word, a_word, b_word}
 use Rattle.ledger.specs.Routes.{Route, route_of, entry_of, routes_of, ledger_of, route_at}
 use Rattle.ledger.specs.Calls.{stamped, differs, change_effect}
-use Rattle.ledger.proofs.Entries.{typing, route_is, length_routes, words_are, slot_within, verdict_is, a_is, b_is}
+use Rattle.ledger.proofs.Entries.{typing, route_is, length_routes, words_are, slot_within}
 use Rattle.ledger.specs.Helpers.{RouteIn}
 
 -- Words hold the routes of others, with route i another one.
@@ -95,16 +94,7 @@ module _ {ws : List ℕ} {i : ℕ} (p : RouteIn ws i) where
         let u = more t p.within b_word (omega arith) (place_b v) in
         rw (ew, ea, eb) (words_are _ u.sound (u.size ∙ p.size) ∙ ap ledger_of u.routes)
 
-    -- Whether one of them changed.
-    stamped_differs :
-        not (eqb (get_or ws (slot_at i + verdict_word) 0) w && (eqb (get_or ws (slot_at i + a_word) 0) a && eqb (get_or ws (slot_at i + b_word) 0) b))
-        ≡ differs (route_at (routes_of ws) i) (stamped v (route_at (routes_of ws) i))
-    stamped_differs =
-        rw (ew, ea, eb, verdict_is ws p.sound i p.within, a_is ws p.sound i p.within, b_is ws p.sound i p.within)
-
-    -- Both.
-    pub stamped_effect :
-        effect (not (eqb (get_or ws (slot_at i + verdict_word) 0) w && (eqb (get_or ws (slot_at i + a_word) 0) a && eqb (get_or ws (slot_at i + b_word) 0) b)))
-        (set (set (set ws (slot_at i + verdict_word) w) (slot_at i + a_word) a) (slot_at i + b_word) b)
-        ≡ change_effect ws i (stamped v)
-    stamped_effect = λ z. effect (stamped_differs z) (stamped_words z)
+    -- They, and whether one of them changed.
+    pub stamped_effect : {changed : Bool} → changed ≡ differs (route_at (routes_of ws) i) (stamped v (route_at (routes_of ws) i))
+        → effect changed (set (set (set ws (slot_at i + verdict_word) w) (slot_at i + a_word) a) (slot_at i + b_word) b) ≡ change_effect ws i (stamped v)
+    stamped_effect e = λ z. effect (e z) (stamped_words z)

@@ -2,18 +2,21 @@
 #![tactic(auto)]
 
 ghost use Rattle.std.specs.Prelude.{◌≡◌, true, ◌&&◌, ◌≤◌, ◌<◌, eqb, ltb, length};
-ghost use Rattle.table.specs.Table.{Sound};
+ghost use Rattle.table.specs.Table.{well_formed, Sound};
 ghost use Rattle.keyed.specs.Keyed.{ascends, every};
 ghost use Rattle.types.specs.Numbers.{role_number};
 ghost use Rattle.types.specs.Rows.{effect};
 ghost use Rattle.ledger.specs.Routes.{most_routes, route_head, route_tail, routes_of, route_at, key_of, path_words};
 ghost use Rattle.ledger.specs.Routes.{no_zero, no_runs, path_ok, route_ok, is_behind, ledger_ok};
 ghost use Rattle.ledger.specs.Calls.{stamped, change_effect};
-ghost use Rattle.ledger.specs.Helpers.{PathFrom, RouteIn};
+ghost use Rattle.ledger.specs.Helpers.{RouteIn};
+ghost use Rattle.routes.specs.Slots.{SlotIn, slot_words};
 
-use types::{AsNumber, Role, RoleRead, Verdict};
+use types::{AsNumber, Role, Verdict};
 
-// The words of a slot, counted from its first, which is the route's number.
+// The words of a slot, counted from its first.
+const NUMBER: usize = 0;
+
 const ROLE: usize = 1;
 
 const NEIGHBOUR: usize = 2;
@@ -35,18 +38,13 @@ const MOST_PLACE: u32 = as_path::MOST_NUMBERS as u32;
 
 // ---- the check
 
-// The loop has no early exit, so that the compiler takes several words at a time.
+// No number is 0. The loop has no early exit, so that the compiler takes several words at a time.
 fn has_no_zero(path: &[u32]) -> bool
     ensures { result ≡ no_zero path.now }
 {
     let mut none = true;
-    let mut i: usize = 0;
-    while i < path.len() {
-        let x = path[i];
-        i += 1;
-        if x == 0 {
-            none = false;
-        }
+    for x in path {
+        none &= *x != 0;
     }
     none
 }
@@ -56,112 +54,107 @@ fn has_no_runs(path: &[u32]) -> bool
     ensures { result ≡ no_runs path.now }
 {
     let mut none = true;
-    let mut i: usize = 1;
-    while i < path.len() {
-        let x = path[i];
-        let before = path[i - 1];
-        i += 1;
-        if x == before {
-            none = false;
-        }
+    for i in 1..path.len() {
+        none &= path[i] != path[i - 1];
     }
     none
 }
 
 // A path of a route without a ground.
+#[tactic(auto, unfolding(ledger::specs::Routes::path_ok))]
 fn is_path(role: u32, neighbour: AsNumber, path: &[u32]) -> bool
     ensures { result ≡ path_ok role neighbour.0 path.now }
 {
-    if path.len() < 1 {
-        return false;
-    }
-    if as_path::MOST_NUMBERS < path.len() {
-        return false;
-    }
-    if !has_no_zero(path) {
-        return false;
-    }
-    if !has_no_runs(path) {
-        return false;
-    }
-    let server = Role::RouteServer.number();
-    let first = neighbour.0;
-    (role == server) | (path[0] == first)
+    !path.is_empty()
+        && path.len() <= as_path::MOST_NUMBERS
+        && has_no_zero(path)
+        && has_no_runs(path)
+        && (role == u32::from(Role::RouteServer) || path[0] == neighbour.0)
 }
 
-// Route i keeps the rules; its path is at from..to.
-fn is_route(led: &[u32], i: usize, from: usize, to: usize) -> bool
-    requires { PathFrom led.now i from to }
+// The words of route i's slot.
+fn slot(led: &[u32], i: usize) -> &[u32]
+    requires { SlotIn led.now i }
+    ensures { result.now ≡ slot_words (routes_of led.now) i }
+{
+    let from = table::COUNTERS + i * ledger::WIDTH;
+    &led[from..from + ledger::WIDTH]
+}
+
+// How many numbers the path of route i has.
+fn path_length(led: &[u32], i: usize) -> usize
+    requires { SlotIn led.now i }
+    ensures { result ≡ length (route_at (routes_of led.now) i).path }
+{
+    table::word(slot(led, i), COUNT)
+}
+
+// Route i keeps the rules.
+#[tactic(auto, unfolding(ledger::specs::Routes::route_ok, ledger::specs::Routes::ground_ok))]
+fn is_route(led: &[u32], i: usize, path: &[u32]) -> bool
+    requires slot { SlotIn led.now i }
+    requires its_path { path.now ≡ (route_at (routes_of led.now) i).path }
     ensures { result ≡ route_ok (route_at (routes_of led.now) i) }
 {
-    let slot = table::COUNTERS + i * ledger::WIDTH;
-    let role = led[slot + ROLE];
-    let neighbour = led[slot + NEIGHBOUR];
-    let ground = led[slot + GROUND];
-    let verdict = led[slot + VERDICT];
-    let a = led[slot + PLACE_A];
-    let b = led[slot + PLACE_B];
-    let fits = ((Role::LEAST <= role) & (role <= Role::GREATEST))
-        & ((1 <= neighbour)
-            & ((ground <= 3) & ((verdict <= 2) & ((a <= MOST_PLACE) & (b <= MOST_PLACE)))));
+    let slot = slot(led, i);
+    let role = slot[ROLE];
+    let neighbour = slot[NEIGHBOUR];
+    let ground = slot[GROUND];
+    let verdict = slot[VERDICT];
+    let a = slot[PLACE_A];
+    let b = slot[PLACE_B];
+    let fits = Role::LEAST <= role
+        && role <= Role::GREATEST
+        && 1 <= neighbour
+        && ground <= 3
+        && verdict <= 2
+        && a <= MOST_PLACE
+        && b <= MOST_PLACE;
     if !fits {
         return false;
     }
     if ground == 0 {
-        return is_path(role, AsNumber(neighbour), &led[from..to]);
+        return is_path(role, AsNumber(neighbour), path);
     }
-    let server = Role::RouteServer.number();
-    (to - from == 0)
-        & ((verdict == 1) & ((a == 0) & ((b == 0) & !((ground == 2) & (role == server)))))
+    let by_server = ground == 2 && role == u32::from(Role::RouteServer);
+    path.is_empty() && verdict == 1 && a == 0 && b == 0 && !by_server
 }
 
 // Route i stands behind the one before it.
+#[tactic(auto, unfolding(ledger::specs::Routes::is_behind))]
 fn is_behind(led: &[u32], i: usize) -> bool
-    requires { Sound route_head route_tail led.now × (i < length (routes_of led.now)) }
+    requires { SlotIn led.now i }
     ensures { result ≡ is_behind (routes_of led.now) i }
 {
-    if i == 0 {
-        return true;
-    }
-    led[table::COUNTERS + (i - 1) * ledger::WIDTH] < led[table::COUNTERS + i * ledger::WIDTH]
+    i == 0 || slot(led, i - 1)[NUMBER] < slot(led, i)[NUMBER]
 }
 
 // Each route's own rules, and their order.
 fn are_routes(led: &[u32]) -> bool
-    requires { Sound route_head route_tail led.now }
+    requires { well_formed route_head route_tail led.now ≡ true }
     ensures { result ≡ (every route_ok (routes_of led.now) && ascends key_of eqb ltb (routes_of led.now)) }
 {
     let n = table::word(led, 0);
     let mut from = table::COUNTERS + n * ledger::WIDTH;
-    let mut i: usize = 0;
-    while i < n {
-        let to = from + table::word(led, table::COUNTERS + i * ledger::WIDTH + COUNT);
-        if !is_behind(led, i) {
-            return false;
-        }
-        if !is_route(led, i, from, to) {
+    for i in 0..n {
+        let to = from + path_length(led, i);
+        if !is_behind(led, i) || !is_route(led, i, &led[from..to]) {
             return false;
         }
         from = to;
-        i += 1;
     }
     true
 }
 
 // The words are a well-formed ledger, whatever they are.
+#[tactic(auto, using(crate::proofs::Checking::not_formed, crate::proofs::Checking::formed_long, crate::proofs::Checking::limits))]
 pub fn is_ledger(led: &[u32]) -> bool
     ensures { result ≡ ledger_ok led.now }
 {
-    if !table::well_formed(led, ledger::HEAD, ledger::TAIL) {
-        return false;
-    }
-    if ledger::MOST_ROUTES < table::word(led, 0) {
-        return false;
-    }
-    if ledger::MOST_PATH_WORDS < table::word(led, 1) {
-        return false;
-    }
-    are_routes(led)
+    table::well_formed(led, ledger::LAYOUT)
+        && table::word(led, 0) <= ledger::MOST_ROUTES
+        && table::word(led, 1) <= ledger::MOST_PATH_WORDS
+        && are_routes(led)
 }
 
 // ---- one route
@@ -182,24 +175,20 @@ pub fn path_words(led: &[u32]) -> usize
     table::word(led, 1)
 }
 
-// The ground of route i, 0 where it has none.
+// The ground of route i as its number, 0 where it has none: the promise names the word.
 pub fn ground(led: &[u32], i: usize) -> u32
     requires { RouteIn led.now i }
     ensures { result ≡ (route_at (routes_of led.now) i).ground_code }
 {
-    led[table::COUNTERS + i * ledger::WIDTH + GROUND]
+    slot(led, i)[GROUND]
 }
 
-// The role of route i. Its word is a role's number, so the way without one is never taken.
+// The role of route i. Its word is a role's number.
 pub fn role(led: &[u32], i: usize) -> Role
     requires { RouteIn led.now i }
     ensures { role_number result ≡ (route_at (routes_of led.now) i).role }
 {
-    let RoleRead::Is(role) = Role::from_number(led[table::COUNTERS + i * ledger::WIDTH + ROLE])
-    else {
-        return Role::Customer;
-    };
-    role
+    Role::try_from(slot(led, i)[ROLE]).unwrap()
 }
 
 // The path of route i, where it stands.
@@ -207,25 +196,23 @@ pub fn path(led: &[u32], i: usize) -> &[u32]
     requires { RouteIn led.now i }
     ensures { result.now ≡ (route_at (routes_of led.now) i).path }
 {
-    let slot = table::COUNTERS + i * ledger::WIDTH;
-    let from = table::COUNTERS
-        + table::word(led, 0) * ledger::WIDTH
-        + table::word(led, slot + START);
-    let to = from + table::word(led, slot + COUNT);
-    &led[from..to]
+    let start = table::word(slot(led, i), START);
+    let from = table::COUNTERS + table::word(led, 0) * ledger::WIDTH + start;
+    &led[from..from + path_length(led, i)]
 }
 
 // Route i gets a verdict's word and places; answers whether one of them changed.
+#[tactic(auto, using(crate::proofs::Stamping::slot_in))]
 pub fn stamp(led: &mut [u32], i: usize, v: Verdict) -> bool
     requires { RouteIn led.old i }
     ensures { effect result led.new ≡ change_effect led.old i (stamped v) }
 {
-    let slot = table::COUNTERS + i * ledger::WIDTH;
     let word = v.number();
     let a = v.place_a();
     let b = v.place_b();
-    let same = (led[slot + VERDICT] == word)
-        & ((led[slot + PLACE_A] == a) & (led[slot + PLACE_B] == b));
+    let old = slot(led, i);
+    let same = old[VERDICT] == word && old[PLACE_A] == a && old[PLACE_B] == b;
+    let slot = table::COUNTERS + i * ledger::WIDTH;
     led[slot + VERDICT] = word;
     led[slot + PLACE_A] = a;
     led[slot + PLACE_B] = b;

@@ -10,9 +10,6 @@ use lib.ListN.{length}
 use Rattle.types.specs.declared.Ground.TheVariants.{NotNeighbour, AsSet}
 use Rattle.types.specs.declared.Verdict.TheVariants.{Valid}
 use Rattle.types.specs.declared.Answer.{Answer}
-use Rattle.types.specs.declared.Judged.TheVariants.{Answered}
-use Rattle.as_path.specs.declared.Grounded.{Grounded}
-use Rattle.as_path.specs.declared.Grounded.TheVariants.{By, Not}
 use Rattle.as_path.specs.Segments.{number_bytes, Segment, segments}
 use Rattle.as_path.specs.Grounds.{is_not_neighbour, has_set, ground_of}
 use Rattle.as_path.specs.Merging.{numbers_in, runs_after, merge_runs, merged_path}
@@ -28,6 +25,8 @@ use Rattle.rules.proofs.Ramps.{ramp_up_is, ramp_down_is}
 use Rattle.rules.proofs.Gaps.{near}
 use Rattle.rules.proofs.Orders.{either_order}
 use Rattle.rules.proofs.Judges.{Judgement, on-ground, on_path, answered}
+use Rattle.std.specs.Prelude.{None, Ok, Option, Some}
+use Rattle.types.specs.declared.Ground.{Ground}
 
 -- Some index of i..m passes where the lowest that passes is at most m.
 pub some_is : (test : ℕ → Bool) (i n m : ℕ) → i + n ≡ suc m → some test i n ≡ leb (lowest test i n) m
@@ -154,9 +153,9 @@ collapsed_merged [] = refl
 collapsed_merged (x ∷ l) = collapsed_after x l
 
 -- What is answered by the ground, if there is one.
-abbrev unless_ground : Grounded → Answer → Answer
-unless_ground (By g) a = on_ground g
-unless_ground Not a = a
+abbrev unless_ground : Option Ground → Answer → Answer
+unless_ground (Some g) a = on_ground g
+unless_ground None a = a
 
 -- The draft's procedure up to step 2 goes by the grounds of the rules.
 by_ground : (hop : HopFunction) (role neighbour : ℕ) (ss : List Segment)
@@ -166,14 +165,14 @@ by_ground hop role neighbour [] = refl
 by_ground hop role neighbour (s ∷ ss) = rw (collapsed_merged (numbers_in (s ∷ ss))) (go (is_not_neighbour role neighbour s) (has_set (s ∷ ss)) _)
   where
     go : (b c : Bool) (x : Answer)
-        → cond b (on_ground NotNeighbour) (cond c (on_ground AsSet) x) ≡ unless_ground (cond b (By NotNeighbour) (cond c (By AsSet) Not)) x
+        → cond b (on_ground NotNeighbour) (cond c (on_ground AsSet) x) ≡ unless_ground (cond b (Some NotNeighbour) (cond c (Some AsSet) None)) x
     go true c x = refl
     go false true x = refl
     go false false x = refl
 
 -- What a judging answers is the draft's answer to the segments of the attribute.
 pub draft-route : (hop : HopFunction) (role neighbour : ℕ) (attribute : List ℕ) (a : Answer)
-    → judged_route hop role neighbour attribute ≡ Answered a → draft_route hop role neighbour (segments number_bytes attribute) ≡ a
+    → judged_route hop role neighbour attribute ≡ Ok a → draft_route hop role neighbour (segments number_bytes attribute) ≡ a
 draft-route hop role neighbour attribute a e = by_ground hop role neighbour (segments number_bytes attribute) ∙ go (answered hop role neighbour attribute a e)
   where
     ss : List Segment
@@ -181,11 +180,11 @@ draft-route hop role neighbour attribute a e = by_ground hop role neighbour (seg
 
     go : Judgement hop role neighbour attribute → unless_ground (ground_of role neighbour ss) (draft_judged hop (merged_path ss) role) ≡ a
     go (on-ground g c j) =
-        let f : Answered (on_ground g) ≡ Answered a = sym j ∙ e in
+        let f : Ok (on_ground g) ≡ Ok a = sym j ∙ e in
         let z : on_ground g ≡ a = cc in
         rw ((content_ground role neighbour attribute _ _ refl refl).0 g c) z
     go (on_path path c short j) =
-        let f : Answered (judged hop path role) ≡ Answered a = sym j ∙ e in
+        let f : Ok (judged hop path role) ≡ Ok a = sym j ∙ e in
         let z : judged hop path role ≡ a = cc in
         let m = merged_means role neighbour attribute path c in
         let n = merged_first number_bytes attribute m.clean m.some in

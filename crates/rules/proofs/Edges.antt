@@ -6,7 +6,6 @@ use mathlib.Core.List.{List, [], ◌∷◌, ◌++◌}
 use native.Mathlib.Omega.{arith}
 use lib.Dec.{ltb, eqb}
 use lib.ListN.{length, replicate, length-append}
-use Rattle.types.specs.declared.Judged.TheVariants.{Refused}
 use Rattle.types.specs.declared.Refusal.TheVariants.{AttributeLength}
 use Rattle.types.specs.Roles.{is_role}
 use Rattle.types.specs.Rows.{first_given}
@@ -23,6 +22,7 @@ use Rattle.rules.specs.Verdicts.{upstream, downstream, judged}
 use Rattle.rules.specs.Judging.{most_bytes, answer_to, judged_route}
 use Rattle.rules.specs.Vectors.{bytes, sequence, repeated, pair, pairs_then, two, longest_then, full, full_next, full_then, judged_empty, Edges}
 use Rattle.rules.proofs.Sequences.{Read, ones, none_read, read_then, sequence_read}
+use Rattle.std.specs.Prelude.{Err}
 
 pub length_repeated : (n : ℕ) (l : List ℕ) → length (repeated n l) ≡ n * length l
 unfolding repeated
@@ -81,7 +81,7 @@ answer_by : (hop : HopFunction) (role : ℕ) (attribute : List ℕ) (n : ℕ) (p
 unfolding judged_route first_given
 answer_by hop role attribute n path r l h e = rw (r, l, h, e)
 
-too_long : (attribute : List ℕ) (n : ℕ) → length attribute ≡ n → ltb most_bytes n ≡ true → judged_empty attribute ≡ Refused AttributeLength
+too_long : (attribute : List ℕ) (n : ℕ) → length attribute ≡ n → ltb most_bytes n ≡ true → judged_empty attribute ≡ Err AttributeLength
 unfolding judged_route first_given
 too_long attribute n l h = rw (l, h)
 

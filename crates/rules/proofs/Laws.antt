@@ -3,7 +3,6 @@ use Prim.Native.Nat.{ℕ, ◌-◌, ◌≤◌, ◌<◌}
 use mathlib.Core.Path.{◌≡◌, refl, sym, ◌∙◌, ap}
 use mathlib.Core.Bool.{Bool, true, false, not, cond}
 use mathlib.Core.List.{List, [], ◌∷◌}
-use mathlib.Core.Option.{some}
 use native.Mathlib.Omega.{arith}
 use borrow.Author.Tests.{ltb-false, le-ltb}
 use lib.Dec.{ltb, eqb}
@@ -15,10 +14,8 @@ use Rattle.types.specs.declared.Cause.TheVariants.{ByGround}
 use Rattle.types.specs.declared.Verdict.TheVariants.{Invalid}
 use Rattle.types.specs.declared.Answer.{Answer}
 use Rattle.types.specs.declared.Answer.TheVariants.{Plain, WithGap}
-use Rattle.types.specs.declared.Place.TheVariants.{Nowhere, Byte}
 use Rattle.types.specs.declared.Refusal.{Refusal}
 use Rattle.types.specs.declared.Refusal.TheVariants.{RoleNumber, NeighbourZero, AttributeLength, Attribute, PathLength}
-use Rattle.types.specs.declared.Judged.TheVariants.{Answered, Refused}
 use Rattle.types.specs.Numbers.{verdict_of, answer_gap, refusal_place}
 use Rattle.types.specs.Roles.{is_role, is_upstream}
 use Rattle.types.specs.Rows.{row_if, first_given}
@@ -41,20 +38,21 @@ use Rattle.rules.proofs.Orders.{not_both, either_order, places_within}
 use Rattle.rules.proofs.Locality.{same_judged}
 use Rattle.rules.proofs.Judges.{judged_reads, Judgement, on-ground, on_path, answered}
 use Rattle.rules.proofs.Drafting.{collapsed_merged, largest_is, smallest_is, draft-upstream, draft-downstream, short_valid, draft-judged, draft-route}
+use Rattle.std.specs.Prelude.{Result, Ok, Err, Some, None}
 
 -- What holds of each route that is answered: on a ground, or by its path of at most the most numbers.
 by_answer : (P : Answer → Type 0) (hop : HopFunction) (role neighbour : ℕ) (attribute : List ℕ) (a : Answer)
-    → judged_route hop role neighbour attribute ≡ Answered a → ((g : Ground) → P (Plain (Invalid (ByGround g))))
+    → judged_route hop role neighbour attribute ≡ Ok a → ((g : Ground) → P (Plain (Invalid (ByGround g))))
     → ((path : List ℕ) → 1 ≤ length path → length path ≤ most_numbers → P (judged hop path role)) → P a
 by_answer P hop role neighbour attribute a e grounds paths = go (answered hop role neighbour attribute a e)
   where
     go : Judgement hop role neighbour attribute → P a
     go (on-ground g c j) =
-        let y : Answered (Plain (Invalid (ByGround g))) ≡ Answered a = sym j ∙ e in
+        let y : Ok (Plain (Invalid (ByGround g))) ≡ Ok a = sym j ∙ e in
         let z : Plain (Invalid (ByGround g)) ≡ a = cc in
         rw (← z) (grounds g)
     go (on_path path c short j) =
-        let y : Answered (judged hop path role) ≡ Answered a = sym j ∙ e in
+        let y : Ok (judged hop path role) ≡ Ok a = sym j ∙ e in
         let z : judged hop path role ≡ a = cc in
         let m = merged_means role neighbour attribute path c in
         let one : 1 ≤ length path = rw m.same (merged_first number_bytes attribute m.clean m.some).0 in
@@ -71,7 +69,7 @@ judged_within hop path role one = go (is_upstream role)
     go false = (places_within hop path one).1
 
 answered_within : (hop : HopFunction) (role neighbour : ℕ) (attribute : List ℕ) (a : Answer)
-    → judged_route hop role neighbour attribute ≡ Answered a → Within most_numbers (verdict_of a)
+    → judged_route hop role neighbour attribute ≡ Ok a → Within most_numbers (verdict_of a)
 answered_within hop role neighbour attribute a e =
     by_answer (λ a. Within most_numbers (verdict_of a)) hop role neighbour attribute a e
     (λ g. record { a = omega arith; b = omega arith })
@@ -100,20 +98,20 @@ place_laws =
 -- ---- the gap
 
 -- The gap of a path's answer is L - K.
-answer-gap : (hop : HopFunction) (path : List ℕ) (role : ℕ) (g : ℤ) → answer_gap (judged hop path role) ≡ some g → gap_of hop path ≡ g
+answer-gap : (hop : HopFunction) (path : List ℕ) (role : ℕ) (g : ℤ) → answer_gap (judged hop path role) ≡ Some g → gap_of hop path ≡ g
 unfolding judged
 answer-gap hop path role g = go (is_upstream role)
   where
-    go : (b : Bool) → answer_gap (cond b (Plain (upstream hop path)) (WithGap (downstream hop path) (gap_of hop path))) ≡ some g → gap_of hop path ≡ g
+    go : (b : Bool) → answer_gap (cond b (Plain (upstream hop path)) (WithGap (downstream hop path) (gap_of hop path))) ≡ Some g → gap_of hop path ≡ g
     go true e = some_not_none (sym e)
     go false e = cc
 
 -- The gap of every answer lies within the most numbers of a path less one.
 answered_gap : (hop : HopFunction) (role neighbour : ℕ) (attribute : List ℕ) (a : Answer) (g : ℤ)
-    → judged_route hop role neighbour attribute ≡ Answered a → answer_gap a ≡ some g
+    → judged_route hop role neighbour attribute ≡ Ok a → answer_gap a ≡ Some g
     → ((pos 1 -ℤ pos most_numbers) ≤ℤ g) × (g ≤ℤ (pos most_numbers -ℤ pos 1))
 answered_gap hop role neighbour attribute a g e =
-    by_answer (λ a. answer_gap a ≡ some g → ((pos 1 -ℤ pos most_numbers) ≤ℤ g) × (g ≤ℤ (pos most_numbers -ℤ pos 1))) hop role neighbour attribute a e
+    by_answer (λ a. answer_gap a ≡ Some g → ((pos 1 -ℤ pos most_numbers) ≤ℤ g) × (g ≤ℤ (pos most_numbers -ℤ pos 1))) hop role neighbour attribute a e
     (λ x f. some_not_none (sym f))
     (λ path one short f.
     rw (← answer-gap hop path role g f) (gap_low hop path one most_numbers short, gap_high hop path one most_numbers short))
@@ -130,34 +128,34 @@ gap_laws =
 
 -- ---- what an answer goes by
 
-module _ (attribute : List ℕ) (r : Refusal) (p : ℕ) (at : refusal_place r ≡ Byte p) where
+module _ (attribute : List ℕ) (r : Refusal) (p : ℕ) (at : refusal_place r ≡ Some p) where
   -- A refusal without a place is none of these.
-  nowhere : (s : Refusal) → refusal_place s ≡ Nowhere → Refused s ≡ Refused r → (p < length attribute) × (p < most_bytes)
+  nowhere : (s : Refusal) → refusal_place s ≡ None → ◌≡◌ {A = Result Answer Refusal} (Err s) (Err r) → (p < length attribute) × (p < most_bytes)
   nowhere s n e =
       let z : s ≡ r = cc in
-      clash (let y : Nowhere ≡ Byte p = sym n ∙ ap refusal_place z ∙ at in cc)
+      clash (let y : None ≡ Some p = sym n ∙ ap refusal_place z ∙ at in cc)
 
   module _ (hop : HopFunction) (role neighbour : ℕ) where
     -- Rows 12 to 16, of an attribute that is not too long.
-    by_content : length attribute ≤ most_bytes → (c : Content) → content_of role neighbour attribute ≡ c → answer_to hop role c ≡ Refused r
+    by_content : length attribute ≤ most_bytes → (c : Content) → content_of role neighbour attribute ≡ c → answer_to hop role c ≡ Err r
         → (p < length attribute) × (p < most_bytes)
     by_content short (faulty f q) c e =
         let z : Attribute f q ≡ r = cc in
-        let y : Byte q ≡ Byte p = ap refusal_place z ∙ at in
+        let y : Some q ≡ Some p = ap refusal_place z ∙ at in
         let x : q ≡ p = cc in
         let h : q < length attribute = fault_laws.fault_within number_bytes attribute f q (omega arith) (content_fault role neighbour attribute f q c) in
         (omega arith, omega arith)
     by_content short (grounded g) c e = clash (cc)
     by_content short (merged path) c e = go (ltb most_numbers (length path)) e
       where
-        go : (b : Bool) → cond b (Refused PathLength) (Answered (judged hop path role)) ≡ Refused r → (p < length attribute) × (p < most_bytes)
+        go : (b : Bool) → cond b (Err PathLength) (Ok (judged hop path role)) ≡ Err r → (p < length attribute) × (p < most_bytes)
         go true e = nowhere PathLength refl e
         go false e = clash (cc)
 
     -- Rows 9 to 11 have no place.
     by_rows : (b c d : Bool) → ltb most_bytes (length attribute) ≡ d
         → unless_given (first_given (row_if b RoleNumber ∷ row_if c NeighbourZero ∷ row_if d AttributeLength ∷ []))
-        (answer_to hop role (content_of role neighbour attribute)) ≡ Refused r
+        (answer_to hop role (content_of role neighbour attribute)) ≡ Err r
         → (p < length attribute) × (p < most_bytes)
     unfolding first_given
     by_rows true c d t e = nowhere RoleNumber refl e
@@ -167,7 +165,7 @@ module _ (attribute : List ℕ) (r : Refusal) (p : ℕ) (at : refusal_place r �
 
 -- The place of a refusal is a byte of the attribute.
 refused_place : (hop : HopFunction) (role neighbour : ℕ) (attribute : List ℕ) (r : Refusal) (p : ℕ)
-    → judged_route hop role neighbour attribute ≡ Refused r → refusal_place r ≡ Byte p → (p < length attribute) × (p < most_bytes)
+    → judged_route hop role neighbour attribute ≡ Err r → refusal_place r ≡ Some p → (p < length attribute) × (p < most_bytes)
 unfolding judged_route
 refused_place hop role neighbour attribute r p e at = by_rows attribute r p at hop role neighbour (not (is_role role)) (eqb neighbour 0) _ refl e
 

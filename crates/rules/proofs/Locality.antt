@@ -9,7 +9,6 @@ use lib.Dec.{leb, ltb}
 use lib.ListN.{length}
 use Rattle.types.specs.declared.Hop.{Hop}
 use Rattle.types.specs.declared.Refusal.TheVariants.{PathLength}
-use Rattle.types.specs.declared.Judged.TheVariants.{Answered, Refused}
 use Rattle.types.specs.Rows.{first_given}
 use Rattle.as_path.specs.Reading.{most_numbers, Content, faulty, grounded, merged, content_of}
 use Rattle.rules.specs.Hops.{HopFunction, is_plus, is_not_plus, is_unattested, up, down, lowest, highest}
@@ -18,6 +17,7 @@ use Rattle.rules.specs.Judging.{argument_rows, answer_to, unless_given, judged_r
 use Rattle.rules.specs.Laws.{Lowest, Highest, SameHops}
 use Rattle.rules.proofs.Searching.{lowest_is, highest_is, lowest_same, highest_same}
 use Rattle.rules.proofs.Ramps.{ramp_up_lowest, ramp_down_highest}
+use Rattle.std.specs.Prelude.{Err, Ok}
 
 module _ {hop hop' : HopFunction} {path : List ℕ} (same : SameHops hop hop' path) where
   -- The hop upward to AS(u) is the same.
@@ -93,4 +93,4 @@ same_route hop hop' role neighbour attribute h =
     go : (c : Content) → content_of role neighbour attribute ≡ c → answer_to hop role c ≡ answer_to hop' role c
     go (faulty f p) e = refl
     go (grounded g) e = refl
-    go (merged path) e = ap (λ a. cond (ltb most_numbers (length path)) (Refused PathLength) (Answered a)) (h path e)
+    go (merged path) e = ap (λ a. cond (ltb most_numbers (length path)) (Err PathLength) (Ok a)) (h path e)

@@ -1,15 +1,12 @@
 -- What the documents say of verdicts, as statements. proofs/Laws.antt has the proof of each record.
-use Rattle.std.specs.Prelude.{ℕ, ◌+◌, ◌-◌, ◌≤◌, ◌<◌, ◌≡◌, Bool, true, false, cond, List, ℤ, pos, ◌-ℤ◌, ◌≤ℤ◌, leb, length}
-use Rattle.std.proofs.Math.Option.{some}
+use Rattle.std.specs.Prelude.{ℕ, ◌+◌, ◌-◌, ◌≤◌, ◌<◌, ◌≡◌, Bool, true, false, cond, List, ℤ, pos, ◌-ℤ◌, ◌≤ℤ◌, leb, length, Err, Ok, Some}
 use Rattle.std.specs.Int.Signed.{le_z}
 use Rattle.types.specs.declared.Origin.{Origin}
 use Rattle.types.specs.declared.Hop.TheVariants.{NoAttestation, ProviderPlus}
 use Rattle.types.specs.declared.Verdict.{Verdict}
 use Rattle.types.specs.declared.Verdict.TheVariants.{Valid, Invalid, Unknown}
 use Rattle.types.specs.declared.Answer.{Answer}
-use Rattle.types.specs.declared.Place.TheVariants.{Byte}
 use Rattle.types.specs.declared.Refusal.{Refusal}
-use Rattle.types.specs.declared.Judged.TheVariants.{Answered, Refused}
 use Rattle.types.specs.Numbers.{place_a, place_b, verdict_of, answer_gap, refusal_place}
 use Rattle.types.specs.Rows.{first_given}
 use Rattle.as_path.specs.Segments.{number_bytes, Segment, segments}
@@ -84,7 +81,7 @@ pub record PlaceLaws : Type 0 where
       → Within (length path) (upstream hop path) × Within (length path) (downstream hop path)
   -- Of every answer given for a route they are at most the most numbers of a path.
   pub answered_within : (hop : HopFunction) (role neighbour : ℕ) (attribute : List ℕ) (a : Answer)
-      → judged_route hop role neighbour attribute ≡ Answered a → Within most_numbers (verdict_of a)
+      → judged_route hop role neighbour attribute ≡ Ok a → Within most_numbers (verdict_of a)
 
 -- ---- the gap
 
@@ -97,7 +94,7 @@ pub record GapLaws : Type 0 where
   pub most_reached : (path : List ℕ) → 1 ≤ length path → gap_of (λ x y. NoAttestation) path ≡ pos (length path) -ℤ pos 1
   -- The gap of every answer given for a route lies within the most numbers of a path less one.
   pub answered : (hop : HopFunction) (role neighbour : ℕ) (attribute : List ℕ) (a : Answer) (g : ℤ)
-      → judged_route hop role neighbour attribute ≡ Answered a → answer_gap a ≡ some g
+      → judged_route hop role neighbour attribute ≡ Ok a → answer_gap a ≡ Some g
       → ((pos 1 -ℤ pos most_numbers) ≤ℤ g) × (g ≤ℤ (pos most_numbers -ℤ pos 1))
 
 -- ---- what an answer goes by
@@ -118,7 +115,7 @@ pub record AnswerLaws : Type 0 where
       → numbers_in (segments number_bytes a) ≡ numbers_in (segments number_bytes b) → judged_route hop role neighbour a ≡ judged_route hop role neighbour b
   -- The place of a refusal, which rows 12 to 16 have, is a byte of the attribute, and so below the most bytes.
   pub refused_place : (hop : HopFunction) (role neighbour : ℕ) (attribute : List ℕ) (r : Refusal) (p : ℕ)
-      → judged_route hop role neighbour attribute ≡ Refused r → refusal_place r ≡ Byte p → (p < length attribute) × (p < most_bytes)
+      → judged_route hop role neighbour attribute ≡ Err r → refusal_place r ≡ Some p → (p < length attribute) × (p < most_bytes)
 
 -- ---- the draft
 
@@ -129,7 +126,7 @@ pub record DraftLaws : Type 0 where
   pub draft-judged : (hop : HopFunction) (path : List ℕ) (role : ℕ) → 1 ≤ length path → judged hop path role ≡ draft_judged hop path role
   -- What is answered for an attribute is the draft's answer to its segments.
   pub draft-route : (hop : HopFunction) (role neighbour : ℕ) (attribute : List ℕ) (a : Answer)
-      → judged_route hop role neighbour attribute ≡ Answered a → draft_route hop role neighbour (segments number_bytes attribute) ≡ a
+      → judged_route hop role neighbour attribute ≡ Ok a → draft_route hop role neighbour (segments number_bytes attribute) ≡ a
   -- Section 6.1 gives the upstream verdict, N = 1 included; 6.2.2 the downstream one, N = 1 and N = 2 included, where it is Valid.
   pub draft-upstream : (hop : HopFunction) (path : List ℕ) → 1 ≤ length path → upstream hop path ≡ draft_upstream hop path
   pub draft-downstream : (hop : HopFunction) (path : List ℕ) → 1 ≤ length path → downstream hop path ≡ draft_downstream hop path

@@ -1,5 +1,5 @@
 -- The test vectors A to L of the rules, as one table; O and others with runs over a segment's end; the edges that the rules name. All by computation from the definitions.
-use Rattle.std.specs.Prelude.{ℕ, zero, suc, ◌/◌, ◌%◌, ◌≡◌, refl, List, [], ◌∷◌, ◌++◌, map, ℤ, pos, negsuc, length, replicate}
+use Rattle.std.specs.Prelude.{ℕ, zero, suc, ◌/◌, ◌%◌, ◌≡◌, refl, List, [], ◌∷◌, ◌++◌, map, ℤ, pos, negsuc, length, replicate, Err, Ok, Result}
 use Rattle.types.specs.declared.Ground.TheVariants.{Empty, NotNeighbour}
 use Rattle.types.specs.declared.Origin.TheVariants.{Public}
 use Rattle.types.specs.declared.Origins.TheVariants.{One, Two}
@@ -9,8 +9,6 @@ use Rattle.types.specs.declared.Verdict.TheVariants.{Valid, Invalid, Unknown}
 use Rattle.types.specs.declared.Answer.TheVariants.{Plain, WithGap}
 use Rattle.types.specs.declared.Fault.TheVariants.{CutShort}
 use Rattle.types.specs.declared.Refusal.TheVariants.{AttributeLength, Attribute, PathLength}
-use Rattle.types.specs.declared.Judged.{Judged}
-use Rattle.types.specs.declared.Judged.TheVariants.{Answered, Refused}
 use Rattle.types.specs.Rows.{first_given}
 use Rattle.as_path.specs.Segments.{number_at, numbers_at, starts_from, starts, segments}
 use Rattle.as_path.specs.Faults.{numbers_fault, segment_fault, fault_among, first_fault}
@@ -21,6 +19,8 @@ use Rattle.rules.specs.Hops.{lowest, highest, climb, descend}
 use Rattle.rules.specs.Records.{Record, is_in, attested, united, list_of, hop_of, hop_over}
 use Rattle.rules.specs.Verdicts.{upstream, downstream, judged}
 use Rattle.rules.specs.Judging.{most_bytes, judged_route}
+use Rattle.types.specs.declared.Answer.{Answer}
+use Rattle.types.specs.declared.Refusal.{Refusal}
 
 -- Four bytes a number, high byte first.
 unfoldable pub bytes : List ℕ → List ℕ
@@ -49,16 +49,16 @@ pub record Vector : Type 0 where
   pub role : ℕ
   pub neighbour : ℕ
   pub path : List ℕ
-  pub answer : Judged
+  pub answer : Result Answer Refusal
 
-abbrev vector : ℕ → ℕ → List ℕ → Judged → Vector
+abbrev vector : ℕ → ℕ → List ℕ → Result Answer Refusal → Vector
 vector r n p a = record { role = r; neighbour = n; path = p; answer = a }
 
-abbrev pub plain : Verdict → Judged
-plain v = Answered (Plain v)
+abbrev pub plain : Verdict → Result Answer Refusal
+plain v = Ok (Plain v)
 
-abbrev pub gapped : Verdict → ℤ → Judged
-gapped v g = Answered (WithGap v g)
+abbrev pub gapped : Verdict → ℤ → Result Answer Refusal
+gapped v g = Ok (WithGap v g)
 
 -- A to L: role, neighbour, path with its left end first, answer.
 abbrev pub vectors : List Vector
@@ -77,10 +77,10 @@ vectors =
     ∷ vector 4 30 (20 ∷ 10 ∷ []) (plain Valid)
     ∷ []
 
-abbrev pub wanted : Vector → Judged
+abbrev pub wanted : Vector → Result Answer Refusal
 wanted v = v.answer
 
-abbrev pub given : Vector → Judged
+abbrev pub given : Vector → Result Answer Refusal
 given v = judged_route (hop_over register_d []) v.role v.neighbour (sequence v.path)
 
 -- Every vector's answer is the definitions' own.
@@ -99,9 +99,9 @@ pub record CutVector : Type 0 where
   pub role : ℕ
   pub neighbour : ℕ
   pub paths : List (List ℕ)
-  pub answer : Judged
+  pub answer : Result Answer Refusal
 
-abbrev cut : ℕ → ℕ → List (List ℕ) → Judged → CutVector
+abbrev cut : ℕ → ℕ → List (List ℕ) → Result Answer Refusal → CutVector
 cut r n ps a = record { role = r; neighbour = n; paths = ps; answer = a }
 
 -- O first. Then a run over three ends, in the midst of which two sequences vanish; one that ends at a sequence's end; the places of a path cut so;
@@ -115,10 +115,10 @@ cut_vectors =
     ∷ cut 3 20 ((20 ∷ 10 ∷ []) ∷ (20 ∷ 10 ∷ []) ∷ []) (gapped (Invalid (ByHops 3 3 (Two Public Public))) (pos 2))
     ∷ []
 
-abbrev pub wanted_cut : CutVector → Judged
+abbrev pub wanted_cut : CutVector → Result Answer Refusal
 wanted_cut v = v.answer
 
-abbrev pub given_cut : CutVector → Judged
+abbrev pub given_cut : CutVector → Result Answer Refusal
 given_cut v = judged_route (hop_over register_d []) v.role v.neighbour (sequences v.paths)
 
 pub starred_cut : map given_cut cut_vectors ≡ map wanted_cut cut_vectors
@@ -160,24 +160,24 @@ full_next = 30 ∷ repeated 127 (20 ∷ 30 ∷ [])
 abbrev pub full_then : List ℕ → List ℕ
 full_then rest = sequence full ++ (sequence full_next ++ rest)
 
-abbrev pub judged_empty : List ℕ → Judged
+abbrev pub judged_empty : List ℕ → Result Answer Refusal
 judged_empty attribute = judged_route (hop_over [] []) 1 20 attribute
 
 -- Written from the limits, and then by number (P5); proofs/Edges.antt has the proof.
 pub record Edges : Type 0 where
   -- Nothing, and one byte.
   pub empty : judged_empty [] ≡ plain (Invalid (ByGround Empty))
-  pub lone_byte : judged_empty (2 ∷ []) ≡ Refused (Attribute CutShort 0)
+  pub lone_byte : judged_empty (2 ∷ []) ≡ Err (Attribute CutShort 0)
   -- A path of the most numbers, and of one more.
   pub most-numbers : judged_empty (pairs_then []) ≡ plain (Unknown 2 0)
-  pub one_number_more : judged_empty (pairs_then (sequence (20 ∷ []))) ≡ Refused PathLength
+  pub one_number_more : judged_empty (pairs_then (sequence (20 ∷ []))) ≡ Err PathLength
   -- One number more that goes on with the run before it.
   pub one_repeat_more : judged_empty (pairs_then (sequence (30 ∷ []))) ≡ plain (Unknown 2 0)
   -- An attribute of the most bytes, and of one more.
   pub most-bytes : judged_empty (longest_then []) ≡ plain (Unknown 2 0)
-  pub one_byte_more : judged_empty (longest_then (2 ∷ [])) ≡ Refused AttributeLength
+  pub one_byte_more : judged_empty (longest_then (2 ∷ [])) ≡ Err AttributeLength
   -- The most bytes are 4,096.
   pub bytes_are : length (longest_then []) ≡ 4096
   -- 512 numbers in segments of 255, 255 and 2, and 513.
   pub full_segments : judged_empty (full_then (sequence (20 ∷ 30 ∷ []))) ≡ plain (Unknown 2 0)
-  pub full_segments_more : judged_empty (full_then (sequence (20 ∷ 30 ∷ 20 ∷ []))) ≡ Refused PathLength
+  pub full_segments_more : judged_empty (full_then (sequence (20 ∷ 30 ∷ 20 ∷ []))) ≡ Err PathLength

@@ -20,8 +20,7 @@ pub fn origin(hop: Hop) -> Origin
 {
     match hop {
         Hop::NoAttestation => Origin::Public,
-        Hop::ProviderPlus(o, _) => o,
-        Hop::NotProviderPlus(o) => o,
+        Hop::ProviderPlus(origin, _) | Hop::NotProviderPlus(origin) => origin,
     }
 }
 
@@ -29,29 +28,17 @@ pub fn origin(hop: Hop) -> Origin
 pub fn is_plus(hop: Hop) -> bool
     ensures { result ≡ is_plus hop }
 {
-    match hop {
-        Hop::NoAttestation => false,
-        Hop::ProviderPlus(_, _) => true,
-        Hop::NotProviderPlus(_) => false,
-    }
+    matches!(hop, Hop::ProviderPlus(_, _))
 }
 
 pub fn is_not_plus(hop: Hop) -> bool
     ensures { result ≡ is_not_plus hop }
 {
-    match hop {
-        Hop::NoAttestation => false,
-        Hop::ProviderPlus(_, _) => false,
-        Hop::NotProviderPlus(_) => true,
-    }
+    matches!(hop, Hop::NotProviderPlus(_))
 }
 
 pub fn is_unattested(hop: Hop) -> bool
     ensures { result ≡ is_unattested hop }
 {
-    match hop {
-        Hop::NoAttestation => true,
-        Hop::ProviderPlus(_, _) => false,
-        Hop::NotProviderPlus(_) => false,
-    }
+    matches!(hop, Hop::NoAttestation)
 }

@@ -9,11 +9,7 @@ pub fn open_room(s: &mut [u32], at: usize, k: usize, used: usize)
     requires { (at ≤ used) × (used + k ≤ length s.old) }
     ensures { s.new ≡ opened s.old at k used }
 {
-    let mut i = used;
-    while at < i {
-        i -= 1;
-        s[i + k] = s[i];
-    }
+    s.copy_within(at..used, at + k);
 }
 
 // Zeros from index at up to, and not including, index end.
@@ -21,11 +17,7 @@ pub fn zero(s: &mut [u32], at: usize, end: usize)
     requires { (at ≤ end) × (end ≤ length s.old) }
     ensures { s.new ≡ zeroed s.old at end }
 {
-    let mut i = at;
-    while i < end {
-        s[i] = 0;
-        i += 1;
-    }
+    s[at..end].fill(0);
 }
 
 // The words at + k..used move down by k, and zeros stand behind them.
@@ -33,13 +25,8 @@ pub fn close_room(s: &mut [u32], at: usize, k: usize, used: usize)
     requires { (at + k ≤ used) × (used ≤ length s.old) }
     ensures { s.new ≡ closed s.old at k used }
 {
-    let mut i = at;
-    let end = used - k;
-    while i < end {
-        s[i] = s[i + k];
-        i += 1;
-    }
-    zero(s, i, used);
+    s.copy_within(at + k..used, at);
+    zero(s, used - k, used);
 }
 
 // All of src, from index at on.
@@ -47,11 +34,7 @@ pub fn paste(s: &mut [u32], at: usize, src: &[u32])
     requires { at + length src.now ≤ length s.old }
     ensures { s.new ≡ pasted s.old at src.now }
 {
-    let mut j = 0;
-    while j < src.len() {
-        s[at + j] = src[j];
-        j += 1;
-    }
+    s[at..at + src.len()].copy_from_slice(src);
 }
 
 // All of src goes in at index at; the words at..used move up to make room.
@@ -68,9 +51,5 @@ pub fn copy_down(s: &mut [u32], to: usize, from: usize, k: usize)
     requires { (to ≤ from) × (from + k ≤ length s.old) }
     ensures { s.new ≡ pasted s.old to (take k (drop from s.old)) }
 {
-    let mut j: usize = 0;
-    while j < k {
-        s[to + j] = s[from + j];
-        j += 1;
-    }
+    s.copy_within(from..from + k, to);
 }

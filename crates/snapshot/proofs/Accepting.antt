@@ -3,7 +3,6 @@ use Prim.Native.Nat.{ℕ, ◌+◌, ◌*◌, ◌%◌, ◌≤◌}
 use mathlib.Core.Path.{◌≡◌, refl, sym, ap, ◌∙◌}
 use mathlib.Core.Bool.{Bool, true, false, not, ◌&&◌, and-eq-true_iff}
 use mathlib.Core.List.{List}
-use mathlib.Core.Option.{Option, none, some}
 use lib.Dec.{leb, ltb, eqb}
 use lib.ListN.{length}
 use borrow.Author.Tests.{eqb-true, leb-true, ltb-false, eq-eqb, le-leb, le-ltb, not-false}
@@ -17,6 +16,7 @@ use Rattle.register.specs.Register.{register_words, record_width, register_ok}
 use Rattle.ledger.specs.Routes.{ledger_words, route_width, ledger_ok}
 use Rattle.snapshot.specs.Snapshot.{word_bytes, contents_bytes, edition, used_bytes, field, register_bytes, ledger_bytes, length_ok, contents_ok, length_in, register_in, ledger_in, register_in_ok, ledger_in_ok}
 use Rattle.snapshot.specs.Calls.{contents_rows, body_rows, read_rows}
+use Rattle.std.specs.Prelude.{None, Option, Some}
 
 -- What `if !f()` says of what f ensures.
 pub told : {a b : Bool} → a ≡ b → a ≡ true → b ≡ true
@@ -26,7 +26,7 @@ pub denied : {a b : Bool} → a ≡ b → a ≡ false → b ≡ false
 denied e h = sym e ∙ h
 
 -- A test whose row is not given passes.
-pub passed : (b : Bool) (r : Refusal) → row_if (not b) r ≡ none → b ≡ true
+pub passed : (b : Bool) (r : Refusal) → row_if (not b) r ≡ None → b ≡ true
 passed b r e = not-false b (row_passed (not b) r e)
 
 both : {a b : Bool} → a ≡ true → b ≡ true → (a && b) ≡ true
@@ -69,7 +69,7 @@ contents-ok file a =
     (both (length-ok (register_bytes file) register_words a.first_fits)
     (both (eq-eqb (field file 3) (contents_bytes + register_bytes file) a.second_start) (length-ok (ledger_bytes file) ledger_words a.second_fits)))
 
-pub cut_passes : (file : List ℕ) → Cut file → first_given (contents_rows file) ≡ none
+pub cut_passes : (file : List ℕ) → Cut file → first_given (contents_rows file) ≡ None
 unfolding first_given
 cut_passes file a =
     rw (
@@ -79,7 +79,7 @@ cut_passes file a =
       eq-eqb (length file) (length_in file) a.whole,
     )
 
-pub cut : (file : List ℕ) → first_given (contents_rows file) ≡ none → Cut file
+pub cut : (file : List ℕ) → first_given (contents_rows file) ≡ None → Cut file
 unfolding contents_ok
 cut file e =
     let row = accepted_none (contents_rows file) e in
@@ -109,7 +109,7 @@ pub record Accepted (file : List ℕ) : Type 0 where
   pub ledger-ok : ledger_ok (ledger_in file) ≡ true
   pub ledger_used : used_bytes route_width (ledger_in file) ≡ ledger_bytes file
 
-body_passes : (file : List ℕ) → Accepted file → first_given (body_rows file) ≡ none
+body_passes : (file : List ℕ) → Accepted file → first_given (body_rows file) ≡ None
 unfolding first_given
 body_passes file a =
     rw (
@@ -119,7 +119,7 @@ body_passes file a =
       eq-eqb (used_bytes route_width (ledger_in file)) (ledger_bytes file) a.ledger_used,
     )
 
-body_told : (file : List ℕ) → Cut file → first_given (body_rows file) ≡ none → Accepted file
+body_told : (file : List ℕ) → Cut file → first_given (body_rows file) ≡ None → Accepted file
 body_told file p e =
     let row = accepted_none (body_rows file) e in
     let r = (and-eq-true_iff (register_ok (register_in file)) (eqb (used_bytes record_width (register_in file)) (register_bytes file))).0
@@ -149,14 +149,14 @@ pub rows_left : (file reg led : List ℕ) → length reg ≡ register_words → 
 rows_left file reg led n m = rows_are file reg led ∙ rw (eq-eqb (length reg) register_words n, eq-eqb (length led) ledger_words m)
 
 pub read_passes : (file reg led : List ℕ) → length reg ≡ register_words → length led ≡ ledger_words → Accepted file
-    → first_given (read_rows file reg led) ≡ none
+    → first_given (read_rows file reg led) ≡ None
 read_passes file reg led n m a = rows_left file reg led n m ∙ rw (cut_passes file a.parts, body_passes file a)
 
-neither : (a b : Option Refusal) → or_else a b ≡ none → (a ≡ none) × (b ≡ none)
-neither (some r) b e = some_not_none e
-neither none b e = (refl, e)
+neither : (a b : Option Refusal) → or_else a b ≡ None → (a ≡ None) × (b ≡ None)
+neither (Some r) b e = some_not_none e
+neither None b e = (refl, e)
 
-pub read_passed : (file reg led : List ℕ) → first_given (read_rows file reg led) ≡ none → Accepted file
+pub read_passed : (file reg led : List ℕ) → first_given (read_rows file reg led) ≡ None → Accepted file
 read_passed file reg led e =
     let p = neither (length_row register_words reg) _ (sym (rows_are file reg led) ∙ e) in
     let q = neither (length_row ledger_words led) _ p.1 in

@@ -1,143 +1,101 @@
--- The loops that write words as bytes and bytes as words: each turn, and the way out; and one word of bytes. Assumes nothing.
-use Prim.Native.Nat.{ℕ, zero, suc, ◌+◌, ◌*◌, ◌/◌, ◌%◌, ◌≤◌, ◌<◌}
+-- The loops that write words as bytes and bytes as words: each turn, and the way out. Assumes nothing.
+use Prim.Native.Nat.{ℕ, zero, suc, ◌+◌, ◌-◌, ◌*◌, ◌/◌, ◌%◌, ◌^◌, ◌≤◌, ◌<◌}
 use mathlib.Core.Path.{◌≡◌, refl, sym, ap, ◌∙◌}
-use mathlib.Core.List.{List, [], ◌∷◌}
+use mathlib.Core.List.{List, [], ◌∷◌, ◌++◌, map}
 use native.Mathlib.Omega.{arith}
-use lib.ListN.{length, take, drop, get_or, set, length-set, length-drop}
-use lib.Seq.{drop-cons, drop-length, get_or-take, get_or-drop, length-take-le, sets, length-sets}
-use Rattle.snapshot.specs.Snapshot.{word_bytes, bytes_of, words_in, contents_bytes, field}
-use Rattle.snapshot.specs.Helpers.{word_at}
+use borrow.Rule.Slice.PartMut.{put_mid}
+use Rattle.std.specs.Int.{w32, to_be_bytes, from_be_bytes}
+use Rattle.std.specs.Simd.{first_chunks}
+use Rattle.std.proofs.lemmas.Grind.{common_steps}
+use Rattle.table.specs.Table.{pad}
+use Rattle.std.proofs.lemmas.List.{take_more, take_more_set, get_or-map, take-append-drop, drop-replicate}
+use Rattle.std.proofs.lemmas.Slice.{take-put_mid}
+use lib.ListN.{replicate, length-map, length, take, drop, get_or, set, length-set}
+use lib.Seq.{take_all}
+use Rattle.snapshot.specs.Snapshot.{word_bytes, bytes_of, words_in}
 
 -- ---- words as bytes
 
-pub put_four : (l : List ℕ) (p w : ℕ)
-    → set (set (set (set l p (w / 16777216)) (p + 1) (w / 65536 % 256)) (p + 2) (w / 256 % 256)) (p + 3) (w % 256) ≡ sets l p (bytes_of (w ∷ []))
+-- The bytes of a word.
+word_is : (w : ℕ) → w < 2 ^ 32 → to_be_bytes w32 w ≡ bytes_of (w ∷ [])
 unfolding bytes_of
-put_four l p w =
-    let e₁ : p + 1 ≡ suc p = omega arith in
-    let e₂ : p + 2 ≡ suc (suc p) = omega arith in
-    let e₃ : p + 3 ≡ suc (suc (suc p)) = omega arith in
-    rw (e₁, e₂, e₃)
+word_is w h =
+    let e : w / 16777216 % 256 ≡ w / 16777216 = omega arith in
+    ap (λ b. b ∷ (w / 65536 % 256 ∷ (w / 256 % 256 ∷ (w % 256 ∷ [])))) e
 
--- Words up to i are written, and what is left makes the same bytes.
-pub record Packing (words into₀ into : List ℕ) (at p i : ℕ) : Type 0 where
-  pub passed : i ≤ length words
-  pub place : p ≡ at + 4 * i
-  pub same_length : length into ≡ length into₀
-  pub same : sets into p (bytes_of (drop i words)) ≡ sets into₀ at (bytes_of words)
-
-pub pack_begins : (words into : List ℕ) (at : ℕ) → Packing words into into at at 0
-pack_begins words into at = record { passed = omega arith; place = omega arith; same_length = refl; same = refl }
-
-one_word : (l ws : List ℕ) (p q w : ℕ) → q ≡ suc (suc (suc (suc p))) → sets (sets l p (bytes_of (w ∷ []))) q (bytes_of ws) ≡ sets l p (bytes_of (w ∷ ws))
+bytes_append : (a b : List ℕ) → bytes_of (a ++ b) ≡ bytes_of a ++ bytes_of b
 unfolding bytes_of
-one_word l ws p q w e = rw e
+bytes_append [] b = refl
+bytes_append (w ∷ a) b = ap (λ l. w / 16777216 ∷ (w / 65536 % 256 ∷ (w / 256 % 256 ∷ (w % 256 ∷ l)))) (bytes_append a b)
 
-module _ {words into₀ into : List ℕ} {at p i : ℕ} (g : Packing words into₀ into at p i) where
-  pub packs_on : i < length words → (into' : List ℕ) → into' ≡ sets into p (bytes_of (get_or words i 0 ∷ [])) → Packing words into₀ into' at (p + 4) (i + 1)
-  packs_on h into' e =
-      let s : i + 1 ≡ suc i = omega arith in
-      record {
-        passed = omega arith;
-        place = omega (arith, g.place);
-        same_length = ap length e ∙ length-sets into p (bytes_of (get_or words i 0 ∷ [])) ∙ g.same_length;
-        same =
-            (λ j. sets (e j) (p + 4) (bytes_of (drop (s j) words)))
-            ∙ one_word into (drop (suc i) words) p (p + 4) (get_or words i 0) (omega arith)
-            ∙ ap (λ l. sets into p (bytes_of l)) (sym (drop-cons words i 0 h))
-            ∙ g.same;
-      }
-
-  pub pack_ends : length words ≤ i → into ≡ sets into₀ at (bytes_of words)
-  unfolding bytes_of
-  pack_ends h =
-      let z : i ≡ length words = omega (arith, g.passed) in
-      let d : drop i words ≡ [] = rw z (drop-length words) in
-      ap (λ l. sets into p (bytes_of l)) (sym d) ∙ g.same
+-- One word more is packed.
+pub packs_on :
+    (words into : List ℕ) (k : ℕ) {i : ℕ} {bytes : List ℕ}
+    → take (word_bytes * i) into ≡ bytes_of (take i words) → i < length words → get_or words i 0 < 2 ^ 32
+    → word_bytes * i ≤ length into → bytes ≡ to_be_bytes w32 (get_or words i 0)
+    → take (word_bytes * (i + 1)) (put_mid (word_bytes * i) k into bytes) ≡ bytes_of (take (i + 1) words)
+packs_on words into k {i} {bytes} same h fits room e =
+    let l : length bytes ≡ word_bytes = ap length e in
+    let w : List ℕ = get_or words i 0 ∷ [] in
+    take-put_mid (word_bytes * i) k into bytes (word_bytes * (i + 1)) (omega arith) room
+    ∙ (λ j. same j ++ (e ∙ word_is (get_or words i 0) fits) j)
+    ∙ sym (bytes_append (take i words) w)
+    ∙ ap bytes_of (sym (take_more words i 0 h))
 
 -- ---- bytes as words
 
--- Bytes up to i are words of the table, and what is left makes the same words.
-pub record Unpacking (bytes into₀ into : List ℕ) (at i n : ℕ) : Type 0 where
-  pub passed : i ≤ length bytes
-  pub place : word_bytes * n ≡ word_bytes * at + i
-  pub same_length : length into ≡ length into₀
-  pub same : sets into n (words_in (drop i bytes)) ≡ sets into₀ at (words_in bytes)
-
-pub unpack_begins : (bytes into : List ℕ) (at : ℕ) → Unpacking bytes into into at 0 at
-unpack_begins bytes into at = record { passed = omega arith; place = omega arith; same_length = refl; same = refl }
-
-four : (a b c d : ℕ) (bs : List ℕ) → words_in (a ∷ (b ∷ (c ∷ (d ∷ bs)))) ≡ (a * 16777216 + b * 65536 + c * 256 + d) ∷ words_in bs
+-- The words of bytes are those of the fours that they are cut into.
+words_are : (bytes : List ℕ) → words_in bytes ≡ map (from_be_bytes w32) (first_chunks word_bytes (length bytes / word_bytes) bytes)
 unfolding words_in
-four a b c d bs = refl
+words_are [] = refl
+words_are (a ∷ []) = refl
+words_are (a ∷ (b ∷ [])) = refl
+words_are (a ∷ (b ∷ (c ∷ []))) = refl
+words_are (a ∷ (b ∷ (c ∷ (d ∷ bytes)))) =
+    let e : length (a ∷ (b ∷ (c ∷ (d ∷ bytes)))) / word_bytes ≡ suc (length bytes / word_bytes) = omega arith in
+    rw e (ap (λ l. (a * 16777216 + b * 65536 + c * 256 + d) ∷ l) (words_are bytes))
 
-pub first_word : (bytes : List ℕ) (i : ℕ) → i + 4 ≤ length bytes
-    → words_in (drop i bytes)
-    ≡ word_at bytes i ∷ words_in (drop (i + 4) bytes)
-first_word bytes i h =
-    let e₁ : i + 1 ≡ suc i = omega arith in
-    let e₂ : i + 2 ≡ suc (suc i) = omega arith in
-    let e₃ : i + 3 ≡ suc (suc (suc i)) = omega arith in
-    let e₄ : i + 4 ≡ suc (suc (suc (suc i))) = omega arith in
-    let r : List ℕ = drop (suc (suc (suc (suc i)))) bytes in
-    let d₃ = drop-cons bytes (suc (suc (suc i))) 0 (omega arith) in
-    let d₂ = drop-cons bytes (suc (suc i)) 0 (omega arith) ∙ ap (λ l. get_or bytes (suc (suc i)) 0 ∷ l) d₃ in
-    let d₁ = drop-cons bytes (suc i) 0 (omega arith) ∙ ap (λ l. get_or bytes (suc i) 0 ∷ l) d₂ in
-    let d₀ = drop-cons bytes i 0 (omega arith) ∙ ap (λ l. get_or bytes i 0 ∷ l) d₁ in
-    rw (e₁, e₂, e₃, e₄) (ap words_in d₀ ∙ four _ _ _ _ r)
+-- Word k, as the code makes it of its four bytes.
+pub word_made :
+    (bytes d : List ℕ) {fours : List (List ℕ)} {k x : ℕ}
+    → fours ≡ first_chunks word_bytes (length bytes / word_bytes) bytes → k < length fours → x ≡ from_be_bytes w32 (get_or fours k d)
+    → x ≡ get_or (words_in bytes) k 0
+word_made bytes d {fours} {k} e h ex =
+    ex ∙ sym (get_or-map (from_be_bytes w32) fours k d 0 h) ∙ ap (λ l. get_or l k 0) (ap (map (from_be_bytes w32)) e ∙ sym (words_are bytes))
 
-module _ {bytes into₀ into : List ℕ} {at i n : ℕ} (g : Unpacking bytes into₀ into at i n) where
-  pub unpacks_on : i + 4 ≤ length bytes → (v : ℕ)
-      → v ≡ word_at bytes i
-      → Unpacking bytes into₀ (set into n v) at (i + 4) (n + 1)
-  unpacks_on h v e =
-      let s : n + 1 ≡ suc n = omega arith in
-      record {
-        passed = h;
-        place = omega (arith, g.place);
-        same_length = length-set into n v ∙ g.same_length;
-        same =
-            (λ j. sets (set into n (e j)) (s j) (words_in (drop (i + 4) bytes)))
-            ∙ ap (sets into n) (sym (first_word bytes i h))
-            ∙ g.same;
-      }
-
-  pub unpack_ends : length bytes ≤ i → into ≡ sets into₀ at (words_in bytes)
-  unfolding words_in
-  unpack_ends h =
-      let z : i ≡ length bytes = omega (arith, g.passed) in
-      let d : drop i bytes ≡ [] = rw z (drop-length bytes) in
-      ap (λ l. sets into n (words_in l)) (sym d) ∙ g.same
-
--- ---- one word
-
--- The word at an index behind the first four bytes.
-four_on : (bs : List ℕ) (i : ℕ) → word_at bs (word_bytes + i) ≡ word_at (drop word_bytes bs) i
-four_on bs i =
-    let at : (j : ℕ) → get_or bs (word_bytes + i + j) 0 ≡ get_or (drop word_bytes bs) (i + j) 0 =
-    λ j. (let e : word_bytes + i + j ≡ word_bytes + (i + j) = omega arith in ap (λ n. get_or bs n 0) e ∙ sym (get_or-drop word_bytes bs (i + j) 0)) in
-    λ t. sym (get_or-drop word_bytes bs i 0) t * 16777216 + at 1 t * 65536 + at 2 t * 256 + at 3 t
-
--- Word k of bytes is that of the four bytes from 4 k on.
-nth_word : (bs : List ℕ) (k : ℕ) → word_bytes * k + word_bytes ≤ length bs → word_at bs (word_bytes * k) ≡ get_or (words_in bs) k 0
-nth_word bs zero h = sym (ap (λ l. get_or l 0 0) (first_word bs 0 (omega arith)))
-nth_word bs (suc k) h =
-    ap (λ j. word_at bs j) e ∙ four_on bs (word_bytes * k) ∙ nth_word (drop word_bytes bs) k (simp length-drop (omega arith)) ∙ sym (ap (λ l. get_or l (suc k) 0) rest)
+pub words_long : (bytes : List ℕ) → length (words_in bytes) ≡ length bytes / word_bytes
+words_long bytes =
+    ap length (words_are bytes)
+    ∙ length-map (first_chunks word_bytes (length bytes / word_bytes) bytes) (from_be_bytes w32)
+    ∙ cut word_bytes (length bytes / word_bytes) bytes
   where
-    e : word_bytes * suc k ≡ word_bytes + word_bytes * k
-    e = omega arith
+    cut : (n k : ℕ) (xs : List ℕ) → length (first_chunks n k xs) ≡ k
+    cut n zero xs = refl
+    cut n (suc k) xs = ap suc (cut n k (drop n xs))
 
-    rest : words_in bs ≡ word_at bs 0 ∷ words_in (drop word_bytes bs)
-    rest = first_word bs 0 (omega arith)
+-- Words up to i are in the table, and behind them stands what stood there.
+pub record Unpacking (words table₀ table : List ℕ) (i : ℕ) : Type 0 where
+  pub same_length : length table ≡ length table₀
+  pub front : take i table ≡ take i words
+  pub back : drop i table ≡ drop i table₀
 
-pub field_at : (file : List ℕ) (k : ℕ) → contents_bytes ≤ length file → k < 5 → word_at file (word_bytes * k) ≡ field file k
-unfolding field
-field_at file k h l =
-    let t : List ℕ = take contents_bytes file in
-    let n : length t ≡ contents_bytes = length-take-le contents_bytes file h in
-    let at : (j : ℕ) → j < contents_bytes → get_or file j 0 ≡ get_or t j 0 = λ j m. sym (get_or-take contents_bytes file j 0 m) in
-    (λ i. at (word_bytes * k) (omega arith) i * 16777216
-    + at (word_bytes * k + 1) (omega arith) i * 65536
-    + at (word_bytes * k + 2) (omega arith) i * 256
-    + at (word_bytes * k + 3) (omega arith) i)
-    ∙ nth_word t k (omega arith)
+pub unpacks_on :
+    {words table₀ table : List ℕ} {i x : ℕ} → Unpacking words table₀ table i → i < length words → length words ≤ length table₀ → x ≡ get_or words i 0
+    → Unpacking words table₀ (set table i x) (i + 1)
+unpacks_on {words} {table₀} {table} {i} {x} g h fits e =
+    let room : i < length table = omega (arith, g.same_length) in
+    record {
+      same_length = length-set table i x ∙ g.same_length;
+      front = take_more_set table i x room ∙ (λ j. g.front j ++ e j ∷ []) ∙ sym (take_more words i 0 h);
+      back = grind (arith, common_steps, g.back);
+    }
+
+pub unpacked :
+    (words : List ℕ) (size : ℕ) {table : List ℕ} {i : ℕ} → Unpacking words (replicate size 0) table i → i ≤ length words → length words ≤ i
+    → table ≡ pad size words
+unfolding pad
+unpacked words size {table} {i} g h h' =
+    let e : i ≡ length words = omega arith in
+    sym (take-append-drop i table)
+    ∙ (λ j. (g.front ∙ take_all i words h') j ++ (g.back ∙ drop-replicate i size 0) j)
+    ∙ ap (λ n. words ++ replicate (size - n) 0) e

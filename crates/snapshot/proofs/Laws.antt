@@ -3,7 +3,6 @@ use Prim.Native.Nat.{ℕ, ◌≤◌, ◌<◌}
 use mathlib.Core.Path.{◌≡◌, refl, sym, ap, ◌∙◌}
 use mathlib.Core.Bool.{Bool, true, false, not}
 use mathlib.Core.List.{List}
-use mathlib.Core.Option.{Option, none, some}
 use mathlib.Core.Logic.{◌↔◌}
 use native.Mathlib.Omega.{arith}
 use lib.Dec.{ltb, eqb}
@@ -12,11 +11,9 @@ use lib.Seq.{take_at, drop_at}
 use borrow.Author.Tests.{eqb-true, ltb-true, ltb-false}
 use Rattle.types.specs.declared.Refusal.{Refusal}
 use Rattle.types.specs.declared.Refusal.TheVariants.{TableLength, RegisterMalformed, RoutesMalformed, OutputLength, Edition, Contents, SnapshotLength}
-use Rattle.types.specs.declared.Written.TheVariants as written
-use Rattle.types.specs.declared.Restored.TheVariants as restored
 use Rattle.types.specs.Rows.{first_given, FirstAt, effect, unless_refused}
 use Rattle.types.proofs.Clashes.{clash}
-use Rattle.types.proofs.Refusing.{refused_first, first_refuses, accepted_none, none_accepted, answers_first, refusal_leaves, numbered}
+use Rattle.types.proofs.Refusing.{refusal_same, refused_first, first_refuses, accepted_none, none_accepted, answers_first, refusal_leaves, numbered}
 use Rattle.register.specs.Register.{register_words, register_ok}
 use Rattle.ledger.specs.Routes.{ledger_words, ledger_ok}
 use Rattle.snapshot.specs.Snapshot.{FormedTables, bytes_of, contents_bytes, edition, snapshot_of, field, contents_ok, length_in, register_in, ledger_in, register_in_ok, ledger_in_ok}
@@ -26,6 +23,7 @@ use Rattle.snapshot.proofs.Padding.{register_limits, ledger_limits}
 use Rattle.snapshot.proofs.Accepting.{passed, Accepted, read_passed}
 use Rattle.snapshot.proofs.RoundTrips.{first, second, long, written_again, read_tables, written_back}
 use Rattle.snapshot.proofs.Writing.{short_row, write_accepted}
+use Rattle.std.specs.Prelude.{Err, None, Ok, Option, Some}
 
 -- ---- Write
 
@@ -35,7 +33,7 @@ pub record Wrote (reg led out : List ℕ) (n : ℕ) : Type 0 where
   pub count : n ≡ length (snapshot_of reg led)
   pub bytes : (write_effect reg led out).words ≡ over (snapshot_of reg led) out
 
-formed : (reg led out : List ℕ) → first_given (write_rows reg led out) ≡ none → FormedTables reg led
+formed : (reg led out : List ℕ) → first_given (write_rows reg led out) ≡ None → FormedTables reg led
 formed reg led out e =
     let row = accepted_none (write_rows reg led out) e in
     record {
@@ -45,38 +43,38 @@ formed reg led out e =
       ledger-ok = passed (ledger_ok led) RoutesMalformed (row 3);
     }
 
-wrote : (reg led out : List ℕ) (n : ℕ) → (write_effect reg led out).answer ≡ written.Bytes n → Wrote reg led out n
+wrote : (reg led out : List ℕ) (n : ℕ) → (write_effect reg led out).answer ≡ Ok n → Wrote reg led out n
 unfolding write_effect
 wrote reg led out n = go (first_given (write_rows reg led out)) refl
   where
     go : (o : Option Refusal) → first_given (write_rows reg led out) ≡ o
-        → (unless_refused o written.Refused out (effect (written.Bytes (length (snapshot_of reg led))) (over (snapshot_of reg led) out))).answer ≡ written.Bytes n
+        → (unless_refused o out (effect (Ok (length (snapshot_of reg led))) (over (snapshot_of reg led) out))).answer ≡ Ok n
         → Wrote reg led out n
-    go (some r) e h = clash (cc)
-    go none e h = record { tables = formed reg led out e; count = cc; bytes = rw e }
+    go (Some r) e h = clash (cc)
+    go None e h = record { tables = formed reg led out e; count = cc; bytes = rw e }
 
 write_refused_first : (reg led out : List ℕ) (r : Refusal)
-    → ((write_effect reg led out).answer ≡ written.Refused r) ↔ ((i : ℕ) × FirstAt (write_rows reg led out) i r)
+    → ((write_effect reg led out).answer ≡ Err r) ↔ ((i : ℕ) × FirstAt (write_rows reg led out) i r)
 unfolding write_effect
-write_refused_first reg led out r = answers_first (write_rows reg led out) written.Refused out _ (λ x y e. cc) (λ x e. clash (cc)) r
+write_refused_first reg led out r = answers_first (write_rows reg led out) out _ _ r
 
 write_accepted_none : (reg led out : List ℕ)
-    → ((write_effect reg led out).answer ≡ written.Bytes (length (snapshot_of reg led))) ↔ ((i : ℕ) → get_or (write_rows reg led out) i none ≡ none)
+    → ((write_effect reg led out).answer ≡ Ok (length (snapshot_of reg led))) ↔ ((i : ℕ) → get_or (write_rows reg led out) i None ≡ None)
 unfolding write_effect
 write_accepted_none reg led out = (λ h. accepted_none (write_rows reg led out) (to (first_given (write_rows reg led out)) h), λ h. rw (none_accepted (write_rows reg led out) h))
   where
     to : (o : Option Refusal)
-        → (unless_refused o written.Refused out (effect (written.Bytes (length (snapshot_of reg led))) (over (snapshot_of reg led) out))).answer
-        ≡ written.Bytes (length (snapshot_of reg led))
-        → o ≡ none
-    to (some r) h = clash (cc)
-    to none h = refl
+        → (unless_refused o out (effect (Ok (length (snapshot_of reg led))) (over (snapshot_of reg led) out))).answer
+        ≡ Ok (length (snapshot_of reg led))
+        → o ≡ None
+    to (Some r) h = clash (cc)
+    to None h = refl
 
-write_refused_leaves : (reg led out : List ℕ) (r : Refusal) → (write_effect reg led out).answer ≡ written.Refused r → (write_effect reg led out).words ≡ out
+write_refused_leaves : (reg led out : List ℕ) (r : Refusal) → (write_effect reg led out).answer ≡ Err r → (write_effect reg led out).words ≡ out
 unfolding write_effect
-write_refused_leaves reg led out r h = refusal_leaves (write_rows reg led out) written.Refused out _ (λ s e. clash (cc)) r h
+write_refused_leaves reg led out r h = refusal_leaves (write_rows reg led out) out _ _ r h
 
-accepted_bytes : (reg led out : List ℕ) (n : ℕ) → (write_effect reg led out).answer ≡ written.Bytes n
+accepted_bytes : (reg led out : List ℕ) (n : ℕ) → (write_effect reg led out).answer ≡ Ok n
     → (take n (write_effect reg led out).words ≡ snapshot_of reg led) × (drop n (write_effect reg led out).words ≡ drop n out)
 accepted_bytes reg led out n h =
     let w = wrote reg led out n h in
@@ -86,14 +84,14 @@ accepted_bytes reg led out n h =
     )
 
 too_short : (reg led out : List ℕ) → FormedTables reg led
-    → ((write_effect reg led out).answer ≡ written.Refused OutputLength) ↔ (length out < length (snapshot_of reg led))
+    → ((write_effect reg led out).answer ≡ Err OutputLength) ↔ (length out < length (snapshot_of reg led))
 unfolding write_effect
 too_short reg led out t = (to (ltb (length out) (length (snapshot_of reg led))) refl, λ h. rw (short_row reg led out t h))
   where
-    fits : length (snapshot_of reg led) ≤ length out → (write_effect reg led out).answer ≡ written.Refused OutputLength → length out < length (snapshot_of reg led)
+    fits : length (snapshot_of reg led) ≤ length out → (write_effect reg led out).answer ≡ Err OutputLength → length out < length (snapshot_of reg led)
     fits h e = let z = ap (λ s. s.answer) (write_accepted reg led out t h) in clash (cc)
 
-    to : (b : Bool) → ltb (length out) (length (snapshot_of reg led)) ≡ b → (write_effect reg led out).answer ≡ written.Refused OutputLength
+    to : (b : Bool) → ltb (length out) (length (snapshot_of reg led)) ≡ b → (write_effect reg led out).answer ≡ Err OutputLength
         → length out < length (snapshot_of reg led)
     to true q e = ltb-true (length out) (length (snapshot_of reg led)) q
     to false q e = fits (ltb-false (length out) (length (snapshot_of reg led)) q) e
@@ -144,46 +142,43 @@ write_laws = record {
 -- ---- Read
 
 -- An accepted reading passed every row.
-read_done : (file reg led : List ℕ) → (read_effect file reg led).answer ≡ restored.Done
-    → Accepted file × (read_effect file reg led ≡ reading restored.Done (register_in file) (ledger_in file))
+read_done : (file reg led : List ℕ) → (read_effect file reg led).answer ≡ Ok tt
+    → Accepted file × (read_effect file reg led ≡ reading (Ok tt) (register_in file) (ledger_in file))
 unfolding read_effect
 read_done file reg led = go (first_given (read_rows file reg led)) refl
   where
-    go : (o : Option Refusal) → first_given (read_rows file reg led) ≡ o → (read_unless o file reg led).answer ≡ restored.Done
-        → Accepted file × (read_unless o file reg led ≡ reading restored.Done (register_in file) (ledger_in file))
-    go (some r) e h = clash (cc)
-    go none e h = (read_passed file reg led e, refl)
+    go : (o : Option Refusal) → first_given (read_rows file reg led) ≡ o → (read_unless o file reg led).answer ≡ Ok tt
+        → Accepted file × (read_unless o file reg led ≡ reading (Ok tt) (register_in file) (ledger_in file))
+    go (Some r) e h = clash (cc)
+    go None e h = (read_passed file reg led e, refl)
 
 read_refused_first : (file reg led : List ℕ) (r : Refusal)
-    → ((read_effect file reg led).answer ≡ restored.Refused r) ↔ ((i : ℕ) × FirstAt (read_rows file reg led) i r)
+    → ((read_effect file reg led).answer ≡ Err r) ↔ ((i : ℕ) × FirstAt (read_rows file reg led) i r)
 unfolding read_effect
 read_refused_first file reg led r = (to (first_given (read_rows file reg led)) refl, λ p. rw (first_refuses (read_rows file reg led) p.0 r p.1))
   where
-    same : (s : Refusal) → restored.Refused s ≡ restored.Refused r → s ≡ r
-    same s h = cc
-
-    to : (o : Option Refusal) → first_given (read_rows file reg led) ≡ o → (read_unless o file reg led).answer ≡ restored.Refused r
+    to : (o : Option Refusal) → first_given (read_rows file reg led) ≡ o → (read_unless o file reg led).answer ≡ Err r
         → (i : ℕ) × FirstAt (read_rows file reg led) i r
-    to (some s) e h = refused_first (read_rows file reg led) r (e ∙ ap some (same s h))
-    to none e h = clash (cc)
+    to (Some s) e h = refused_first (read_rows file reg led) r (e ∙ ap Some (refusal_same s r h))
+    to None e h = clash (cc)
 
-read_accepted_none : (file reg led : List ℕ) → ((read_effect file reg led).answer ≡ restored.Done) ↔ ((i : ℕ) → get_or (read_rows file reg led) i none ≡ none)
+read_accepted_none : (file reg led : List ℕ) → ((read_effect file reg led).answer ≡ Ok tt) ↔ ((i : ℕ) → get_or (read_rows file reg led) i None ≡ None)
 unfolding read_effect
 read_accepted_none file reg led =
     (λ h. accepted_none (read_rows file reg led) (to (first_given (read_rows file reg led)) h), λ h. rw (none_accepted (read_rows file reg led) h))
   where
-    to : (o : Option Refusal) → (read_unless o file reg led).answer ≡ restored.Done → o ≡ none
-    to (some r) h = clash (cc)
-    to none h = refl
+    to : (o : Option Refusal) → (read_unless o file reg led).answer ≡ Ok tt → o ≡ None
+    to (Some r) h = clash (cc)
+    to None h = refl
 
-read_refused_leaves : (file reg led : List ℕ) (r : Refusal) → (read_effect file reg led).answer ≡ restored.Refused r
-    → read_effect file reg led ≡ reading (restored.Refused r) reg led
+read_refused_leaves : (file reg led : List ℕ) (r : Refusal) → (read_effect file reg led).answer ≡ Err r
+    → read_effect file reg led ≡ reading (Err r) reg led
 unfolding read_effect
 read_refused_leaves file reg led r = go (first_given (read_rows file reg led))
   where
-    go : (o : Option Refusal) → (read_unless o file reg led).answer ≡ restored.Refused r → read_unless o file reg led ≡ reading (restored.Refused r) reg led
-    go (some s) h = λ i. reading (h i) reg led
-    go none h = clash (cc)
+    go : (o : Option Refusal) → (read_unless o file reg led).answer ≡ Err r → read_unless o file reg led ≡ reading (Err r) reg led
+    go (Some s) h = λ i. reading (h i) reg led
+    go None h = clash (cc)
 
 same_answer : (file reg led reg' led' : List ℕ) → length reg ≡ length reg' → length led ≡ length led'
     → (read_effect file reg led).answer ≡ (read_effect file reg' led').answer
@@ -191,8 +186,8 @@ unfolding read_effect
 same_answer file reg led reg' led' e f = rw (e, f) (go (first_given (read_rows file reg' led')))
   where
     go : (o : Option Refusal) → (read_unless o file reg led).answer ≡ (read_unless o file reg' led').answer
-    go (some r) = refl
-    go none = refl
+    go (Some r) = refl
+    go None = refl
 
 read_laws : ReadLaws
 unfolding field contents_ok
@@ -238,7 +233,7 @@ round_trips = record {
       let e : snapshot_of (register_in file) (ledger_in file) ≡ file = written_back file d.0 b in
       (λ i. write_effect (d.1 i).register (d.1 i).ledger out)
       ∙ write_accepted (register_in file) (ledger_in file) out (read_tables file d.0) (rw e l)
-      ∙ (λ i. effect (written.Bytes (length (e i))) (over (e i) out));
+      ∙ (λ i. effect (Ok (length (e i))) (over (e i) out));
   read_formed = λ file reg led h. let d = read_done file reg led h in rw d.1 (read_tables file d.0);
 }
 

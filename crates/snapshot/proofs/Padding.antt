@@ -57,6 +57,21 @@ pub ledger_filled : (led : List ℕ) → ledger_ok led ≡ true → Filled route
 unfolding ledger_ok
 ledger_filled led e = filled route_head route_tail led ((and-eq-true_iff (well_formed route_head route_tail led) (routes_ok (routes_of led))).0 e).0
 
+pub register_within : (reg : List ℕ) → register_ok reg ≡ true → used_count record_width reg ≤ length reg
+register_within reg e = (register_filled reg e).within
+
+pub ledger_within : (led : List ℕ) → ledger_ok led ≡ true → used_count route_width led ≤ length led
+ledger_within led e = (ledger_filled led e).within
+
+-- The used words, cut off as the code cuts them.
+pub register_cut : (reg : List ℕ) (n : ℕ) → register_ok reg ≡ true → n ≡ used_count record_width reg → n ≡ length (take n reg)
+register_cut reg n e m = sym (length-take-le n reg (omega (arith, m, register_within reg e)))
+
+pub ledger_cut : (led : List ℕ) (n : ℕ) → ledger_ok led ≡ true → n ≡ used_count route_width led → n ≡ length (take n led)
+ledger_cut led n e m = sym (length-take-le n led (omega (arith, m, ledger_within led e)))
+
+pub ruleset cuts = (register_within, ledger_within, register_cut, ledger_cut)
+
 -- Their two counts keep the limits.
 pub register_limits : (reg : List ℕ) → register_ok reg ≡ true → (get_or reg 0 0 ≤ most_records) × (get_or reg 1 0 ≤ most_listed)
 register_limits reg e =

@@ -5,7 +5,6 @@ use mathlib.Core.List.{List, [], ◌∷◌, ◌++◌}
 use native.Mathlib.Omega.{arith}
 use lib.ListN.{length, take, drop, get_or, length-append, take-append-drop}
 use lib.Seq.{take_at, drop_at, drop-drop}
-use Rattle.types.specs.declared.Restored.TheVariants as restored
 use Rattle.table.specs.Table.{pad}
 use Rattle.register.specs.Register.{register_words, record_width}
 use Rattle.ledger.specs.Routes.{ledger_words, route_width}
@@ -15,6 +14,7 @@ use Rattle.snapshot.proofs.Bytewise.{words_bytes, bytes_words, length_bytes, len
 use Rattle.snapshot.proofs.Padding.{Filled, take_pad, register_filled, ledger_filled}
 use Rattle.snapshot.proofs.Parts.{head_part, first_part, second_part, long_head_part, long_first_part, long_second_part, words_first, words_second, register_long, ledger_long}
 use Rattle.snapshot.proofs.Accepting.{Accepted, read_passes}
+use Rattle.std.specs.Prelude.{Ok}
 
 -- ---- a file that was written
 
@@ -109,11 +109,11 @@ module _ (reg led : List ℕ) (t : FormedTables reg led) where
       }
 
   pub written_again : (reg₀ led₀ : List ℕ) → length reg₀ ≡ register_words → length led₀ ≡ ledger_words
-      → read_effect (snapshot_of reg led) reg₀ led₀ ≡ reading restored.Done reg led
+      → read_effect (snapshot_of reg led) reg₀ led₀ ≡ reading (Ok tt) reg led
   unfolding read_effect
   written_again reg₀ led₀ e f =
       ap (λ o. read_unless o (snapshot_of reg led) reg₀ led₀) (read_passes (snapshot_of reg led) reg₀ led₀ e f written_accepted)
-      ∙ (λ i. reading restored.Done (register_back i) (ledger_back i))
+      ∙ (λ i. reading (Ok tt) (register_back i) (ledger_back i))
 
 -- ---- a file that was read
 

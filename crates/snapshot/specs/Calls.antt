@@ -1,12 +1,7 @@
 -- Writing and reading a snapshot ("The calls"): the answer, every byte of the output, every word of both tables, for every argument.
-use Rattle.std.specs.Prelude.{ℕ, not, List, [], ◌∷◌, ◌++◌, ltb, eqb, length, drop}
-use Rattle.std.proofs.Math.Option.{Option, none, some}
+use Rattle.std.specs.Prelude.{ℕ, not, List, [], ◌∷◌, ◌++◌, ltb, eqb, length, drop, Err, None, Ok, Option, Result, Some}
 use Rattle.types.specs.declared.Refusal.{Refusal}
 use Rattle.types.specs.declared.Refusal.TheVariants.{RegisterMalformed, RoutesMalformed, OutputLength, Edition, Contents, SnapshotLength}
-use Rattle.types.specs.declared.Written.{Written}
-use Rattle.types.specs.declared.Written.TheVariants as written
-use Rattle.types.specs.declared.Restored.{Restored}
-use Rattle.types.specs.declared.Restored.TheVariants as restored
 use Rattle.types.specs.Rows.{row_if, length_row, first_given, Effect, effect, unless_refused}
 use Rattle.register.specs.Register.{register_words}
 use Rattle.register.specs.Calls.{register_row}
@@ -31,10 +26,10 @@ abbrev pub over : List ℕ → List ℕ → List ℕ
 over file out = file ++ drop (length file) out
 
 -- Write answers the file's length; the words are the output's bytes.
-unfoldable pub write_effect : List ℕ → List ℕ → List ℕ → Effect Written
+unfoldable pub write_effect : List ℕ → List ℕ → List ℕ → Effect (Result ℕ Refusal)
 write_effect reg led out =
-    unless_refused (first_given (write_rows reg led out)) written.Refused out
-    (effect (written.Bytes (length (snapshot_of reg led))) (over (snapshot_of reg led) out))
+    unless_refused (first_given (write_rows reg led out)) out
+    (effect (Ok (length (snapshot_of reg led))) (over (snapshot_of reg led) out))
 
 -- ---- Read
 
@@ -57,17 +52,17 @@ read_rows file reg led = length_row register_words reg ∷ (length_row ledger_wo
 
 -- What Read answers, and the words that it leaves in both tables.
 pub record Reading : Type 0 where
-  pub answer : Restored
+  pub answer : Result Unit Refusal
   pub register : List ℕ
   pub ledger : List ℕ
 
-abbrev pub reading : Restored → List ℕ → List ℕ → Reading
+abbrev pub reading : Result Unit Refusal → List ℕ → List ℕ → Reading
 reading answer reg led = record { answer = answer; register = reg; ledger = led }
 
 -- A refused reading leaves both tables.
 abbrev pub read_unless : Option Refusal → List ℕ → List ℕ → List ℕ → Reading
-read_unless (some r) file reg led = reading (restored.Refused r) reg led
-read_unless none file reg led = reading restored.Done (register_in file) (ledger_in file)
+read_unless (Some r) file reg led = reading (Err r) reg led
+read_unless None file reg led = reading (Ok tt) (register_in file) (ledger_in file)
 
 unfoldable pub read_effect : List ℕ → List ℕ → List ℕ → Reading
 read_effect file reg led = read_unless (first_given (read_rows file reg led)) file reg led

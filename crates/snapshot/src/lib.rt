@@ -2,14 +2,13 @@
 // is written; crate `restoring` reads it.
 #![tactic(auto)]
 
-ghost use Rattle.std.specs.Prelude.{◌≡◌, [], ◌∷◌, ◌+◌, ◌*◌, ◌≤◌, length};
-ghost use Rattle.std.proofs.lemmas.List.Edits.{sets};
+ghost use Rattle.std.specs.Prelude.{◌≡◌, ◌+◌, ◌*◌, ◌^◌, ◌≤◌, ◌<◌, length};
 ghost use Rattle.types.specs.Rows.{effect};
-ghost use Rattle.snapshot.specs.Snapshot.{word_bytes, bytes_of, used_count, snapshot_of};
+ghost use Rattle.snapshot.specs.Snapshot.{word_bytes, contents_bytes, bytes_of, used_count};
 ghost use Rattle.snapshot.specs.Calls.{over, write_effect};
-ghost use Rattle.snapshot.specs.Helpers.{Writable};
+ghost use Rattle.snapshot.specs.Helpers.{file_of};
 
-use types::{Refusal, Written};
+use types::Refusal;
 
 pub const EDITION: u32 = 1;
 
@@ -19,28 +18,14 @@ pub const WORD: usize = 4;
 // The bytes of the contents.
 pub const CONTENTS: usize = 20;
 
-// The bytes of a word go into a buffer from index at on.
-fn put(into: &mut [u8], at: usize, w: u32)
-    requires { at + word_bytes ≤ length into.old }
-    ensures { into.new ≡ sets into.old at (bytes_of (w ∷ [])) }
+// The bytes of words fill a buffer.
+fn pack(words: &[u32], into: &mut [u8])
+    requires { length into.old ≡ word_bytes * length words.now }
+    ensures { into.new ≡ bytes_of words.now }
 {
-    into[at] = (w / 16777216) as u8;
-    into[at + 1] = (w / 65536 % 256) as u8;
-    into[at + 2] = (w / 256 % 256) as u8;
-    into[at + 3] = (w % 256) as u8;
-}
-
-// The bytes of words, likewise.
-fn pack(words: &[u32], into: &mut [u8], at: usize)
-    requires { at + word_bytes * length words.now ≤ length into.old }
-    ensures { into.new ≡ sets into.old at (bytes_of words.now) }
-{
-    let mut p = at;
-    let mut i: usize = 0;
-    while i < words.len() {
-        put(into, p, words[i]);
-        p += WORD;
-        i += 1;
+    for (i, word) in words.iter().enumerate() {
+        let at = WORD * i;
+        into[at..at + WORD].copy_from_slice(&word.to_be_bytes());
     }
 }
 
@@ -54,47 +39,47 @@ pub fn used(table: &[u32], slot: usize) -> usize
 
 // ---- writing
 
-// The file of two tables with r and l used words goes to the start of the output.
-fn emit(reg: &[u32], led: &[u32], r: usize, l: usize, out: &mut [u8])
-    requires { Writable reg.now led.now out.old r l }
-    ensures { out.new ≡ over (snapshot_of reg.now led.now) out.old }
+// The file of a register's and a ledger's used words goes to the start of the output.
+fn emit(reg: &[u32], led: &[u32], out: &mut [u8])
+    requires few { length reg.now + length led.now < 2 ^ 24 }
+    requires room { contents_bytes + word_bytes * length reg.now + word_bytes * length led.now ≤ length out.old }
+    ensures { out.new ≡ over (file_of reg.now led.now) out.old }
 {
-    let next = CONTENTS + WORD * r;
+    let r = WORD * reg.len();
+    let l = WORD * led.len();
     let contents = [
         EDITION,
         CONTENTS as u32,
-        (WORD * r) as u32,
-        next as u32,
-        (WORD * l) as u32,
+        r as u32,
+        (CONTENTS + r) as u32,
+        l as u32,
     ];
-    pack(&contents, out, 0);
-    pack(&reg[..r], out, CONTENTS);
-    pack(&led[..l], out, next);
+    let (head, rest) = out.split_at_mut(CONTENTS);
+    let (first, second) = rest.split_at_mut(r);
+    pack(&contents, head);
+    pack(reg, first);
+    pack(led, &mut second[..l]);
 }
 
 // Writes the file of both tables to the start of the output, and answers its length in bytes. The output's other bytes stay.
 // Rows 1, 2, 3, 21; row 1 is tested for both tables before row 2.
-pub fn write(reg: &[u32], led: &[u32], out: &mut [u8]) -> Written
+#[tactic(auto, using(crate::proofs::Padding::cuts), unfolding(types::specs::Rows::first_given, crate::specs::Calls::write_effect))]
+pub fn write(reg: &[u32], led: &[u32], out: &mut [u8]) -> Result<usize, Refusal>
     ensures { effect result out.new ≡ write_effect reg.now led.now out.old }
 {
-    if reg.len() != register::WORDS {
-        return Written::Refused(Refusal::TableLength);
+    if reg.len() != register::WORDS || led.len() != ledger::WORDS {
+        return Err(Refusal::TableLength);
     }
-    if led.len() != ledger::WORDS {
-        return Written::Refused(Refusal::TableLength);
-    }
-    if !finding::is_register(reg) {
-        return Written::Refused(Refusal::RegisterMalformed);
-    }
+    finding::check(reg)?;
     if !routes::is_ledger(led) {
-        return Written::Refused(Refusal::RoutesMalformed);
+        return Err(Refusal::RoutesMalformed);
     }
     let r = used(reg, register::WIDTH);
     let l = used(led, ledger::WIDTH);
-    let bytes = CONTENTS + WORD * r + WORD * l;
+    let bytes = CONTENTS + WORD * (r + l);
     if out.len() < bytes {
-        return Written::Refused(Refusal::OutputLength);
+        return Err(Refusal::OutputLength);
     }
-    emit(reg, led, r, l, out);
-    Written::Bytes(bytes)
+    emit(&reg[..r], &led[..l], out);
+    Ok(bytes)
 }

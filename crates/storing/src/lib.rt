@@ -9,8 +9,7 @@ ghost use Rattle.ledger.specs.Calls.{holds_route, route_for, store_effect, drop_
 ghost use Rattle.ledger.specs.Helpers.{most_steps};
 
 use halves::{Key, Range};
-use ledger::Kept;
-use types::{AsNumber, Refusal, Removal, Role, RouteNumber, Verdict};
+use types::{Neighbour, Refusal, RouteNumber, Verdict};
 
 const NO_TAIL: [u32; ledger::TAIL] = [0u32; ledger::TAIL];
 
@@ -31,8 +30,7 @@ fn find(led: &[u32], number: RouteNumber) -> usize
     requires { ledger_ok led.now ≡ true }
     ensures { (result ≡ position_of number.0 (routes_of led.now)) × (result ≤ length (routes_of led.now)) }
 {
-    let found = search(led, number);
-    found.low
+    search(led, number).low
 }
 
 // Whether the route at a position that `find` answered is the one looked for.
@@ -40,73 +38,58 @@ fn is_at(led: &[u32], position: usize, number: RouteNumber) -> bool
     requires { (ledger_ok led.now ≡ true) × (position ≡ position_of number.0 (routes_of led.now)) }
     ensures { result ≡ holds_route number.0 (routes_of led.now) }
 {
-    let n = number.0;
-    if position < table::word(led, 0) {
-        return led[table::COUNTERS + position * ledger::WIDTH] == n;
-    }
-    false
+    position < table::word(led, 0) && led[table::COUNTERS + position * ledger::WIDTH] == number.0
 }
 
 // A new route goes in at its position, if its number is free and there is room for it. Rows 18, 20.
 pub fn store(
     led: &mut [u32],
     number: RouteNumber,
-    role: Role,
-    neighbour: AsNumber,
+    neighbour: Neighbour,
     verdict: Verdict,
     path: &[u32],
-) -> Kept
+) -> Result<(), Refusal>
     requires { (length led.old ≡ ledger_words) × (ledger_ok led.old ≡ true) }
     ensures { effect result led.new
-        ≡ store_effect led.old (route_for number.0 (role_number role) neighbour.0 verdict path.now) }
+        ≡ store_effect led.old (route_for number.0 (role_number neighbour.role) neighbour.number.0 verdict path.now) }
 {
     let position = find(led, number);
     if is_at(led, position, number) {
-        return Kept::Refused(Refusal::RouteTaken);
+        return Err(Refusal::RouteTaken);
     }
     if ledger::MOST_ROUTES <= table::word(led, 0) {
-        return Kept::Refused(Refusal::RoutesFull);
+        return Err(Refusal::RoutesFull);
     }
     if ledger::MOST_PATH_WORDS - table::word(led, 1) < path.len() {
-        return Kept::Refused(Refusal::RoutesFull);
+        return Err(Refusal::RoutesFull);
     }
-    let n = number.0;
-    let m = neighbour.0;
     let head = [
-        n,
-        role.number(),
-        m,
+        number.0,
+        u32::from(neighbour.role),
+        neighbour.number.0,
         verdict.ground(),
         verdict.number(),
         verdict.place_a(),
         verdict.place_b(),
     ];
-    table::insert(
-        led,
-        ledger::HEAD,
-        ledger::TAIL,
-        position,
-        &head,
-        path,
-        &NO_TAIL,
-    );
-    Kept::Done
+    table::insert(led, ledger::LAYOUT, position, &head, path, &NO_TAIL);
+    Ok(())
 }
 
 // Drop: the route under a number goes out; no other changes. Rows 1, 3, 19.
-pub fn drop(led: &mut [u32], number: RouteNumber) -> Removal
+pub fn drop(led: &mut [u32], number: RouteNumber) -> Result<(), Refusal>
     ensures { effect result led.new ≡ drop_effect led.old number.0 }
 {
     if led.len() != ledger::WORDS {
-        return Removal::Refused(Refusal::TableLength);
+        return Err(Refusal::TableLength);
     }
     if !routes::is_ledger(led) {
-        return Removal::Refused(Refusal::RoutesMalformed);
+        return Err(Refusal::RoutesMalformed);
     }
     let position = find(led, number);
     if !is_at(led, position, number) {
-        return Removal::Refused(Refusal::NoRoute);
+        return Err(Refusal::NoRoute);
     }
-    table::remove(led, ledger::HEAD, ledger::TAIL, position);
-    Removal::Done
+    table::remove(led, ledger::LAYOUT, position);
+    Ok(())
 }

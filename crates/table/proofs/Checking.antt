@@ -1,88 +1,85 @@
 -- One turn of each loop of the run-time check, and the check as a whole. Assumes nothing.
-use mathlib.Core.Path.{◌≡◌, refl, sym, ap, ◌∙◌}
-use mathlib.Core.List.{List}
-use mathlib.Core.Bool.{Bool, true, false, ◌&&◌, and-true, and-false}
-use Prim.Native.Nat.{ℕ, zero, suc, ◌+◌, ◌-◌, ◌*◌, ◌≤◌, ◌<◌, ◌^◌}
+use mathlib.Core.Path.{◌≡◌, refl}
+use mathlib.Core.List.{List, ◌++◌}
+use mathlib.Core.Bool.{Bool, true, false, ◌&&◌}
+use Prim.Native.Nat.{ℕ, zero, suc, ◌+◌, ◌-◌, ◌*◌, ◌/◌, ◌≤◌, ◌<◌}
 use native.Mathlib.Omega.{arith}
-use native.Mathlib.Nat.{not-suc-le-zero, mul-le-mul_left}
+use native.Mathlib.Nat.{add-div_left, div-eq_of_lt, mul-div_cancel}
 use native.Mathlib.Numerals.{add-one}
 use lib.Dec.{eqb, leb}
-use lib.ListN.{length, drop, get_or, drop_of_length-le}
-use lib.Seq.{drop-drop, get_or-drop, drop-cons}
+use lib.ListN.{length, take, drop, get_or, length-append, length-drop, drop_of_length-le, get_or-append}
+use lib.Seq.{drop-cons, drop_at, get_or-take, length-take-le}
+use Rattle.std.proofs.lemmas.List.{drop-take, take_rest}
 use borrow.Author.Tests.{eq-eqb, ne_eqb, le-leb, lt-leb}
 use Rattle.table.specs.Table.{counters, width, slots_ok, all_zero, well_formed}
-use Rattle.table.proofs.Laws.{count_index}
 
 -- ---- the slots
 
--- The check of m slots is that of the first, and that of the others from where its body ends.
-ok_peel : (s : List ℕ) (h t p m o b : ℕ) → 0 < m
-    → slots_ok h t m o b (drop p s)
-    ≡ (eqb (get_or s (p + h) 0) o
-    && (leb (get_or s (p + h + 1) 0) (b - o) && slots_ok h t (m - 1) (o + get_or s (p + h + 1) 0) b (drop (p + width h t) s)))
-unfolding slots_ok
-ok_peel s h t p zero o b l = absurd (not-suc-le-zero l)
-ok_peel s h t p (suc m) o b l =
-    let e : suc m - 1 ≡ m = omega arith in
-    rw (e, get_or-drop p s h 0, count_index s p h, drop-drop (width h t) p s)
+-- Words s that begin with a slot, slot.
+module _ (s slot rest : List ℕ) (h t o b : ℕ) (e : s ≡ slot ++ rest) (long : length slot ≡ width h t) where
+  -- The check of all the slots in s is that of the first, and that of the others from where its body ends.
+  ok_peel : slots_ok h t (length s / width h t) o b s
+      ≡ (eqb (get_or slot h 0) o
+      && (leb (get_or slot (h + 1) 0) (b - o) && slots_ok h t (length rest / width h t) (o + get_or slot (h + 1) 0) b rest))
+  unfolding slots_ok
+  ok_peel =
+      let some : 0 < width h t = omega arith in
+      let one_more : length (slot ++ rest) / width h t ≡ suc (length rest / width h t) =
+      rw (length-append slot rest, long, add-div_left (length rest) some, add-one) refl in
+      rw (
+        e,
+        one_more,
+        get_or-append slot rest 0 h (omega (arith, long)),
+        get_or-append slot rest 0 (h + 1) (omega (arith, long)),
+        drop_at slot rest (width h t) long,
+      )
 
-module _ (s : List ℕ) (h t p m o b : ℕ) (l : 0 < m) where
   -- A wrong start fails.
-  pub ok_start : (get_or s (p + h) 0 ≡ o → ⊥) → false ≡ slots_ok h t m o b (drop p s)
-  ok_start x = rw (ok_peel s h t p m o b l, ne_eqb (get_or s (p + h) 0) o x)
+  pub ok_start : (get_or slot h 0 ≡ o → ⊥) → false ≡ slots_ok h t (length s / width h t) o b s
+  ok_start x = rw (ok_peel, ne_eqb (get_or slot h 0) o x)
 
   -- A count beyond the body words that are left fails.
-  pub ok_count : get_or s (p + h) 0 ≡ o → b - o < get_or s (p + h + 1) 0 → false ≡ slots_ok h t m o b (drop p s)
-  ok_count x y = rw (ok_peel s h t p m o b l, eq-eqb (get_or s (p + h) 0) o x, lt-leb (get_or s (p + h + 1) 0) (b - o) y)
+  pub ok_count : get_or slot h 0 ≡ o → b - o < get_or slot (h + 1) 0 → false ≡ slots_ok h t (length s / width h t) o b s
+  ok_count x y = rw (ok_peel, eq-eqb (get_or slot h 0) o x, lt-leb (get_or slot (h + 1) 0) (b - o) y)
 
   -- A right slot leaves the others to check.
-  pub ok_step : get_or s (p + h) 0 ≡ o → get_or s (p + h + 1) 0 ≤ b - o
-      → slots_ok h t (m - 1) (o + get_or s (p + h + 1) 0) b (drop (p + width h t) s) ≡ slots_ok h t m o b (drop p s)
-  ok_step x y = rw (ok_peel s h t p m o b l, eq-eqb (get_or s (p + h) 0) o x, le-leb (get_or s (p + h + 1) 0) (b - o) y)
+  pub ok_step : get_or slot h 0 ≡ o → get_or slot (h + 1) 0 ≤ b - o
+      → slots_ok h t (length rest / width h t) (o + get_or slot (h + 1) 0) b rest ≡ slots_ok h t (length s / width h t) o b s
+  ok_step x y = rw (ok_peel, eq-eqb (get_or slot h 0) o x, le-leb (get_or slot (h + 1) 0) (b - o) y)
 
 -- With no slot left, the counts must have come to b.
-pub ok_done : (h t m o b : ℕ) (xs : List ℕ) → m ≤ 0 → eqb o b ≡ slots_ok h t m o b xs
+pub ok_done : (s : List ℕ) (h t o b : ℕ) → length s < width h t → eqb o b ≡ slots_ok h t (length s / width h t) o b s
 unfolding slots_ok
-ok_done h t zero o b xs l = refl
-ok_done h t (suc m) o b xs l = absurd (not-suc-le-zero l)
+ok_done s h t o b l = rw (div-eq_of_lt l)
+
+-- Words behind the slots are not looked at.
+pub ok_front : (s : List ℕ) (h t m o b : ℕ) → m * width h t ≤ length s → slots_ok h t m o b (take (m * width h t) s) ≡ slots_ok h t m o b s
+unfolding slots_ok
+ok_front s h t zero o b l = refl
+ok_front s h t (suc m) o b l =
+    let w : ℕ = width h t in
+    let all : suc m * w ≡ w + m * w = omega arith in
+    rw (
+      all,
+      get_or-take (w + m * w) s h 0 (omega arith),
+      get_or-take (w + m * w) s (h + 1) 0 (omega arith),
+      drop-take w (m * w) s,
+      ok_front (drop w s) h t m (o + get_or s (h + 1) 0) b (omega (arith, length-drop w s)),
+    )
 
 -- ---- the zeros
 
 -- The check from i on is that of word i, and that of the words behind it.
-zero_peel : (s : List ℕ) (i : ℕ) → i < length s → all_zero (drop i s) ≡ (eqb (get_or s i 0) 0 && all_zero (drop (i + 1) s))
+pub zero_peel : (s : List ℕ) (i : ℕ) → i < length s → all_zero (drop i s) ≡ (eqb (get_or s i 0) 0 && all_zero (drop (i + 1) s))
 unfolding all_zero
 zero_peel s i l = rw (add-one, drop-cons s i 0)
 
--- The flag, and the words from i on that are left to check, give the result.
-pub record Zeros (s : List ℕ) (zeros : Bool) (i : ℕ) (r : Bool) : Type 0 where
-  pub within : i ≤ length s
-  pub same : (zeros && all_zero (drop i s)) ≡ r
-
-module _ {s : List ℕ} {zeros : Bool} {i : ℕ} {r : Bool} (z : Zeros s zeros i r) where
-  -- The same by what the words from i on come to.
-  left : {b : Bool} → all_zero (drop i s) ≡ b → (zeros && b) ≡ r
-  left e = sym (ap (λ (q : Bool). zeros && q) e) ∙ z.same
-
-  -- A word that is not 0 fails.
-  pub zero_no : i < length s → (get_or s i 0 ≡ 0 → ⊥) → Zeros s false (i + 1) r
-  zero_no l x = record { within = omega arith; same = sym (and-false zeros) ∙ left (rw (zero_peel s i l, ne_eqb (get_or s i 0) 0 x)) }
-
-  -- A word that is 0 leaves the words behind it to check.
-  pub zero_step : i < length s → get_or s i 0 ≡ 0 → Zeros s zeros (i + 1) r
-  zero_step l x = record { within = omega arith; same = left (rw (zero_peel s i l, eq-eqb (get_or s i 0) 0 x)) }
-
-  -- No words are left.
-  pub zero_done : length s ≤ i → zeros ≡ r
-  unfolding all_zero
-  zero_done l = sym (and-true zeros) ∙ left (rw (drop_of_length-le s l))
+-- With no word left it passes.
+pub zero_none : (s : List ℕ) (i : ℕ) → length s ≤ i → all_zero (drop i s) ≡ true
+unfolding all_zero
+zero_none s i l = rw (drop_of_length-le s l)
 
 -- ---- the whole check
-
--- The slots of any word's number of entries are far from the end of the address space.
-pub product_fits : (n h t : ℕ) → n < 2 ^ 32 → h < 2 ^ 16 → t < 2 ^ 16 → n * width h t < 2 ^ 50
-product_fits n h t l k j =
-    let m : n * width h t ≤ n * 262144 = mul-le-mul_left n (omega arith) in
-    omega arith
 
 module _ (h t : ℕ) (ws : List ℕ) where
   -- Fewer than two words fail.
@@ -96,16 +93,33 @@ module _ (h t : ℕ) (ws : List ℕ) where
     unfolding well_formed
     wf_long k = rw (le-leb counters (length ws) l, ← e, ← f, lt-leb (counters + n * width h t + b) (length ws) k)
 
-    module _ (k : counters + n * width h t + b ≤ length ws) where
-      -- Where they fit, the check is that of the slots and that of the zeros.
-      pub wf_all : (slots_ok h t n 0 (get_or ws 1 0) (drop counters ws) && all_zero (drop (counters + n * width h t + b) ws)) ≡ well_formed h t ws
-      unfolding well_formed
-      wf_all = rw (le-leb counters (length ws) l, ← e, ← f, le-leb (counters + n * width h t + b) (length ws) k)
+    -- Where they fit, the check is that of the slots and that of the zeros.
+    pub wf_all : counters + n * width h t + b ≤ length ws
+        → (slots_ok h t n 0 (get_or ws 1 0) (drop counters ws) && all_zero (drop (counters + n * width h t + b) ws)) ≡ well_formed h t ws
+    unfolding well_formed
+    wf_all k = rw (le-leb counters (length ws) l, ← e, ← f, le-leb (counters + n * width h t + b) (length ws) k)
 
-      -- Slots that fail, fail.
-      pub wf_slots : false ≡ slots_ok h t n 0 (get_or ws 1 0) (drop counters ws) → false ≡ well_formed h t ws
-      wf_slots r = ap (λ (x : Bool). x && all_zero (drop (counters + n * width h t + b) ws)) r ∙ wf_all
+    -- The same by the index at which the bodies start, and by the parts of the words that are looked at.
+    module _ (start : ℕ) (g : start ≡ counters + n * width h t) where
+      pub wf_outside : length ws < start + b → false ≡ well_formed h t ws
+      wf_outside k = wf_long (omega arith)
 
-      -- Slots that pass leave the zeros to check.
-      pub wf_zeros : true ≡ slots_ok h t n 0 (get_or ws 1 0) (drop counters ws) → all_zero (drop (counters + n * width h t + b) ws) ≡ well_formed h t ws
-      wf_zeros r = ap (λ (x : Bool). x && all_zero (drop (counters + n * width h t + b) ws)) r ∙ wf_all
+      pub wf_parts : start + b ≤ length ws → {ok zeros : Bool}
+          → (let slots = take (start - counters) (drop counters ws) in ok ≡ slots_ok h t (length slots / width h t) 0 (get_or ws 1 0) slots)
+          → zeros ≡ all_zero (take (length ws - (start + b)) (drop (start + b) ws)) → (ok && zeros) ≡ well_formed h t ws
+      wf_parts k x y =
+          let w : ℕ = width h t in
+          let room : n * w ≤ length (drop counters ws) = omega (arith, length-drop counters ws) in
+          let size : start - counters ≡ n * w = omega arith in
+          let some : 0 < w = omega arith in
+          rw (
+            x,
+            y,
+            size,
+            length-take-le (n * w) (drop counters ws) room,
+            mul-div_cancel n some,
+            ok_front (drop counters ws) h t n 0 (get_or ws 1 0) room,
+            take_rest ws (start + b),
+            g,
+            wf_all (omega arith),
+          )

@@ -4,7 +4,7 @@ use mathlib.Core.Bool.{Bool, true, false, cond}
 use mathlib.Core.List.{List, [], ◌∷◌, ◌++◌, append_assoc}
 use Prim.Native.Nat.{ℕ, suc, ◌+◌, ◌-◌, ◌*◌, ◌≤◌, ◌<◌, ◌^◌}
 use native.Mathlib.Omega.{arith}
-use native.Mathlib.Nat.{suc-mul, zero-mul, sub-zero, mul-le-mul_right, eq_of_mul-eq-mul_right}
+use native.Mathlib.Nat.{suc-mul, mul-le-mul_right, eq_of_mul-eq-mul_right}
 use native.Mathlib.Numerals.{add-one}
 use lib.Dec.{eqb}
 use lib.ListN.{length, take, drop, set, get_or, replicate, length-append, length-drop, length-set}
@@ -76,28 +76,6 @@ pub record Thinned (ws : List ℕ) (h t column value n : ℕ) (s : List ℕ) (m 
   pub same : drop (counters + i * width h t) s ≡ drop (counters + i * width h t) ws
   pub left : pasted s (counters + m * width h t) (staying_slots h t column value (n - i) next (drop (counters + i * width h t) ws)) ≡ pasted ws counters (thin ws h t column value)
   pub sum : m * width h t + length (staying_slots h t column value (n - i) next (drop (counters + i * width h t) ws)) ≡ length (thin ws h t column value)
-
--- It holds at the start.
-pub thinned : (ws : List ℕ) (h t column value n : ℕ)
-    → (counters + get_or ws 0 0 * width h t ≤ length ws) × (column < h) × (counts h t (get_or ws 0 0) (drop counters ws) < 2 ^ 32)
-    → n ≡ get_or ws 0 0 → Thinned ws h t column value n ws 0 0 0
-thinned ws h t column value n may read =
-    let z = zero-mul (width h t) in
-    let e : n - 0 ≡ get_or ws 0 0 = sub-zero n ∙ read in
-    let c : counts h t (n - 0) (drop (counters + 0 * width h t) ws) ≡ counts h t (get_or ws 0 0) (drop counters ws) = λ j. counts h t (e j) (drop (counters + z j) ws) in
-    let r : staying_slots h t column value (n - 0) 0 (drop (counters + 0 * width h t) ws) ≡ thin ws h t column value =
-    λ j. staying_slots h t column value (e j) 0 (drop (counters + z j) ws) in
-    record {
-      room = omega (arith, may.0, ap (λ (k : ℕ). k * width h t) read);
-      within = may.1;
-      long = refl;
-      turn = omega arith;
-      few = omega arith;
-      counted = omega (arith, c, may.2);
-      same = refl;
-      left = λ j. pasted ws (counters + z j) (r j);
-      sum = omega (arith, z, ap length r);
-    }
 
 module _ {ws : List ℕ} {h t column value n : ℕ} {s : List ℕ} {m next i : ℕ} (P : Thinned ws h t column value n s m next i) where
   -- The width of a slot.
@@ -294,9 +272,27 @@ pub record Known : Type 0 where
   pub b_read : b ≡ get_or ws 1 0
   pub some : n ≡ 0 → ⊥
 
+-- The same, from what `clear` requires and reads, where there is an entry.
+abbrev pub known : {h t column n b : ℕ} {ws : List ℕ} → Clearable h t ws column → n ≡ get_or ws 0 0 → b ≡ get_or ws 1 0 → (n ≡ 0 → ⊥) → ℕ → Known
+known {h} {t} {column} {n} {b} {ws} may n_read b_read some value =
+    record {
+      h = h;
+      t = t;
+      column = column;
+      value = value;
+      ws = ws;
+      may = may;
+      n = n;
+      b = b;
+      n_read = n_read;
+      b_read = b_read;
+      some = some;
+    }
+
 -- The linear facts of these numbers, where m slots and k body words are kept.
 pub record Sized (w n b m k size : ℕ) : Type 0 where
   pub few : m ≤ n
+  pub one_in : w ≤ n * w
   pub slots_in : m * w ≤ n * w
   pub bodies_in : k ≤ b
   pub room : counters + n * w + b ≤ size
@@ -343,6 +339,7 @@ module _ (K : Known) where
       let l : m ≤ K.n = omega (arith, em, n_is, staying_length K.column K.value D) in
       record {
         few = l;
+        one_in = sizes.0;
         slots_in = mul-le-mul_right wid l;
         bodies_in = omega (arith, ek, b_is, staying_bodies K.column K.value D);
         room = sizes.1;
@@ -456,3 +453,9 @@ module _ (K : Known) where
           → (set (set s₄ 0 m) 1 k ≡ encode (length K.ws) kept) × (K.n - m ≡ gone_entries K.column K.value D)
       clear_done s₂ s₃ s₄ e₂ e₃ e₄ =
           (step_5 s₄ (step_4 s₃ s₄ (step_3 s₂ s₃ e₂ e₃) e₄), omega (arith, n_is, em, kept_sizes m k em ek, gone_staying K.column K.value D))
+
+  -- The linear facts, from what the two passes leave and answer.
+  pub all_sizes : {s₁ s₂ : List ℕ} {m k : ℕ} → (s₁ ≡ pasted K.ws (counters + length D * wid) (bodies kept)) × (k ≡ length (bodies kept))
+      → (let left = staying_slots K.h K.t K.column K.value (get_or s₁ 0 0) 0 (drop counters s₁) in (s₂ ≡ pasted s₁ counters left) × (m * wid ≡ length left))
+      → Sized wid K.n K.b m k (length K.ws)
+  all_sizes {s₁} {s₂} {m} {k} x y = kept_sizes m k (many_kept s₁ x.0 m y.1) x.1

@@ -12,7 +12,7 @@ use lib.Seq.{take_at, drop_at, take-add, drop-drop, drop-cons, length-take-le, d
 use borrow.Author.Tests.{eqb-true, leb-true, eq-eqb, le-leb}
 use Rattle.table.specs.Table.{counters, span, Entry, width, slots, bodies, pad, encode, Wide, decode_slots, decode, Sound, slots_ok, all_zero, well_formed}
 use Rattle.table.proofs.Tables.{length_slots, length_pad, slot_head, slot_start, slot_count, slot_tail, slot_rest}
-use Rattle.table.proofs.Checking.{wf_zeros}
+use Rattle.table.proofs.Checking.{wf_all}
 
 -- ---- a table decodes to its entries
 
@@ -113,7 +113,7 @@ encode_passes h t size es w fits =
     let lw : length ws ≡ size = omega (arith, length-append x (replicate left 0), length-replicate {A = ℕ} left 0) in
     let back : drop end ws ≡ replicate left 0 = drop_at (n ∷ (b ∷ x)) (replicate left 0) end (omega arith) in
     let ok : slots_ok h t n 0 b (x ++ replicate left 0) ≡ true = rw append_assoc (ok_slots h t 0 b es (bodies es ++ replicate left 0) w (omega arith)) in
-    sym (wf_zeros h t ws n b refl refl (omega arith) (omega arith) (sym ok)) ∙ ap all_zero back ∙ zeros_ok left
+    sym (wf_all h t ws n b refl refl (omega arith) (omega arith)) ∙ (λ i. ok i && all_zero (back i)) ∙ zeros_ok left
 
 -- Sound words pass the check.
 pub sound_passes : (h t : ℕ) (ws : List ℕ) → Sound h t ws → well_formed h t ws ≡ true

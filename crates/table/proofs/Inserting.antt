@@ -132,6 +132,25 @@ pub record Known : Type 0 where
   pub b_read : b ≡ get_or ws 1 0
   pub start_read : start ≡ start_of i (decode h t ws)
 
+-- The same, from what `insert` requires and reads.
+abbrev pub known : {h t i n b start : ℕ} {ws : List ℕ} {e : Entry} → Insertable h t ws i e → n ≡ get_or ws 0 0 → b ≡ get_or ws 1 0
+    → start ≡ start_of i (decode h t ws) → Known
+known {h} {t} {i} {n} {b} {start} {ws} {e} may n_read b_read start_read =
+    record {
+      h = h;
+      t = t;
+      ws = ws;
+      i = i;
+      e = e;
+      may = may;
+      n = n;
+      b = b;
+      start = start;
+      n_read = n_read;
+      b_read = b_read;
+      start_read = start_read;
+    }
+
 -- The linear facts of the code's numbers.
 pub record Numbers (w i n b start k size : ℕ) : Type 0 where
   pub split : i * w + (n - i) * w ≡ n * w

@@ -206,6 +206,18 @@ pub record Known : Type 0 where
   pub start_read : start ≡ get_or of.ws (at of + of.h) 0
   pub k_read : k ≡ get_or of.ws (at of + of.h + 1) 0
 
+-- The same, from what `remove` requires and reads, where slot i starts at p.
+abbrev pub known : {h t i n b p start k : ℕ} {ws : List ℕ} → Removable h t ws i → n ≡ get_or ws 0 0 → b ≡ get_or ws 1 0
+    → p ≡ counters + i * width h t → start ≡ get_or ws (p + h) 0 → k ≡ get_or ws (p + h + 1) 0 → Known
+known {h} {t} {i} {n} {b} {p} {start} {k} {ws} may n_read b_read p_is start_read k_read =
+    record {
+      of = record { h = h; t = t; ws = ws; i = i; may = may; n = n; b = b; n_read = n_read; b_read = b_read };
+      start = start;
+      k = k;
+      start_read = rw p_is at start_read;
+      k_read = rw p_is at k_read;
+    }
+
 module _ (K : Known) where
   -- The entries before i, at i and behind i.
   abbrev before_it : List Entry

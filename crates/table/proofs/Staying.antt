@@ -208,6 +208,10 @@ module _ {ws : List ℕ} {h t column value n end : ℕ} {s : List ℕ} {from to 
       pub pack_fits : from + count ≤ end + length (bodies D)
       pack_fits = omega (arith, pack_next, start_under h t ws P.may.sound (i + 1))
 
+      -- So it lies within the slice, and neither of the two positions leaves the address space.
+      pub pack_reach : (to ≤ from) × (from + count ≤ length s) × (length s < 2 ^ 32)
+      pack_reach = (P.below, omega (arith, pack_fits, pack_room, P.long), omega (arith, P.long, P.may.small))
+
       -- The words behind it are as they were.
       same_behind : drop (from + count) s ≡ drop (from + count) ws
       same_behind = sym (drop-drop count from s) ∙ ap (drop count) P.same_bodies ∙ drop-drop count from ws

@@ -1,75 +1,40 @@
 -- Bytes written in hex: each turn of the loop, its end, and what is read back. Assumes nothing.
-use Prim.Native.Nat.{ℕ, suc, ◌+◌, ◌*◌, ◌/◌, ◌%◌, ◌≤◌, ◌<◌}
+use Prim.Native.Nat.{ℕ, zero, suc, ◌+◌, ◌*◌, ◌/◌, ◌%◌, ◌≤◌, ◌<◌}
 use mathlib.Core.Path.{◌≡◌, refl, sym, ap, ◌∙◌}
+use native.Mathlib.Numerals.{add-one}
 use mathlib.Core.Bool.{Bool, true, false, cond}
-use mathlib.Core.List.{List, [], ◌∷◌}
+use mathlib.Core.List.{List, [], ◌∷◌, ◌++◌}
 use native.Mathlib.Omega.{arith}
-use borrow.Author.Tests.{lt-ltb, le-ltb, ne_eqb, ltb-true, ltb-false}
+use borrow.Author.Tests.{ne_eqb, ltb-true, ltb-false}
 use lib.Dec.{ltb}
-use lib.ListN.{length, get_or, drop, set, length-set}
-use lib.Seq.{drop-cons, drop-length, sets}
-use Rattle.text.specs.declared.Bytes.TheVariants.{Read}
+use lib.ListN.{length, get_or, take}
+use Rattle.std.proofs.Common.{Some}
 use Rattle.text.specs.Laws.{HexLaws}
 use Rattle.text.specs.Bytes.{hex_value, pair_value, pairs, all_bytes, bytes_of, bytes_in, hex_digit, hex_text}
 use Rattle.text.proofs.Pairs.{decimal, letter, both}
-
--- ---- a digit
-
-module _ (v : ℕ) where
-  pub below_ten : v < 10 → 48 + v ≡ hex_digit v
-  below_ten h = rw (lt-ltb v 10 h) refl
-
-  pub from_ten : 10 ≤ v → 87 + v ≡ hex_digit v
-  from_ten h = rw (le-ltb v 10 h) refl
+use Rattle.text.proofs.Wrote.{writing}
 
 -- ---- the bytes
-
-one_byte :
-    (b : ℕ) (bs : List ℕ) {high low : ℕ} → high ≡ hex_digit (b / 16) → low ≡ hex_digit (b % 16)
-    → hex_text (b ∷ bs) ≡ high ∷ (low ∷ hex_text bs)
-unfolding hex_text
-one_byte b bs p q = λ j. sym p j ∷ (sym q j ∷ hex_text bs)
 
 pub two_digits : (bs : List ℕ) → length (hex_text bs) ≡ 2 * length bs
 unfolding hex_text
 two_digits [] = refl
 two_digits (b ∷ bs) = omega (arith, two_digits bs)
 
--- The digits of the bytes up to i are in the buffer, up to index `to`.
-pub record Putting (bytes out₀ : List ℕ) (at : ℕ) (out : List ℕ) (to i : ℕ) : Type 0 where
-  pub passed : i ≤ length bytes
-  pub twice : to ≡ at + 2 * i
-  pub same_length : length out ≡ length out₀
-  pub buffer : sets out to (hex_text (drop i bytes)) ≡ sets out₀ at (hex_text bytes)
+pub no_bytes : hex_text [] ≡ []
+unfolding hex_text
+no_bytes = refl
 
-pub puts : (bytes out : List ℕ) (at : ℕ) → Putting bytes out at out at 0
-puts bytes out at = record { passed = omega arith; twice = omega arith; same_length = refl; buffer = refl }
+pub one_more :
+    (bs : List ℕ) (i : ℕ) → i < length bs
+    → hex_text (take (i + 1) bs) ≡ hex_text (take i bs) ++ (hex_digit (get_or bs i 0 / 16) ∷ (hex_digit (get_or bs i 0 % 16) ∷ []))
+unfolding hex_text
+one_more [] i h = absurd (omega arith)
+one_more (b ∷ bs) zero h = refl
+one_more (b ∷ bs) (suc i) h = rw add-one (ap (λ t. hex_digit (b / 16) ∷ (hex_digit (b % 16) ∷ t)) (rw add-one at (one_more bs i (omega arith))))
 
-module _ {bytes out₀ : List ℕ} {at : ℕ} {out : List ℕ} {to i : ℕ} (g : Putting bytes out₀ at out to i) where
-  pub puts_on :
-      {b high low : ℕ} → i < length bytes → b ≡ get_or bytes i 0 → high ≡ hex_digit (b / 16) → low ≡ hex_digit (b % 16)
-      → Putting bytes out₀ at (set (set out to high) (to + 1) low) (to + 2) (i + 1)
-  puts_on {b = b} {high = high} {low = low} h o p q =
-      let x : i + 1 ≡ suc i = omega arith in
-      let y : to + 1 ≡ suc to = omega arith in
-      let z : to + 2 ≡ suc (suc to) = omega arith in
-      let f : drop i bytes ≡ b ∷ drop (suc i) bytes = rw o (drop-cons bytes i 0 h) in
-      let e : hex_text (drop i bytes) ≡ high ∷ (low ∷ hex_text (drop (suc i) bytes)) = ap hex_text f ∙ one_byte b (drop (suc i) bytes) p q in
-      record {
-        passed = omega arith;
-        twice = omega (arith, g.twice);
-        same_length = length-set (set out to high) (to + 1) low ∙ length-set out to high ∙ g.same_length;
-        buffer = rw (x, y, z) (ap (sets out to) (sym e) ∙ g.buffer);
-      }
-
-  pub are_put :
-      length bytes ≤ i
-      → (to ≡ at + length (hex_text bytes)) × (out ≡ sets out₀ at (hex_text bytes)) × (to ≡ at + 2 * length bytes)
-  unfolding hex_text
-  are_put h =
-      let z : i ≡ length bytes = omega (arith, g.passed) in
-      let e : drop i bytes ≡ [] = rw z (drop-length bytes) in
-      (omega (arith, g.twice, two_digits bytes), (rw e at g.buffer), omega (arith, g.twice))
+-- What the loop that writes them needs.
+pub ruleset hex_steps = (no_bytes, one_more, writing)
 
 -- ---- read back
 
@@ -102,7 +67,7 @@ bytes_read (b ∷ bs) e = go (ltb 255 b) refl e (bytes_read bs)
     go false l e' rest = λ j. byte_read b (ltb-false 255 b l) j ∷ rest e' j
 
 module _ (bs : List ℕ) (h : 0 < length bs) (e : all_bytes bs ≡ true) where
-  pub hex_reads : bytes_of (hex_text bs) ≡ Read (length bs)
+  pub hex_reads : bytes_of (hex_text bs) ≡ Some (length bs)
   hex_reads =
       let l : length (hex_text bs) ≡ 2 * length bs = two_digits bs in
       rw (ne_eqb (length (hex_text bs)) 0 (λ q. absurd (omega arith)), ne_eqb (length (hex_text bs)) 1 (λ q. absurd (omega arith)), bytes_read bs e, e) refl

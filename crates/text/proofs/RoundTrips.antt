@@ -8,7 +8,7 @@ use native.Mathlib.Nat.{pow-succ'}
 use borrow.Author.Tests.{le-ltb, ne_eqb, ltb-true, ltb-false}
 use lib.Dec.{ltb, eqb}
 use lib.ListN.{length, get_or}
-use Rattle.text.specs.declared.Number.TheVariants.{Is}
+use Rattle.std.proofs.Common.{Some}
 use Rattle.text.proofs.Words.{either}
 use Rattle.text.specs.Laws.{DecimalLaws}
 use Rattle.text.specs.Numbers.{value_from, all_digits, number_from, number_of, digits_before, decimal_of}
@@ -101,7 +101,7 @@ all-digits : (n : ℕ) → n < 10 ^ 20 → all_digits (decimal_of n) ≡ true
 unfolding all_digits
 all-digits n h = (spelt 20 n [] h).digits
 
-continued : (n : ℕ) → n < 4294967296 → number_from 0 (decimal_of n) ≡ Is n
+continued : (n : ℕ) → n < 4294967296 → number_from 0 (decimal_of n) ≡ Some n
 unfolding number_from
 continued n h =
     rw (all-digits n (omega arith), decimal_value n (omega arith), le-ltb 4294967295 n (omega arith)) refl
@@ -111,12 +111,12 @@ no_zero_first : (bs : List ℕ) → 0 < length bs → (get_or bs 0 0 ≡ 48 → 
 no_zero_first bs h f =
     rw (ne_eqb (length bs) 0 (λ e. absurd (omega arith)), ne_eqb (get_or bs 0 0) 48 f) (either (eqb (length bs) 1) (number_from 0 bs))
 
-zero_read : number_of (decimal_of 0) ≡ Is 0
+zero_read : number_of (decimal_of 0) ≡ Some 0
 unfolding number_from all_digits value_from digits_before
 zero_read = refl
 
 -- A printed number below 2 ^ 32 is read back as itself.
-pub decimal_reads : (n : ℕ) → n < 4294967296 → number_of (decimal_of n) ≡ Is n
+pub decimal_reads : (n : ℕ) → n < 4294967296 → number_of (decimal_of n) ≡ Some n
 decimal_reads zero h = zero_read
 decimal_reads (suc n) h =
     let s : Spelt (suc n) [] (decimal_of (suc n)) = spelt 20 (suc n) [] (omega arith) in

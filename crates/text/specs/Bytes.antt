@@ -1,8 +1,6 @@
 -- A word read as bytes in lowercase hex, bytes as such text, and equal words. Bytes are ASCII: `0` is 48, `9` is 57, `a` is 97, `f` is 102, `-` is 45.
-use Rattle.std.specs.Prelude.{ℕ, ◌+◌, ◌-◌, ◌*◌, ◌/◌, ◌%◌, Bool, true, false, cond, List, [], ◌∷◌, ltb, eqb, length, get_or}
+use Rattle.std.specs.Prelude.{ℕ, ◌+◌, ◌-◌, ◌*◌, ◌/◌, ◌%◌, Bool, true, false, cond, List, [], ◌∷◌, Option, Some, None, ltb, eqb, length, get_or}
 use Rattle.std.proofs.lemmas.List.Edits.{sets}
-use Rattle.text.specs.declared.Bytes as bytes
-use Rattle.text.specs.declared.Bytes.TheVariants.{Read, Bad}
 
 -- The value of a hex digit; 16 of any other byte.
 unfoldable pub hex_value : ℕ → ℕ
@@ -27,14 +25,14 @@ unfoldable pub bytes_before : List ℕ → List ℕ
 bytes_before [] = []
 bytes_before (v ∷ vs) = cond (ltb 255 v) [] (v ∷ bytes_before vs)
 
-abbrev pub hex_of : List ℕ → bytes.Bytes
-hex_of word = cond (all_bytes (pairs word)) (Read (length (pairs word))) Bad
+abbrev pub hex_of : List ℕ → Option ℕ
+hex_of word = cond (all_bytes (pairs word)) (Some (length (pairs word))) None
 
 -- `-` is no bytes; an empty word is none either, and bad.
-abbrev pub bytes_of : List ℕ → bytes.Bytes
+abbrev pub bytes_of : List ℕ → Option ℕ
 bytes_of word =
-    cond (eqb (length word) 0) Bad
-    (cond (eqb (length word) 1) (cond (eqb (get_or word 0 0) 45) (Read 0) Bad)
+    cond (eqb (length word) 0) None
+    (cond (eqb (length word) 1) (cond (eqb (get_or word 0 0) 45) (Some 0) None)
     (hex_of word))
 
 -- What reading leaves in the buffer.
@@ -45,17 +43,17 @@ abbrev pub bytes_stored : List ℕ → List ℕ → List ℕ
 bytes_stored buffer word =
     cond (eqb (length word) 0) buffer (cond (eqb (length word) 1) buffer (hex_stored buffer word))
 
-abbrev pub read_count : bytes.Bytes → ℕ
-read_count (Read n) = n
-read_count Bad = 0
+abbrev pub read_count : Option ℕ → ℕ
+read_count (Some n) = n
+read_count None = 0
 
 -- The bytes of a word that is read.
 abbrev pub bytes_in : List ℕ → List ℕ
 bytes_in word = cond (eqb (length word) 1) [] (pairs word)
 
-abbrev pub if_bytes : {A : Type 0} → bytes.Bytes → A → A → A
-if_bytes (Read n) a other = a
-if_bytes Bad a other = other
+abbrev pub if_bytes : {A : Type 0} → Option ℕ → A → A → A
+if_bytes (Some n) a other = a
+if_bytes None a other = other
 
 -- The digit of a value below 16.
 abbrev pub hex_digit : ℕ → ℕ

@@ -1,7 +1,5 @@
 -- A word read as a number, and a number as text. Bytes are ASCII: `0` is 48, `9` is 57, `-` is 45.
-use Rattle.std.specs.Prelude.{ℕ, zero, suc, ◌+◌, ◌-◌, ◌*◌, ◌/◌, ◌%◌, Bool, true, false, cond, List, [], ◌∷◌, ℤ, pos, negsuc, ltb, eqb, length, get_or}
-use Rattle.text.specs.declared.Number.{Number}
-use Rattle.text.specs.declared.Number.TheVariants.{Is, Bad}
+use Rattle.std.specs.Prelude.{ℕ, zero, suc, ◌+◌, ◌-◌, ◌*◌, ◌/◌, ◌%◌, Bool, true, false, cond, List, [], ◌∷◌, Option, Some, None, ℤ, pos, negsuc, ltb, eqb, length, get_or}
 
 -- The value of digits, after digits whose value is `sum`.
 unfoldable pub value_from : ℕ → List ℕ → ℕ
@@ -16,15 +14,15 @@ all_digits [] = true
 all_digits (b ∷ bs) = cond (is_digit b) (all_digits bs) false
 
 -- The number that digits continue, if it is below 2^32.
-unfoldable pub number_from : ℕ → List ℕ → Number
-number_from sum bs = cond (all_digits bs) (cond (ltb 4294967295 (value_from sum bs)) Bad (Is (value_from sum bs))) Bad
+unfoldable pub number_from : ℕ → List ℕ → Option ℕ
+number_from sum bs = cond (all_digits bs) (cond (ltb 4294967295 (value_from sum bs)) None (Some (value_from sum bs))) None
 
 -- At least one digit, the first not `0` unless it is alone.
-abbrev pub number_of : List ℕ → Number
+abbrev pub number_of : List ℕ → Option ℕ
 number_of bs =
-    cond (eqb (length bs) 0) Bad
+    cond (eqb (length bs) 0) None
     (cond (eqb (length bs) 1) (number_from 0 bs)
-    (cond (eqb (get_or bs 0 0) 48) Bad (number_from 0 bs)))
+    (cond (eqb (get_or bs 0 0) 48) None (number_from 0 bs)))
 
 -- The last digits of n, at most so many, before `after`.
 unfoldable pub digits_before : ℕ → ℕ → List ℕ → List ℕ
@@ -46,6 +44,6 @@ signed_of (negsuc n) = 45 ∷ decimal_of (n + 1)
 
 -- ---- what is made of a number that was read
 
-abbrev pub if_number : {A : Type 0} → Number → (ℕ → A) → A → A
-if_number (Is n) f other = f n
-if_number Bad f other = other
+abbrev pub if_number : {A : Type 0} → Option ℕ → (ℕ → A) → A → A
+if_number (Some n) f other = f n
+if_number None f other = other

@@ -1,256 +1,166 @@
 // Words of a line read as numbers and bytes, and numbers and bytes written as text.
 #![tactic(auto)]
 
-ghost use Rattle.std.specs.Prelude.{◌≡◌, ◌+◌, ◌*◌, ◌≤◌, ◌<◌, length, drop};
-ghost use Rattle.std.proofs.lemmas.List.Edits.{sets};
-ghost use Rattle.text.specs.Numbers.{number_from, number_of, decimal_of, signed_of, magnitude};
-ghost use Rattle.text.specs.Bytes.{hex_value, pair_value, pairs, hex_of, bytes_of, hex_stored, bytes_stored, read_count, same_bytes, hex_digit, hex_text};
-
-// A word read as a number.
-#[derive(Clone, Copy)]
-pub enum Number {
-    Is(u32),
-    Bad,
-}
-
-// A word read as bytes: how many.
-#[derive(Clone, Copy)]
-pub enum Bytes {
-    Read(usize),
-    Bad,
-}
-
-fn wide(b: u8) -> u64
-    ensures { (result ≡ b) × (result ≤ 255) }
-{
-    b as u64
-}
+ghost use Rattle.std.specs.Prelude.{◌≡◌, ◌+◌, ◌*◌, ◌≤◌, ◌<◌, length, MatchOption};
+ghost use Rattle.text.specs.Numbers.{number_from, number_of, decimal_of, signed_of};
+ghost use Rattle.text.specs.Bytes.{hex_value, pair_value, hex_of, bytes_of, hex_stored, bytes_stored, read_count, same_bytes, hex_digit, hex_text};
+ghost use Rattle.text.specs.Wrote.{Room, Wrote};
 
 // The number of a word of digits, leading zeros and none at all allowed.
-fn value(word: &[u8]) -> Number
+fn value(word: &[u8]) -> Option<u32>
     ensures { result ≡ number_from 0 word.now }
 {
-    let mut sum: u64 = 0;
-    let mut i = 0;
-    while i < word.len() {
-        let b = wide(word[i]);
-        if b < 48 {
-            return Number::Bad;
+    let mut sum: u32 = 0;
+    for b in word {
+        if !b.is_ascii_digit() {
+            return None;
         }
-        if 57 < b {
-            return Number::Bad;
-        }
-        sum = sum * 10 + (b - 48);
-        if 4294967295 < sum {
-            return Number::Bad;
-        }
-        i += 1;
+        sum = sum.checked_mul(10)?.checked_add(u32::from(*b - b'0'))?;
     }
-    Number::Is(sum as u32)
+    Some(sum)
 }
 
 // Decimal, without sign or leading zeros, below 2^32.
-pub fn read_number(word: &[u8]) -> Number
+pub fn read_number(word: &[u8]) -> Option<u32>
     ensures { result ≡ number_of word.now }
 {
-    if word.len() == 0 {
-        return Number::Bad;
+    match word {
+        [] | [b'0', _, ..] => None,
+        _ => value(word),
     }
-    if word.len() == 1 {
-        return value(word);
-    }
-    if word[0] == 48 {
-        return Number::Bad;
-    }
-    value(word)
 }
 
-// The value of a lowercase hex digit; 16 of any other byte.
-fn hex_value(b: u8) -> u32
-    ensures { (result ≡ hex_value b) × (result ≤ 16) }
+// The value of a lowercase hex digit.
+#[tactic(auto, unfolding(crate::specs::Bytes::hex_value))]
+fn hex_value(b: u8) -> Option<u8>
+    ensures { MatchOption result (hex_value b ≡ 16) (λ v. (v ≡ hex_value b) × (v < 16)) }
 {
-    if b < 48 {
-        return 16;
+    match b {
+        b'0'..=b'9' => Some(b - b'0'),
+        b'a'..=b'f' => Some(b - b'a' + 10),
+        _ => None,
     }
-    if b < 58 {
-        return b as u32 - 48;
-    }
-    if b < 97 {
-        return 16;
-    }
-    if b < 103 {
-        return b as u32 - 87;
-    }
-    16
 }
 
-// The byte that two hex digits stand for; 256 where one is none.
-fn pair_value(a: u8, b: u8) -> u32
-    ensures { (result ≡ pair_value a b) × (result ≤ 256) }
+// The byte that two hex digits stand for.
+#[tactic(auto, unfolding(crate::specs::Bytes::pair_value))]
+fn pair_value(a: u8, b: u8) -> Option<u8>
+    ensures { MatchOption result (pair_value a b ≡ 256) (λ v. (v ≡ pair_value a b) × (v < 256)) }
 {
-    let high = hex_value(a);
-    let low = hex_value(b);
-    if 15 < high {
-        return 256;
-    }
-    if 15 < low {
-        return 256;
-    }
-    high * 16 + low
+    Some(hex_value(a)? * 16 + hex_value(b)?)
 }
 
 // Two digits a byte, up to the first two that are no byte.
-fn read_hex(word: &[u8], into: &mut [u8]) -> Bytes
+fn read_hex(word: &[u8], into: &mut [u8]) -> Option<usize>
     requires { length word.now ≤ 2 * length into.old }
     ensures { (result ≡ hex_of word.now) × (into.new ≡ hex_stored into.old word.now)
         × (read_count result ≤ length into.old) }
 {
-    let mut i = 0;
-    let mut n = 0;
-    while i < word.len() {
-        if word.len() - i < 2 {
-            return Bytes::Bad;
-        }
-        let v = pair_value(word[i], word[i + 1]);
-        if 255 < v {
-            return Bytes::Bad;
-        }
-        into[n] = v as u8;
-        n += 1;
-        i += 2;
+    let (pairs, rest) = word.as_chunks::<2>();
+    for (n, [a, b]) in pairs.iter().enumerate() {
+        into[n] = pair_value(*a, *b)?;
     }
-    Bytes::Read(n)
+    if rest.is_empty() {
+        Some(pairs.len())
+    } else {
+        None
+    }
 }
 
 // Lowercase hex, two digits a byte, and `-` for none.
-pub fn read_bytes(word: &[u8], into: &mut [u8]) -> Bytes
+pub fn read_bytes(word: &[u8], into: &mut [u8]) -> Option<usize>
     requires { length word.now ≤ 2 * length into.old }
     ensures { (result ≡ bytes_of word.now) × (into.new ≡ bytes_stored into.old word.now)
         × (read_count result ≤ length into.old) }
 {
-    if word.len() == 0 {
-        return Bytes::Bad;
+    match word {
+        [b'-'] => Some(0),
+        [] | [_] => None,
+        _ => read_hex(word, into),
     }
-    if word.len() == 1 {
-        if word[0] == 45 {
-            return Bytes::Read(0);
-        }
-        return Bytes::Bad;
-    }
-    read_hex(word, into)
 }
 
+// Whether two words are equal.
 pub fn same(word: &[u8], other: &[u8]) -> bool
     ensures { result ≡ same_bytes word.now other.now }
 {
-    if word.len() != other.len() {
-        return false;
-    }
-    let mut i = 0;
-    while i < word.len() {
-        if word[i] != other[i] {
-            return false;
-        }
-        i += 1;
-    }
-    true
+    word == other
 }
 
-// All of word goes into a buffer from index at on; answers the index after it.
-pub fn put(word: &[u8], out: &mut [u8], at: usize) -> usize
-    requires { at + length word.now ≤ length out.old }
-    ensures { (result ≡ at + length word.now) × (out.new ≡ sets out.old at word.now) }
+// The digits of n, at the array's end.
+fn spell(n: u64, digits: &mut [u8; 20]) -> &[u8]
+    ensures digits { result.now ≡ decimal_of n }
+    ensures few { length result.now ≤ 20 }
 {
-    let mut i = 0;
-    while i < word.len() {
-        out[at + i] = word[i];
-        i += 1;
-    }
-    at + i
-}
-
-fn digit(n: u64) -> u8
-    requires { n < 10 }
-    ensures { result ≡ 48 + n }
-{
-    48 + n as u8
-}
-
-// The digits of n, up to the array's end; answers where they begin.
-fn spell(n: u64, digits: &mut [u8]) -> usize
-    requires { length digits.old ≡ 20 }
-    ensures { (result ≤ 20) × (drop result digits.new ≡ decimal_of n) }
-{
-    let mut i: usize = 20;
     let mut rest = n;
-    while 0 < i {
-        i -= 1;
-        digits[i] = digit(rest % 10);
+    for i in (0..20).rev() {
+        digits[i] = b'0' + (rest % 10) as u8;
         if rest < 10 {
-            return i;
+            return &digits[i..];
         }
         rest /= 10;
     }
-    i
-}
-
-// The digits of n go into a buffer from index at on; answers the index after them.
-pub fn put_decimal(n: u64, out: &mut [u8], at: usize) -> usize
-    requires { at + 20 ≤ length out.old }
-    ensures { (result ≡ at + length (decimal_of n)) × (out.new ≡ sets out.old at (decimal_of n)) × (result ≤ at + 20) }
-{
-    let mut digits = [0u8; 20];
-    let from = spell(n, &mut digits);
-    put(&digits[from..], out, at)
-}
-
-// The number below zero without its sign.
-fn without_sign(n: i32) -> u64
-    ensures { result ≡ magnitude n }
-{
-    if n < 0 {
-        return (-(n as i64)) as u64;
-    }
-    n as u64
-}
-
-// The same of a number that may be below zero: its sign first.
-pub fn put_signed(n: i32, out: &mut [u8], at: usize) -> usize
-    requires { at + 21 ≤ length out.old }
-    ensures { (result ≡ at + length (signed_of n)) × (out.new ≡ sets out.old at (signed_of n)) × (result ≤ at + 21) }
-{
-    if n < 0 {
-        out[at] = 45;
-        return put_decimal(without_sign(n), out, at + 1);
-    }
-    put_decimal(without_sign(n), out, at)
+    digits
 }
 
 // The lowercase hex digit of a value.
-fn hex_digit(v: u64) -> u8
+fn hex_digit(v: u8) -> u8
     requires { v < 16 }
     ensures { result ≡ hex_digit v }
 {
-    if v < 10 {
-        return 48 + v as u8;
-    }
-    87 + v as u8
+    if v < 10 { b'0' + v } else { b'a' - 10 + v }
 }
 
-// The bytes go into a buffer from index at on, two hex digits each; answers the index after them.
-pub fn put_hex(bytes: &[u8], out: &mut [u8], at: usize) -> usize
-    requires { at + 2 * length bytes.now ≤ length out.old }
-    ensures { (result ≡ at + length (hex_text bytes.now)) × (out.new ≡ sets out.old at (hex_text bytes.now))
-        × (result ≡ at + 2 * length bytes.now) }
-{
-    let mut next = at;
-    let mut i = 0;
-    while i < bytes.len() {
-        let b = wide(bytes[i]);
-        out[next] = hex_digit(b / 16);
-        out[next + 1] = hex_digit(b % 16);
-        next += 2;
-        i += 1;
+// Text that grows in a lent buffer, up to index end.
+#[derive(Drop)]
+pub struct Text<'a> {
+    pub buffer: &'a mut [u8],
+    pub end: usize,
+}
+
+impl Text<'_> {
+    // All of word.
+    #[tactic(auto, using(crate::proofs::Wrote::copying))]
+    pub fn put(&mut self, word: &[u8])
+        requires { Room self.old (length word.now) }
+        ensures { Wrote self.old self.new word.now }
+    {
+        let end = self.end + word.len();
+        self.buffer[self.end..end].copy_from_slice(word);
+        self.end = end;
     }
-    next
+
+    // The digits of n.
+    pub fn put_decimal(&mut self, n: u64)
+        requires { Room self.old 20 }
+        ensures wrote { Wrote self.old self.new (decimal_of n) }
+        ensures within { self.new.end ≤ self.old.end + 20 }
+    {
+        let mut digits = [0; 20];
+        self.put(spell(n, &mut digits));
+    }
+
+    // The same of a number that may be below zero: its sign first.
+    pub fn put_signed(&mut self, n: i32)
+        requires { Room self.old 21 }
+        ensures wrote { Wrote self.old self.new (signed_of n) }
+        ensures within { self.new.end ≤ self.old.end + 21 }
+    {
+        if n < 0 {
+            self.put(b"-");
+        }
+        self.put_decimal(u64::from(n.unsigned_abs()));
+    }
+
+    // Two hex digits for each of the bytes.
+    #[tactic(auto, using(crate::proofs::HexTexts::hex_steps))]
+    pub fn put_hex(&mut self, bytes: &[u8])
+        requires { Room self.old (2 * length bytes.now) }
+        ensures wrote { Wrote self.old self.new (hex_text bytes.now) }
+        ensures twice { self.new.end ≡ self.old.end + 2 * length bytes.now }
+    {
+        for b in bytes {
+            self.put(&[hex_digit(*b / 16), hex_digit(*b % 16)]);
+        }
+    }
 }

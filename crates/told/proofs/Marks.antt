@@ -5,26 +5,22 @@ use mathlib.Core.List.{[], ◌∷◌}
 use native.Mathlib.Omega.{arith}
 use Rattle.types.specs.declared.Hop.{Hop}
 use Rattle.types.specs.declared.Hop.TheVariants.{NoAttestation, ProviderPlus, NotProviderPlus}
-use Rattle.types.specs.declared.Hopped.{Hopped}
-use Rattle.types.specs.declared.Hopped.TheVariants as hopped
 use Rattle.types.specs.declared.Verdict.{Verdict}
 use Rattle.types.specs.declared.Verdict.TheVariants.{Valid, Invalid, Unknown}
 use Rattle.types.specs.declared.Fault.{Fault}
 use Rattle.types.specs.declared.Fault.TheVariants.{CutShort, UnknownType, Confederation, NoNumbers, ZeroNumber}
 use Rattle.types.specs.declared.Refusal.{Refusal}
 use Rattle.types.specs.declared.Refusal.TheVariants as refusal
-use Rattle.types.specs.declared.Filed.{Filed}
-use Rattle.types.specs.declared.Filed.TheVariants as filed
-use Rattle.types.specs.declared.Cleared.TheVariants as cleared
-use Rattle.types.specs.declared.Judged.{Judged}
-use Rattle.types.specs.declared.Judged.TheVariants as judged
-use Rattle.types.specs.declared.Rejudged.TheVariants as rejudged
-use Rattle.types.specs.declared.Written.TheVariants as written
 use Rattle.types.specs.Numbers.{verdict_number, verdict_of, fault_number, refusal_number}
 use Rattle.register.specs.Register.{most_records}
 use Rattle.ledger.specs.Routes.{most_routes}
-use Rattle.told.specs.Answers.{no_verdict, no_hop, not_filed, no_count, no_bytes, filed_told, cleared_told, rejudged_told, judged_told, hop_words, hopped_told, written_told}
+use Rattle.told.specs.Answers.{no_verdict, no_hop, not_filed, no_count, no_bytes, filed_told, counted_told, judged_told, hop_words, hopped_told, written_told}
 use Rattle.told.specs.Marks.{Marks}
+use Rattle.std.specs.Prelude.{Err, Ok, Result}
+use Rattle.types.specs.declared.Answer.{Answer}
+use Rattle.types.specs.declared.Filed.{Filed}
+use Rattle.types.specs.declared.Filed.TheVariants.{New}
+use Rattle.types.specs.declared.Filed.TheVariants.{Replaced}
 
 -- ---- the word of a refusal, and any other
 
@@ -67,36 +63,36 @@ answered h = (λ e. absurd (h e), λ z. absurd (z refl))
 
 -- ---- the answers of each call
 
-pub file_marks : (f : Filed) → Marks not_filed (filed_told f).result (filed_told f).words
-file_marks filed.New = answered (λ e. omega arith)
-file_marks filed.Replaced = answered (λ e. omega arith)
-file_marks (filed.Refused r) = refused r
+pub file_marks : (f : Result Filed Refusal) → Marks not_filed (filed_told f).result (filed_told f).words
+file_marks (Ok New) = answered (λ e. omega arith)
+file_marks (Ok Replaced) = answered (λ e. omega arith)
+file_marks (Err r) = refused r
 
 no-verdict : (v : Verdict) → verdict_number v ≡ no_verdict → ⊥
 no-verdict Valid e = omega arith
 no-verdict (Invalid c) e = omega arith
 no-verdict (Unknown a b) e = omega arith
 
-pub judge_marks : (j : Judged) → Marks no_verdict (judged_told j).result (judged_told j).words
-judge_marks (judged.Answered a) = answered (no-verdict (verdict_of a))
-judge_marks (judged.Refused r) = refused r
+pub judge_marks : (j : Result Answer Refusal) → Marks no_verdict (judged_told j).result (judged_told j).words
+judge_marks (Ok a) = answered (no-verdict (verdict_of a))
+judge_marks (Err r) = refused r
 
 no-hop : (h : Hop) → Marks no_hop 0 (hop_words h)
 no-hop NoAttestation = answered (λ e. omega arith)
 no-hop (ProviderPlus o s) = answered (λ e. omega arith)
 no-hop (NotProviderPlus o) = answered (λ e. omega arith)
 
-pub hop_marks : (h : Hopped) → Marks no_hop (hopped_told h).result (hopped_told h).words
-hop_marks (hopped.Answered h) = no-hop h
-hop_marks (hopped.Refused r) = refused r
+pub hop_marks : (h : Result Hop Refusal) → Marks no_hop (hopped_told h).result (hopped_told h).words
+hop_marks (Ok h) = no-hop h
+hop_marks (Err r) = refused r
 
 -- A count of records or of routes that a table has room for.
-pub gone_marks : {n : ℕ} → n ≤ most_records → Marks no_count (cleared_told (cleared.Gone n)).result (cleared_told (cleared.Gone n)).words
+pub gone_marks : {n : ℕ} → n ≤ most_records → Marks no_count (counted_told (Ok n)).result (counted_told (Ok n)).words
 gone_marks h = answered (λ e. omega (arith, e, h))
 
-pub changed_marks : {n : ℕ} → n ≤ most_routes → Marks no_count (rejudged_told (rejudged.Changed n)).result (rejudged_told (rejudged.Changed n)).words
+pub changed_marks : {n : ℕ} → n ≤ most_routes → Marks no_count (counted_told (Ok n)).result (counted_told (Ok n)).words
 changed_marks h = answered (λ e. omega (arith, e, h))
 
 -- A length from that of the empty tables' file on.
-pub bytes_marks : {n : ℕ} → 36 ≤ n → Marks no_bytes (written_told (written.Bytes n)).result (written_told (written.Bytes n)).words
+pub bytes_marks : {n : ℕ} → 36 ≤ n → Marks no_bytes (written_told (Ok n)).result (written_told (Ok n)).words
 bytes_marks h = answered (λ e. omega (arith, e, h))

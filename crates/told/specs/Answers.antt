@@ -1,31 +1,17 @@
 -- The answers as C gets them: the refusal's number as the result, 0 where there is none, and the rest in words.
-use Rattle.std.specs.Prelude.{ℕ, ◌-◌, cond, List, [], ◌∷◌, eqb, ℤ, pos}
-use Rattle.std.proofs.Math.Option.{Option, none, some}
+use Rattle.std.specs.Prelude.{ℕ, ◌-◌, cond, List, [], ◌∷◌, eqb, ℤ, pos, Err, None, Ok, Option, Result, Some}
 use Rattle.types.specs.declared.Hop.{Hop}
 use Rattle.types.specs.declared.Hop.TheVariants.{NoAttestation, ProviderPlus, NotProviderPlus}
 use Rattle.types.specs.declared.Verdict.{Verdict}
-use Rattle.types.specs.declared.Place.{Place}
-use Rattle.types.specs.declared.Place.TheVariants.{Nowhere, Byte}
-use Rattle.types.specs.declared.Filed.{Filed}
-use Rattle.types.specs.declared.Filed.TheVariants as filed
-use Rattle.types.specs.declared.Removal.{Removal}
-use Rattle.types.specs.declared.Removal.TheVariants as removal
-use Rattle.types.specs.declared.Cleared.{Cleared}
-use Rattle.types.specs.declared.Cleared.TheVariants as cleared
-use Rattle.types.specs.declared.Hopped.{Hopped}
-use Rattle.types.specs.declared.Hopped.TheVariants as hopped
-use Rattle.types.specs.declared.Judged.{Judged}
-use Rattle.types.specs.declared.Judged.TheVariants as judged
-use Rattle.types.specs.declared.Rejudged.{Rejudged}
-use Rattle.types.specs.declared.Rejudged.TheVariants as rejudged
-use Rattle.types.specs.declared.Written.{Written}
-use Rattle.types.specs.declared.Written.TheVariants as written
-use Rattle.types.specs.declared.Restored.{Restored}
-use Rattle.types.specs.declared.Restored.TheVariants as restored
 use Rattle.types.specs.Numbers.{verdict_number, verdict_ground, place_a, place_b, origin_number, origin_a, origin_b, verdict_of, answer_gap, refusal_number, refusal_place}
 use Rattle.types.specs.Rows.{Effect, effect}
 use Rattle.registers.specs.declared.Part.{Part}
 use Rattle.snapshot.specs.Calls.{Reading}
+use Rattle.types.specs.declared.Answer.{Answer}
+use Rattle.types.specs.declared.Filed.{Filed}
+use Rattle.types.specs.declared.Filed.TheVariants.{New}
+use Rattle.types.specs.declared.Refusal.{Refusal}
+use Rattle.types.specs.declared.Filed.TheVariants.{Replaced}
 
 -- What C gets of a call: its result, and the words that it writes.
 pub record Told : Type 0 where
@@ -73,49 +59,44 @@ no_bytes = 0
 -- ---- the calls on a table
 
 -- File: 0 new, 1 replaced.
-abbrev pub filed_told : Filed → Told
-filed_told filed.New = told 0 (0 ∷ [])
-filed_told filed.Replaced = told 0 (1 ∷ [])
-filed_told (filed.Refused r) = told (refusal_number r) (not_filed ∷ [])
+abbrev pub filed_told : Result Filed Refusal → Told
+filed_told (Ok New) = told 0 (0 ∷ [])
+filed_told (Ok Replaced) = told 0 (1 ∷ [])
+filed_told (Err r) = told (refusal_number r) (not_filed ∷ [])
 
--- Withdraw and Drop: the result alone.
-abbrev pub removal_told : Removal → ℕ
-removal_told removal.Done = 0
-removal_told (removal.Refused r) = refusal_number r
+-- Withdraw, Drop and Read: the result alone.
+abbrev pub done_told : Result Unit Refusal → ℕ
+done_told (Ok u) = 0
+done_told (Err r) = refusal_number r
 
--- Clear: how many records went.
-abbrev pub cleared_told : Cleared → Told
-cleared_told (cleared.Gone n) = told 0 (n ∷ [])
-cleared_told (cleared.Refused r) = told (refusal_number r) (no_count ∷ [])
-
--- Re-judge: how many routes changed.
-abbrev pub rejudged_told : Rejudged → Told
-rejudged_told (rejudged.Changed n) = told 0 (n ∷ [])
-rejudged_told (rejudged.Refused r) = told (refusal_number r) (no_count ∷ [])
+-- Clear: how many records went. Re-judge: how many routes changed.
+abbrev pub counted_told : Result ℕ Refusal → Told
+counted_told (Ok n) = told 0 (n ∷ [])
+counted_told (Err r) = told (refusal_number r) (no_count ∷ [])
 
 -- ---- Judge and Keep
 
 -- The place of a refusal; 0 where it has none.
-abbrev pub place_word : Place → ℕ
-place_word Nowhere = 0
-place_word (Byte p) = p
+abbrev pub place_word : Option ℕ → ℕ
+place_word None = 0
+place_word (Some p) = p
 
 -- Whether a gap is given, and the gap; 0 where none is.
 abbrev pub gap_given : Option ℤ → ℕ
-gap_given none = 0
-gap_given (some g) = 1
+gap_given None = 0
+gap_given (Some g) = 1
 
 abbrev pub gap_told : Option ℤ → ℤ
-gap_told none = pos 0
-gap_told (some g) = g
+gap_told None = pos 0
+gap_told (Some g) = g
 
 -- Verdict, ground, place a, place b, whether a gap is given, the place of a refusal, and the registers of the hops at a and at b.
 abbrev pub verdict_words : Verdict → ℕ → List ℕ
 verdict_words v given = verdict_number v ∷ verdict_ground v ∷ place_a v ∷ place_b v ∷ given ∷ 0 ∷ origin_a v ∷ origin_b v ∷ []
 
-abbrev pub judged_told : Judged → ToldRoute
-judged_told (judged.Answered a) = told_route 0 (verdict_words (verdict_of a) (gap_given (answer_gap a))) (gap_told (answer_gap a))
-judged_told (judged.Refused r) = told_route (refusal_number r) (no_verdict ∷ 0 ∷ 0 ∷ 0 ∷ 0 ∷ place_word (refusal_place r) ∷ 0 ∷ 0 ∷ []) (pos 0)
+abbrev pub judged_told : Result Answer Refusal → ToldRoute
+judged_told (Ok a) = told_route 0 (verdict_words (verdict_of a) (gap_given (answer_gap a))) (gap_told (answer_gap a))
+judged_told (Err r) = told_route (refusal_number r) (no_verdict ∷ 0 ∷ 0 ∷ 0 ∷ 0 ∷ place_word (refusal_place r) ∷ 0 ∷ 0 ∷ []) (pos 0)
 
 -- ---- Hop and the look-up
 
@@ -129,9 +110,9 @@ hop_words NoAttestation = 0 ∷ 0 ∷ no_source ∷ []
 hop_words (ProviderPlus o s) = 1 ∷ origin_number o ∷ s ∷ []
 hop_words (NotProviderPlus o) = 2 ∷ origin_number o ∷ no_source ∷ []
 
-abbrev pub hopped_told : Hopped → Told
-hopped_told (hopped.Answered h) = told 0 (hop_words h)
-hopped_told (hopped.Refused r) = told (refusal_number r) (no_hop ∷ 0 ∷ no_source ∷ [])
+abbrev pub hopped_told : Result Hop Refusal → Told
+hopped_told (Ok h) = told 0 (hop_words h)
+hopped_told (Err r) = told (refusal_number r) (no_hop ∷ 0 ∷ no_source ∷ [])
 
 -- The register of a part, where it starts, and how many words it has; all 0 where it is empty.
 abbrev pub part_told : Part → List ℕ
@@ -140,9 +121,9 @@ part_told p = cond (eqb p.from p.to) (0 ∷ 0 ∷ 0 ∷ []) (origin_number p.ori
 -- ---- Write and Read
 
 -- Write: the file's length in bytes.
-abbrev pub written_told : Written → Told
-written_told (written.Bytes n) = told 0 (n ∷ [])
-written_told (written.Refused r) = told (refusal_number r) (no_bytes ∷ [])
+abbrev pub written_told : Result ℕ Refusal → Told
+written_told (Ok n) = told 0 (n ∷ [])
+written_told (Err r) = told (refusal_number r) (no_bytes ∷ [])
 
 -- What C gets of a reading: its result, and the words of both tables.
 pub record ToldTables : Type 0 where
@@ -153,10 +134,6 @@ pub record ToldTables : Type 0 where
 abbrev pub told_tables : ℕ → List ℕ → List ℕ → ToldTables
 told_tables result reg led = record { result = result; register = reg; ledger = led }
 
-abbrev pub restored_told : Restored → ℕ
-restored_told restored.Done = 0
-restored_told (restored.Refused r) = refusal_number r
-
 -- Read: its answer as the result, and the words that it leaves in both tables.
 abbrev pub reading_told : Reading → ToldTables
-reading_told e = told_tables (restored_told e.answer) e.register e.ledger
+reading_told e = told_tables (done_told e.answer) e.register e.ledger

@@ -6,15 +6,12 @@ ghost use Rattle.types.specs.Numbers.{refusal_number, refusal_place};
 ghost use Rattle.rules.specs.Judging.{most_bytes};
 ghost use Rattle.register.specs.Register.{register_words};
 ghost use Rattle.told.specs.Answers.{told, told_route, place_word, verdict_words};
-ghost use Rattle.told.specs.Answers.{filed_told, removal_told, cleared_told, rejudged_told, judged_told, written_told, restored_told};
+ghost use Rattle.told.specs.Answers.{filed_told, done_told, counted_told, judged_told, written_told};
 ghost use Rattle.told.specs.Answers.{hop_words, hopped_told, part_told};
 ghost use Rattle.told.specs.Helpers.{place_in, bytes_in};
 
 use registers::Part;
-use types::{
-    Answer, Cleared, Filed, Hop, Hopped, Judged, Place, Refusal, Rejudged, Removal, Restored,
-    Verdict, Written,
-};
+use types::{Answer, Filed, Hop, Refusal, Verdict};
 
 // The words of an answer to Judge or Keep: verdict, ground, place a, place b, whether a gap is given, the place of a refusal, the registers of the
 // hops at a and at b.
@@ -55,55 +52,42 @@ fn refused(r: Refusal, word: u32, out: &mut [u32; 1]) -> u32
 }
 
 // File: out[0] is 0 for new, 1 for replaced.
-pub fn tell_filed(f: Filed, out: &mut [u32; 1]) -> u32
-    ensures { told result out.new ≡ filed_told f }
+pub fn tell_filed(filed: Result<Filed, Refusal>, out: &mut [u32; 1]) -> u32
+    ensures { told result out.new ≡ filed_told filed }
 {
-    match f {
-        Filed::New => {
+    match filed {
+        Ok(Filed::New) => {
             *out = [0];
             0
         }
-        Filed::Replaced => {
+        Ok(Filed::Replaced) => {
             *out = [1];
             0
         }
-        Filed::Refused(r) => refused(r, NOT_FILED, out),
+        Err(r) => refused(r, NOT_FILED, out),
     }
 }
 
-// Withdraw and Drop: the result alone.
-pub fn tell_removal(d: Removal) -> u32
-    ensures { result ≡ removal_told d }
+// Withdraw, Drop and Read: the result alone.
+pub fn tell_done(done: Result<(), Refusal>) -> u32
+    ensures { result ≡ done_told done }
 {
-    match d {
-        Removal::Done => 0,
-        Removal::Refused(r) => r.number(),
+    match done {
+        Ok(()) => 0,
+        Err(r) => r.number(),
     }
 }
 
-// Clear: out[0] is how many records went.
-pub fn tell_cleared(c: Cleared, out: &mut [u32; 1]) -> u32
-    ensures { told result out.new ≡ cleared_told c }
+// Clear and Re-judge: out[0] is how many records went, or how many routes changed.
+pub fn tell_count(count: Result<u32, Refusal>, out: &mut [u32; 1]) -> u32
+    ensures { told result out.new ≡ counted_told count }
 {
-    match c {
-        Cleared::Gone(n) => {
+    match count {
+        Ok(n) => {
             *out = [n];
             0
         }
-        Cleared::Refused(r) => refused(r, NO_COUNT, out),
-    }
-}
-
-// Re-judge: out[0] is how many routes changed.
-pub fn tell_rejudged(c: Rejudged, out: &mut [u32; 1]) -> u32
-    ensures { told result out.new ≡ rejudged_told c }
-{
-    match c {
-        Rejudged::Changed(n) => {
-            *out = [n];
-            0
-        }
-        Rejudged::Refused(r) => refused(r, NO_COUNT, out),
+        Err(r) => refused(r, NO_COUNT, out),
     }
 }
 
@@ -115,8 +99,8 @@ fn place_word(r: Refusal) -> u32
     ensures { result ≡ place_word (refusal_place r) }
 {
     match r.place() {
-        Place::Nowhere => 0,
-        Place::Byte(p) => p as u32,
+        None => 0,
+        Some(place) => place as u32,
     }
 }
 
@@ -137,24 +121,22 @@ fn verdict_words(v: Verdict, given: u32, out: &mut [u32; ANSWER_WORDS])
 }
 
 // A judging's answer, told in words.
-pub fn tell(j: Judged, out: &mut [u32; ANSWER_WORDS], gap: &mut i32) -> u32
-    requires { place_in j < most_bytes }
-    ensures { told_route result out.new gap.new ≡ judged_told j }
+pub fn tell(judged: Result<Answer, Refusal>, out: &mut [u32; ANSWER_WORDS], gap: &mut i32) -> u32
+    requires { place_in judged < most_bytes }
+    ensures { told_route result out.new gap.new ≡ judged_told judged }
 {
-    match j {
-        Judged::Answered(a) => match a {
-            Answer::Plain(v) => {
-                *gap = 0;
-                verdict_words(v, 0, out);
-                0
-            }
-            Answer::WithGap(v, g) => {
-                *gap = g;
-                verdict_words(v, 1, out);
-                0
-            }
-        },
-        Judged::Refused(r) => {
+    match judged {
+        Ok(Answer::Plain(verdict)) => {
+            *gap = 0;
+            verdict_words(verdict, 0, out);
+            0
+        }
+        Ok(Answer::WithGap(verdict, g)) => {
+            *gap = g;
+            verdict_words(verdict, 1, out);
+            0
+        }
+        Err(r) => {
             *gap = 0;
             *out = [NO_VERDICT, 0, 0, 0, 0, place_word(r), 0, 0];
             r.number()
@@ -173,24 +155,24 @@ fn hop_words(hop: Hop, out: &mut [u32; HOP_WORDS])
             *out = [0, 0, NO_SOURCE];
         }
         Hop::ProviderPlus(o, source) => {
-            *out = [1, o.number(), source];
+            *out = [1, u32::from(o), source];
         }
         Hop::NotProviderPlus(o) => {
-            *out = [2, o.number(), NO_SOURCE];
+            *out = [2, u32::from(o), NO_SOURCE];
         }
     }
 }
 
 // Hop: the words of the hop.
-pub fn tell_hopped(a: Hopped, out: &mut [u32; HOP_WORDS]) -> u32
-    ensures { told result out.new ≡ hopped_told a }
+pub fn tell_hopped(hop: Result<Hop, Refusal>, out: &mut [u32; HOP_WORDS]) -> u32
+    ensures { told result out.new ≡ hopped_told hop }
 {
-    match a {
-        Hopped::Answered(h) => {
-            hop_words(h, out);
+    match hop {
+        Ok(hop) => {
+            hop_words(hop, out);
             0
         }
-        Hopped::Refused(r) => {
+        Err(r) => {
             *out = [NO_HOP, 0, NO_SOURCE];
             r.number()
         }
@@ -208,33 +190,23 @@ pub fn part_words(part: Part, out: &mut [u32; PART_WORDS])
     if from == to {
         *out = [0, 0, 0];
     } else {
-        *out = [origin.number(), from as u32, (to - from) as u32];
+        *out = [u32::from(origin), from as u32, (to - from) as u32];
     }
 }
 
-// ---- Write and Read
+// ---- Write
 
 // Write: out[0] is the file's length in bytes, which a word holds.
-pub fn tell_written(w: Written, out: &mut [u32; 1]) -> u32
-    requires { bytes_in w < 4294967296 }
-    ensures { told result out.new ≡ written_told w }
+pub fn tell_written(written: Result<usize, Refusal>, out: &mut [u32; 1]) -> u32
+    requires { bytes_in written < 4294967296 }
+    ensures { told result out.new ≡ written_told written }
 {
-    match w {
-        Written::Bytes(n) => {
+    match written {
+        Ok(n) => {
             let bytes = n as u32;
             *out = [bytes];
             0
         }
-        Written::Refused(r) => refused(r, NO_BYTES, out),
-    }
-}
-
-// Read: the result alone.
-pub fn tell_restored(d: Restored) -> u32
-    ensures { result ≡ restored_told d }
-{
-    match d {
-        Restored::Done => 0,
-        Restored::Refused(r) => r.number(),
+        Err(r) => refused(r, NO_BYTES, out),
     }
 }

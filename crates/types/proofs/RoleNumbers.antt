@@ -7,25 +7,24 @@ use borrow.Author.Tests.{eqb-true, eqb-false, leb-true}
 use lib.Dec.{leb, eqb}
 use Rattle.types.specs.declared.Role.{Role}
 use Rattle.types.specs.declared.Role.TheVariants.{Customer, Peer, Provider, RouteServer, RouteServerClient, MutualTransit}
-use Rattle.types.specs.declared.RoleRead.{RoleRead}
-use Rattle.types.specs.declared.RoleRead.TheVariants.{Is, Nothing}
 use Rattle.types.specs.Numbers.{role_number, role_of}
 use Rattle.types.specs.Roles.{is_role}
+use Rattle.std.specs.Prelude.{None, Option, Some}
 
 -- A role that was read has the number that it was read from, and that number is a role's.
 pub record Names (n : ℕ) (k : Role) : Type 0 where
   pub known : is_role n ≡ true
   pub number : role_number k ≡ n
 
-named : (n m : ℕ) (r k : Role) (rest : RoleRead) → is_role m ≡ true → role_number r ≡ m → (rest ≡ Is k → Names n k)
-    → (b : Bool) → eqb n m ≡ b → cond b (Is r) rest ≡ Is k → Names n k
+named : (n m : ℕ) (r k : Role) (rest : Option Role) → is_role m ≡ true → role_number r ≡ m → (rest ≡ Some k → Names n k)
+    → (b : Bool) → eqb n m ≡ b → cond b (Some r) rest ≡ Some k → Names n k
 named n m r k rest ok e next true t h =
     let z : n ≡ m = eqb-true n m t in
     let q : r ≡ k = cc in
     record { known = rw z ok; number = sym (ap role_number q) ∙ e ∙ sym z }
 named n m r k rest ok e next false t h = next h
 
-pub role_named : (n : ℕ) (k : Role) → role_of n ≡ Is k → Names n k
+pub role_named : (n : ℕ) (k : Role) → role_of n ≡ Some k → Names n k
 role_named n k =
     named n 1 Customer k _ refl refl
     (named n 2 Peer k _ refl refl
@@ -41,12 +40,12 @@ role_named n k =
     (eqb n 2) refl)
     (eqb n 1) refl
 
-passed : (r : Role) (rest : RoleRead) (b : Bool) → cond b (Is r) rest ≡ Nothing → (b ≡ false) × (rest ≡ Nothing)
+passed : (r : Role) (rest : Option Role) (b : Bool) → cond b (Some r) rest ≡ None → (b ≡ false) × (rest ≡ None)
 passed r rest true h = let z : ◌≡◌ {A = ℕ} 0 1 = cc in absurd (omega arith)
 passed r rest false h = (refl, h)
 
 -- Where no role was read, the number is no role's.
-pub role_none : (n : ℕ) → role_of n ≡ Nothing → is_role n ≡ false
+pub role_none : (n : ℕ) → role_of n ≡ None → is_role n ≡ false
 role_none n h =
     let p1 = passed Customer _ (eqb n 1) h in
     let p2 = passed Peer _ (eqb n 2) p1.1 in

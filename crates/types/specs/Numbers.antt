@@ -1,10 +1,7 @@
 -- The number that the rules give to each case of the enums, and the values that a verdict holds.
-use Rattle.std.specs.Prelude.{ℕ, cond, ℤ, eqb}
-use Rattle.std.proofs.Math.Option.{Option, none, some}
+use Rattle.std.specs.Prelude.{Result, ok_or, ℕ, cond, ℤ, eqb, None, Option, Some}
 use Rattle.types.specs.declared.Role.{Role}
 use Rattle.types.specs.declared.Role.TheVariants.{Customer, Peer, Provider, RouteServer, RouteServerClient, MutualTransit}
-use Rattle.types.specs.declared.RoleRead.{RoleRead}
-use Rattle.types.specs.declared.RoleRead.TheVariants.{Is, Nothing}
 use Rattle.types.specs.declared.Ground.{Ground}
 use Rattle.types.specs.declared.Ground.TheVariants.{Empty, NotNeighbour, AsSet}
 use Rattle.types.specs.declared.Origin.{Origin}
@@ -17,8 +14,6 @@ use Rattle.types.specs.declared.Verdict.{Verdict}
 use Rattle.types.specs.declared.Verdict.TheVariants.{Valid, Invalid, Unknown}
 use Rattle.types.specs.declared.Answer.{Answer}
 use Rattle.types.specs.declared.Answer.TheVariants.{Plain, WithGap}
-use Rattle.types.specs.declared.Place.{Place}
-use Rattle.types.specs.declared.Place.TheVariants.{Nowhere, Byte}
 use Rattle.types.specs.declared.Fault.{Fault}
 use Rattle.types.specs.declared.Fault.TheVariants.{CutShort, UnknownType, Confederation, NoNumbers, ZeroNumber}
 use Rattle.types.specs.declared.Refusal.{Refusal}
@@ -34,15 +29,19 @@ role_number RouteServerClient = 5
 role_number MutualTransit = 6
 
 -- No other number is a role.
-abbrev pub role_of : ℕ → RoleRead
+abbrev pub role_of : ℕ → Option Role
 role_of n =
-    cond (eqb n (role_number Customer)) (Is Customer)
-    (cond (eqb n (role_number Peer)) (Is Peer)
-    (cond (eqb n (role_number Provider)) (Is Provider)
-    (cond (eqb n (role_number RouteServer)) (Is RouteServer)
-    (cond (eqb n (role_number RouteServerClient)) (Is RouteServerClient)
-    (cond (eqb n (role_number MutualTransit)) (Is MutualTransit)
-    Nothing)))))
+    cond (eqb n (role_number Customer)) (Some Customer)
+    (cond (eqb n (role_number Peer)) (Some Peer)
+    (cond (eqb n (role_number Provider)) (Some Provider)
+    (cond (eqb n (role_number RouteServer)) (Some RouteServer)
+    (cond (eqb n (role_number RouteServerClient)) (Some RouteServerClient)
+    (cond (eqb n (role_number MutualTransit)) (Some MutualTransit)
+    None)))))
+
+-- What a number is read as; row 9 where it is no role's.
+abbrev pub role_read : ℕ → Result Role Refusal
+role_read n = ok_or (role_of n) RoleNumber
 
 -- Grounds: 1 empty path, 2 the first number is not the neighbour (the rules say stranger), 3 a set.
 abbrev pub ground_number : Ground → ℕ
@@ -126,8 +125,8 @@ verdict_of (WithGap v g) = v
 
 -- The gap L - K of an answer that gives one.
 abbrev pub answer_gap : Answer → Option ℤ
-answer_gap (Plain v) = none
-answer_gap (WithGap v g) = some g
+answer_gap (Plain v) = None
+answer_gap (WithGap v g) = Some g
 
 -- ---- refusals
 
@@ -163,24 +162,24 @@ refusal_number Contents = 23
 refusal_number SnapshotLength = 24
 
 -- The place of a refusal: for rows 12 to 16 the byte of the attribute where the fault begins. No other row has one.
-abbrev pub refusal_place : Refusal → Place
-refusal_place TableLength = Nowhere
-refusal_place RegisterMalformed = Nowhere
-refusal_place RoutesMalformed = Nowhere
-refusal_place SourceNumber = Nowhere
-refusal_place CustomerZero = Nowhere
-refusal_place ProviderList = Nowhere
-refusal_place NoRecord = Nowhere
-refusal_place RegisterFull = Nowhere
-refusal_place RoleNumber = Nowhere
-refusal_place NeighbourZero = Nowhere
-refusal_place AttributeLength = Nowhere
-refusal_place (Attribute f p) = Byte p
-refusal_place PathLength = Nowhere
-refusal_place RouteTaken = Nowhere
-refusal_place NoRoute = Nowhere
-refusal_place RoutesFull = Nowhere
-refusal_place OutputLength = Nowhere
-refusal_place Edition = Nowhere
-refusal_place Contents = Nowhere
-refusal_place SnapshotLength = Nowhere
+abbrev pub refusal_place : Refusal → Option ℕ
+refusal_place TableLength = None
+refusal_place RegisterMalformed = None
+refusal_place RoutesMalformed = None
+refusal_place SourceNumber = None
+refusal_place CustomerZero = None
+refusal_place ProviderList = None
+refusal_place NoRecord = None
+refusal_place RegisterFull = None
+refusal_place RoleNumber = None
+refusal_place NeighbourZero = None
+refusal_place AttributeLength = None
+refusal_place (Attribute f p) = Some p
+refusal_place PathLength = None
+refusal_place RouteTaken = None
+refusal_place NoRoute = None
+refusal_place RoutesFull = None
+refusal_place OutputLength = None
+refusal_place Edition = None
+refusal_place Contents = None
+refusal_place SnapshotLength = None

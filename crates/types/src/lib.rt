@@ -3,33 +3,52 @@
 
 ghost use Rattle.std.specs.Prelude.{◌≡◌};
 ghost use Rattle.types.specs.Roles.{is_route_server, is_upstream};
-ghost use Rattle.types.specs.Numbers.{role_of, role_number, ground_number, fault_number, refusal_number, refusal_place, verdict_number, verdict_ground, place_a};
-ghost use Rattle.types.specs.Numbers.{place_b, origin_number, first_origin, second_origin, origin_a, origin_b, verdict_of};
+ghost use Rattle.types.specs.Numbers.{role_number, role_read, ground_number, fault_number, refusal_number, refusal_place, verdict_number};
+ghost use Rattle.types.specs.Numbers.{verdict_ground, place_a, place_b, origin_number, first_origin, second_origin, origin_a, origin_b, verdict_of};
 
 // The number of an autonomous system.
-#[derive(Clone, Copy)]
+#[derive(Clone, Copy, PartialEq, Eq)]
 pub struct AsNumber(pub u32);
 
 // The caller's number of a kept route.
-#[derive(Clone, Copy)]
+#[derive(Clone, Copy, PartialEq, Eq)]
 pub struct RouteNumber(pub u32);
 
-// What the neighbour is to the network that judges the route (RFC 9234).
-#[derive(Clone, Copy)]
+// What the neighbour is to the network that judges the route (RFC 9234), under the number that the rules give it.
+#[derive(Clone, Copy, PartialEq, Eq)]
 pub enum Role {
-    Customer,
-    Peer,
-    Provider,
-    RouteServer,
-    RouteServerClient,
-    MutualTransit,
+    Customer = 1,
+    Peer = 2,
+    Provider = 3,
+    RouteServer = 4,
+    RouteServerClient = 5,
+    MutualTransit = 6,
 }
 
-// A role read from a number.
-#[derive(Clone, Copy)]
-pub enum RoleRead {
-    Is(Role),
-    Nothing,
+impl TryFrom<u32> for Role {
+    type Error = Refusal;
+
+    ghost try_from_gives = { λ n r. r ≡ role_read n };
+
+    fn try_from(n: u32) -> Result<Role, Refusal> {
+        match n {
+            1 => Ok(Role::Customer),
+            2 => Ok(Role::Peer),
+            3 => Ok(Role::Provider),
+            4 => Ok(Role::RouteServer),
+            5 => Ok(Role::RouteServerClient),
+            6 => Ok(Role::MutualTransit),
+            _ => Err(Refusal::RoleNumber),
+        }
+    }
+}
+
+impl From<Role> for u32 {
+    ghost from_gives = { λ role n. n ≡ role_number role };
+
+    fn from(role: Role) -> u32 {
+        role as u32
+    }
 }
 
 impl Role {
@@ -37,115 +56,64 @@ impl Role {
 
     pub const GREATEST: u32 = 6;
 
-    pub fn from_number(n: u32) -> RoleRead
-        ensures { result ≡ role_of n }
-    {
-        if n < Role::LEAST {
-            return RoleRead::Nothing;
-        }
-        if Role::GREATEST < n {
-            return RoleRead::Nothing;
-        }
-        if n == Role::Customer.number() {
-            return RoleRead::Is(Role::Customer);
-        }
-        if n == Role::Peer.number() {
-            return RoleRead::Is(Role::Peer);
-        }
-        if n == Role::Provider.number() {
-            return RoleRead::Is(Role::Provider);
-        }
-        if n == Role::RouteServer.number() {
-            return RoleRead::Is(Role::RouteServer);
-        }
-        if n == Role::RouteServerClient.number() {
-            return RoleRead::Is(Role::RouteServerClient);
-        }
-        RoleRead::Is(Role::MutualTransit)
-    }
-
-    pub fn number(self) -> u32
-        ensures { result ≡ role_number self }
-    {
-        match self {
-            Role::Customer => 1,
-            Role::Peer => 2,
-            Role::Provider => 3,
-            Role::RouteServer => 4,
-            Role::RouteServerClient => 5,
-            Role::MutualTransit => 6,
-        }
-    }
-
     // A route server need not put its own number on the path.
     pub fn is_route_server(self) -> bool
         ensures { result ≡ is_route_server (role_number self) }
     {
-        match self {
-            Role::Customer => false,
-            Role::Peer => false,
-            Role::Provider => false,
-            Role::RouteServer => true,
-            Role::RouteServerClient => false,
-            Role::MutualTransit => false,
-        }
+        matches!(self, Role::RouteServer)
     }
 
     // Its routes are judged upstream; the others' downstream.
     pub fn is_upstream(self) -> bool
         ensures { result ≡ is_upstream (role_number self) }
     {
-        match self {
-            Role::Customer => true,
-            Role::Peer => true,
-            Role::Provider => false,
-            Role::RouteServer => true,
-            Role::RouteServerClient => true,
-            Role::MutualTransit => false,
-        }
+        matches!(
+            self,
+            Role::Customer | Role::Peer | Role::RouteServer | Role::RouteServerClient
+        )
     }
 }
 
-// Why a route is Invalid before any hop is looked at.
-#[derive(Clone, Copy)]
-pub enum Ground {
-    Empty,
-    NotNeighbour,
-    AsSet,
+// The neighbour that a route comes from: what it is to the network, and its number.
+#[derive(Clone, Copy, PartialEq, Eq)]
+pub struct Neighbour {
+    pub role: Role,
+    pub number: AsNumber,
 }
 
-impl Ground {
-    pub fn number(self) -> u32
-        ensures { result ≡ ground_number self }
-    {
-        match self {
-            Ground::Empty => 1,
-            Ground::NotNeighbour => 2,
-            Ground::AsSet => 3,
-        }
+// Why a route is Invalid before any hop is looked at, under its number.
+#[derive(Clone, Copy, PartialEq, Eq)]
+pub enum Ground {
+    Empty = 1,
+    NotNeighbour = 2,
+    AsSet = 3,
+}
+
+impl From<Ground> for u32 {
+    ghost from_gives = { λ ground n. n ≡ ground_number ground };
+
+    fn from(ground: Ground) -> u32 {
+        ground as u32
     }
 }
 
 // The register that counts for a customer: the public one, or the operator's own overrides.
-#[derive(Clone, Copy)]
+#[derive(Clone, Copy, PartialEq, Eq)]
 pub enum Origin {
-    Public,
-    Overrides,
+    Public = 1,
+    Overrides = 2,
 }
 
-impl Origin {
-    pub fn number(self) -> u32
-        ensures { result ≡ origin_number self }
-    {
-        match self {
-            Origin::Public => 1,
-            Origin::Overrides => 2,
-        }
+impl From<Origin> for u32 {
+    ghost from_gives = { λ origin n. n ≡ origin_number origin };
+
+    fn from(origin: Origin) -> u32 {
+        origin as u32
     }
 }
 
 // What the hop check says of two neighbours on a path, by which register; a Provider+ also by which source, the lowest that lists the provider.
-#[derive(Clone, Copy)]
+#[derive(Clone, Copy, PartialEq, Eq)]
 pub enum Hop {
     NoAttestation,
     ProviderPlus(Origin, u32),
@@ -153,7 +121,7 @@ pub enum Hop {
 }
 
 // The registers by which the hops of an Invalid are Not Provider+: upstream it names one hop, downstream two.
-#[derive(Clone, Copy)]
+#[derive(Clone, Copy, PartialEq, Eq)]
 pub enum Origins {
     One(Origin),
     Two(Origin, Origin),
@@ -164,8 +132,8 @@ impl Origins {
         ensures { result ≡ first_origin self }
     {
         match self {
-            Origins::One(a) => a.number(),
-            Origins::Two(a, _) => a.number(),
+            Origins::One(a) => u32::from(a),
+            Origins::Two(a, _) => u32::from(a),
         }
     }
 
@@ -175,19 +143,19 @@ impl Origins {
     {
         match self {
             Origins::One(_) => 0,
-            Origins::Two(_, b) => b.number(),
+            Origins::Two(_, b) => u32::from(b),
         }
     }
 }
 
 // Why a route is Invalid: its ground, or the two places of the hops that are Not Provider+ (upstream the second is 0), with their registers.
-#[derive(Clone, Copy)]
+#[derive(Clone, Copy, PartialEq, Eq)]
 pub enum Cause {
     ByGround(Ground),
     ByHops(u32, u32, Origins),
 }
 
-#[derive(Clone, Copy)]
+#[derive(Clone, Copy, PartialEq, Eq)]
 pub enum Verdict {
     Valid,
     Invalid(Cause),
@@ -212,7 +180,7 @@ impl Verdict {
         match self {
             Verdict::Valid => 0,
             Verdict::Invalid(c) => match c {
-                Cause::ByGround(g) => g.number(),
+                Cause::ByGround(g) => u32::from(g),
                 Cause::ByHops(_, _, _) => 0,
             },
             Verdict::Unknown(_, _) => 0,
@@ -274,7 +242,7 @@ impl Verdict {
 }
 
 // What a judging answers. A downstream verdict without a ground comes with the gap between the ramps, L - K.
-#[derive(Clone, Copy)]
+#[derive(Clone, Copy, PartialEq, Eq)]
 pub enum Answer {
     Plain(Verdict),
     WithGap(Verdict, i32),
@@ -291,39 +259,26 @@ impl Answer {
     }
 }
 
-// What is wrong with a segment of an AS_PATH attribute.
-#[derive(Clone, Copy)]
+// What is wrong with a segment of an AS_PATH attribute, under the number of its refusal.
+#[derive(Clone, Copy, PartialEq, Eq)]
 pub enum Fault {
-    CutShort,
-    UnknownType,
-    Confederation,
-    NoNumbers,
-    ZeroNumber,
+    CutShort = 12,
+    UnknownType = 13,
+    Confederation = 14,
+    NoNumbers = 15,
+    ZeroNumber = 16,
 }
 
-impl Fault {
-    pub fn number(self) -> u32
-        ensures { result ≡ fault_number self }
-    {
-        match self {
-            Fault::CutShort => 12,
-            Fault::UnknownType => 13,
-            Fault::Confederation => 14,
-            Fault::NoNumbers => 15,
-            Fault::ZeroNumber => 16,
-        }
+impl From<Fault> for u32 {
+    ghost from_gives = { λ fault n. n ≡ fault_number fault };
+
+    fn from(fault: Fault) -> u32 {
+        fault as u32
     }
 }
 
-// Where the attribute's fault begins, if a refusal is for one.
-#[derive(Clone, Copy)]
-pub enum Place {
-    Nowhere,
-    Byte(usize),
-}
-
 // Why a call is refused. A fault of the attribute comes with its place, the byte where it begins.
-#[derive(Clone, Copy)]
+#[derive(Clone, Copy, PartialEq, Eq)]
 pub enum Refusal {
     TableLength,
     RegisterMalformed,
@@ -363,7 +318,7 @@ impl Refusal {
             Refusal::RoleNumber => 9,
             Refusal::NeighbourZero => 10,
             Refusal::AttributeLength => 11,
-            Refusal::Attribute(f, _) => f.number(),
+            Refusal::Attribute(f, _) => u32::from(f),
             Refusal::PathLength => 17,
             Refusal::RouteTaken => 18,
             Refusal::NoRoute => 19,
@@ -375,87 +330,20 @@ impl Refusal {
         }
     }
 
-    pub fn place(self) -> Place
+    // The byte where the fault of an attribute begins; no other refusal has a place.
+    pub fn place(self) -> Option<usize>
         ensures { result ≡ refusal_place self }
     {
         match self {
-            Refusal::TableLength => Place::Nowhere,
-            Refusal::RegisterMalformed => Place::Nowhere,
-            Refusal::RoutesMalformed => Place::Nowhere,
-            Refusal::SourceNumber => Place::Nowhere,
-            Refusal::CustomerZero => Place::Nowhere,
-            Refusal::ProviderList => Place::Nowhere,
-            Refusal::NoRecord => Place::Nowhere,
-            Refusal::RegisterFull => Place::Nowhere,
-            Refusal::RoleNumber => Place::Nowhere,
-            Refusal::NeighbourZero => Place::Nowhere,
-            Refusal::AttributeLength => Place::Nowhere,
-            Refusal::Attribute(_, p) => Place::Byte(p),
-            Refusal::PathLength => Place::Nowhere,
-            Refusal::RouteTaken => Place::Nowhere,
-            Refusal::NoRoute => Place::Nowhere,
-            Refusal::RoutesFull => Place::Nowhere,
-            Refusal::OutputLength => Place::Nowhere,
-            Refusal::Edition => Place::Nowhere,
-            Refusal::Contents => Place::Nowhere,
-            Refusal::SnapshotLength => Place::Nowhere,
+            Refusal::Attribute(_, place) => Some(place),
+            _ => None,
         }
     }
 }
 
-// What a judging ends in.
-#[derive(Clone, Copy)]
-pub enum Judged {
-    Answered(Answer),
-    Refused(Refusal),
-}
-
-// What a hop between two numbers is answered as.
-#[derive(Clone, Copy)]
-pub enum Hopped {
-    Answered(Hop),
-    Refused(Refusal),
-}
-
-// What File answers.
-#[derive(Clone, Copy)]
+// What File did.
+#[derive(Clone, Copy, PartialEq, Eq)]
 pub enum Filed {
     New,
     Replaced,
-    Refused(Refusal),
-}
-
-// What Withdraw and Drop answer.
-#[derive(Clone, Copy)]
-pub enum Removal {
-    Done,
-    Refused(Refusal),
-}
-
-// What Clear answers: how many records went.
-#[derive(Clone, Copy)]
-pub enum Cleared {
-    Gone(u32),
-    Refused(Refusal),
-}
-
-// What Re-judge answers: how many routes changed.
-#[derive(Clone, Copy)]
-pub enum Rejudged {
-    Changed(u32),
-    Refused(Refusal),
-}
-
-// What writing a snapshot answers: its length in bytes.
-#[derive(Clone, Copy)]
-pub enum Written {
-    Bytes(usize),
-    Refused(Refusal),
-}
-
-// What reading a snapshot answers.
-#[derive(Clone, Copy)]
-pub enum Restored {
-    Done,
-    Refused(Refusal),
 }

@@ -39,7 +39,7 @@ module _ {test : ℕ → Bool} {n u i : ℕ} (g : First test n u i) where
     first_met m e = g.same ∙ rw (lt-leb u n m) (passed e)
 
     -- What is found is kept.
-    first_kept : u ≤ n → First test n u (i + 1)
+    pub first_kept : u ≤ n → First test n u (i + 1)
     first_kept m = record { within = omega arith; most = g.most; same = g.same ∙ rw (le-leb u n m) }
 
     -- One that fails leaves all as it was.
@@ -47,7 +47,7 @@ module _ {test : ℕ → Bool} {n u i : ℕ} (g : First test n u i) where
     first_missed e = record { within = omega arith; most = g.most; same = rw (← failed e) g.same }
 
     -- The first that passes is noted.
-    first_found : n < u → test (i + 1) ≡ true → First test n (i + 1) (i + 1)
+    pub first_found : n < u → test (i + 1) ≡ true → First test n (i + 1) (i + 1)
     first_found m e =
         record { within = omega arith; most = omega arith; same = first_met m e ∙ rw (le-leb (i + 1) n (omega arith)) }
 

@@ -1,10 +1,8 @@
-use Prim.Native.Nat.{◌-◌}
-use lib.ListN.{length}
-use Rattle.answers.proofs.Listing.{Listing}
+use Rattle.std.proofs.Common.{◌+◌, ◌*◌, ◌≤◌, take}
+use Rattle.text.specs.Wrote.{Wrote}
+use Rattle.answers.specs.Texts.{each_text}
 use Rattle.answers.proofs.put_each.Given as goal
 
-abbrev pub invariant-loop-i : goal.invariant-loop-i
-invariant-loop-i l = Listing l.words l.initial.out l.at l.out l.next l.i
-
-abbrev pub decreases-loop-i : goal.decreases-loop-i
-decreases-loop-i l = length l.words - l.i
+abbrev pub invariant-loop-word : goal.invariant-loop-word
+invariant-loop-word l =
+    Wrote l.initial.text l.text (each_text (take l.word-index l.words)) × (l.text.end ≤ l.initial.text.end + 11 * l.word-index)

@@ -7,8 +7,8 @@ use Rattle.register.proofs.Looking.{finds}
 use Rattle.finding.proofs.search.Goals as goal
 
 pub search-requires : goal.search-requires
-search-requires c = searchable record_head record_tail _ (sound _ c.requires.0) (omega arith)
+search-requires c = searchable record_head record_tail _ (sound _ c.args.register.well_formed) (omega arith)
 
 pub returns : goal.returns
 returns c =
-    finds c.args.reg.now c.requires.0 c.args.customer.0 c.args.source c.args.from c.requires.1 c.search.ensures
+    finds c.args.register.words.now c.args.register.well_formed c.args.customer.0 c.args.source c.args.from c.requires c.search.ensures

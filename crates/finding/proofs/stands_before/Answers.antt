@@ -1,14 +1,15 @@
--- `finding::stands_before` meets its contract. Assumes nothing.
-use mathlib.Core.Path.{◌∙◌}
-use native.Mathlib.Omega.{arith}
+-- `stands_before` meets its contract.
+use Rattle.std.proofs.Common.{◌≡◌, sym, ◌∙◌}
 use Rattle.keyed.specs.Keyed.{before_pair}
-use Rattle.register.proofs.Looking.{slot_in, key_is}
+use Rattle.register.specs.Register.{records_of, record_at, key_of}
+use Rattle.register.proofs.Holding.{ordered}
+use Rattle.register.proofs.Looking.{begins}
+use Rattle.halves.proofs.Positions.{over}
 use Rattle.finding.proofs.stands_before.Goals as goal
 
-pub key_at-requires : goal.key_at-requires
-key_at-requires c = omega (arith, slot_in _ c.requires.0 _ c.requires.1)
-
-pub returns : goal.returns
-returns c =
-    let k = c.key_at.ensures ∙ key_is c.args.reg.now c.requires.0 c.args.i c.requires.1 in
-    c.is_before.ensures ∙ (λ q. before_pair (k q) (c.args.customer.0, c.args.source))
+pub returns-clause-within : goal.returns-clause-within
+returns-clause-within c =
+    let r = c.args.register in
+    let b = begins (records_of r.words.now) (ordered _ r.well_formed) c.args.customer.0 c.args.source in
+    let e : c.is_before.result ≡ before_pair (key_of (record_at (records_of r.words.now) c.args.i)) (c.args.customer.0, c.args.source) = cc in
+    (λ t. over b _ c.requires (sym e ∙ t), λ h. e ∙ b.below _ h)

@@ -1,67 +1,44 @@
--- `hops::hops_from` meets its contract. Assumes nothing.
-use mathlib.Core.Path.{◌≡◌, refl, ◌∙◌}
-use mathlib.Core.Bool.{false}
-use lib.ListN.{drop}
-use Rattle.rules.specs.Records.{attested}
+-- `hops_from` meets its contract.
+use Rattle.std.proofs.Common.{◌≡◌, ◌<◌, false, length, drop, sym, ap, ◌∙◌, arith}
+use Rattle.std.specs.Option.{option_or}
+use Rattle.rules.specs.Records.{attested, is_in}
 use Rattle.register.specs.Register.{records_of}
-use native.Mathlib.Omega.{arith}
-use Rattle.register.proofs.Looking.{head_within}
-use Rattle.hops.proofs.Hopping.{starts, listens, names_none, slot_of, list_in, passes, hears, names, none_left, others_left, arrives}
+use Rattle.register.proofs.Holding.{ordered, records-ok, each_ok}
+use Rattle.register.proofs.Uniting.{past_all}
+use Rattle.hops.proofs.Hopping.{starts, names_none, passes, names, others_left, arrives}
 use Rattle.hops.proofs.hops_from.Goals as goal
-use Rattle.hops.proofs.hops_from.Goals.{then-n-i, else-n-i+then-reg-slot}
-
-pub word-n-requires : goal.word-n-requires
-word-n-requires c = omega (arith, head_within c.args.reg.now c.requires.0)
+use Rattle.hops.proofs.hops_from.Goals.{else-loop-i-test, then-loop-i-test+then-customer_at-x}
 
 pub loop-i-init : goal.loop-i-init
 loop-i-init c =
-    let r = c.args.reg.now in
-    let l = listens r c.args.x.0 c.args.position c.requires.0 c.requires.1 in
-    let m = names_none r c.args.x.0 c.args.position c.requires.0 c.requires.1 in (
-      starts r c.args.x.0 c.args.position c.requires.0 c.requires.1 _ c.word-n.ensures.0,
-      l c.args.y.0,
-      m c.args.y.0 0,
-      l c.args.z.0,
-      m c.args.z.0 0,
-    )
-
-pub bounds-reg-slot : goal.bounds-reg-slot
-bounds-reg-slot c = omega (arith, slot_of c.loop-i.invariant.0 c.if-n-i.false)
-
-pub bounds-reg-slot-in-loop-i : goal.bounds-reg-slot-in-loop-i
-bounds-reg-slot-in-loop-i c = omega (arith, slot_of c.loop-i.invariant.0 c.if-n-i.false)
-
-pub word-requires : goal.word-requires
-word-requires c = omega (arith, slot_of c.loop-i.invariant.0 c.if-n-i.false)
-
-pub word-requires-in-loop-i : goal.word-requires-in-loop-i
-word-requires-in-loop-i c = omega (arith, slot_of c.loop-i.invariant.0 c.if-n-i.false)
-
-pub slice_bounds-scan-end : goal.slice_bounds-scan-end
-slice_bounds-scan-end c =
-    omega (arith, list_in c.loop-i.invariant.0 c.if-n-i.false c.word.ensures.0 c.word-in-loop-i.ensures.0)
+    let a = ordered c.args.register.words.now c.args.register.well_formed in
+    (starts _ a c.args.x.0 c.requires, names_none _ a c.args.x.0 c.requires c.args.y.0, names_none _ a c.args.x.0 c.requires c.args.z.0)
 
 pub loop-i-preserved : goal.loop-i-preserved
 loop-i-preserved c =
-    let e = c.if-reg-slot.false in
-    let b = c.loop-i.invariant in
-    let h = c.if-n-i.false in
-    let u = c.word.ensures.0 in
-    let v = c.word-in-loop-i.ensures.0 in
-    let s = c.scan-listed.ensures in (
-      passes b.0 h e,
-      hears b.0 h u v e b.1 s.0,
-      names b.0 h u v e refl b.2 s.0 c.first_source-source_y.ensures,
-      hears b.0 h u v e b.3 s.1,
-      names b.0 h u v e refl b.4 s.1 c.first_source-source_z.ensures,
+    let w = c.args.register.well_formed in
+    let a = ordered c.args.register.words.now w in
+    let k = each_ok _ (records-ok c.args.register.words.now w) in
+    let h = c.loop-i.invariant in
+    let i : c.loop-i.i < length (records_of c.args.register.words.now) = omega arith in
+    let e = sym c.customer_at.ensures ∙ c.if-customer_at-x.false in
+    let s = c.source_at-source.ensures in
+    let y = c.scan-listed.ensures.0 ∙ ap (is_in c.args.y.0) c.list_at.ensures in
+    let z = c.scan-listed.ensures.1 ∙ ap (is_in c.args.z.0) c.list_at.ensures in (
+      passes a k i e h.0,
+      names a k i e _ _ h.1 y s (c.or-first_y.ensures ∙ ap (option_or c.loop-i.first_y) c.then_some.ensures),
+      names a k i e _ _ h.2 z s (c.or-first_z.ensures ∙ ap (option_or c.loop-i.first_z) c.then_some-in-loop-i.ensures),
     )
 
 pub returns : goal.returns
 returns c =
-    let b = c.loop-i.invariant in
-    let e : attested (drop c.loop-i.i (records_of c.args.reg.now)) c.args.x.0 ≡ false =
-    elim c.if-n-i.branch [
-      | then-n-i w ↦ none_left b.0 w.if-n-i.true
-      | else-n-i+then-reg-slot w ↦ others_left b.0 w.if-n-i.false w.if-reg-slot.true
+    let h = c.loop-i.invariant in
+    let rs = records_of c.args.register.words.now in
+    let a = ordered _ c.args.register.well_formed in
+    let e : attested (drop c.loop-i.i (records_of c.args.register.words.now)) c.args.x.0 ≡ false =
+    elim c.loop-i-test.branch [
+      | else-loop-i-test w ↦ past_all _ rs _ (omega arith)
+      | then-loop-i-test+then-customer_at-x w ↦ others_left rs a c.args.x.0 c.requires c.loop-i.i (omega arith)
+          (omega (arith, c.count-i-end.ensures.exact, w.loop-i-test.true)) (λ q. w.if-customer_at-x.true (w.customer_at.ensures ∙ q))
     ] in
-    (c.hop_by.ensures ∙ arrives b.0 _ e b.1 b.2, c.hop_by-2.ensures ∙ arrives b.0 _ e b.3 b.4)
+    (arrives _ _ e _ h.0 h.1 c.hop_by.ensures, arrives _ _ e _ h.0 h.2 c.hop_by-2.ensures)

@@ -1,12 +1,23 @@
 -- `lines::find` meets its contract. Assumes nothing.
-use Rattle.lines.proofs.Marks.{looks_on, found, none_found}
+use Rattle.std.proofs.Common.{rules}
+use Rattle.std.proofs.lemmas.Iterator.{YieldsList-from_slice}
+use Rattle.std.proofs.lemmas.Iterator.Search.{position_from_yields_List}
+use Rattle.std.proofs.lemmas.Option.{MatchOption-at_some, MatchOption-at_none}
+use borrow.Author.Tests.{tests}
+use lib.Dec.{eqb}
+use Rattle.lines.proofs.Marks.{finds}
 use Rattle.lines.proofs.find.Goals as goal
 
-pub returns-then-bytes-i : goal.returns-then-bytes-i
-returns-then-bytes-i c = found c.loop-i.invariant c.loop-i-test.true c.if-bytes-i.true
+pub returns-in-Some : goal.returns-in-Some
+returns-in-Some c =
+    let e =
+    position_from_yields_List (λ b. eqb b c.args.mark) _ _ _ c.position.ensures.ran (YieldsList-from_slice _ c.iter.ensures.rest)
+    (λ x b q k. search (rules, tests)) in
+    MatchOption-at_some _ _ c.in-Some.k c.in-Some.is (finds c.args.bytes.now c.args.from c.args.mark c.requires e)
 
-pub loop-i-preserved : goal.loop-i-preserved
-loop-i-preserved c = looks_on c.loop-i.invariant c.loop-i-test.true c.if-bytes-i.false
-
-pub returns : goal.returns
-returns c = none_found c.loop-i.invariant c.loop-i-test.false
+pub returns-in-None : goal.returns-in-None
+returns-in-None c =
+    let e =
+    position_from_yields_List (λ b. eqb b c.args.mark) _ _ _ c.position.ensures.ran (YieldsList-from_slice _ c.iter.ensures.rest)
+    (λ x b q k. search (rules, tests)) in
+    MatchOption-at_none _ _ c.in-None.is (finds c.args.bytes.now c.args.from c.args.mark c.requires e)

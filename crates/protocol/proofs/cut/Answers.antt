@@ -1,7 +1,9 @@
--- `protocol::tables::cut` meets its contract. Assumes nothing.
-use Rattle.protocol.proofs.Holding.{cuts}
-use mathlib.Core.Path.{◌∙◌}
+-- `protocol::cut` meets its contract.
+use Rattle.std.proofs.Common.{arith}
+use Rattle.std.proofs.lemmas.Grind.{common_steps}
+use Rattle.table.specs.Table.{pad}
 use Rattle.protocol.proofs.cut.Goals as goal
 
 pub returns : goal.returns
-returns c = c.zero.ensures ∙ cuts _ _ c.requires
+unfolding pad
+returns c = grind (arith, common_steps)

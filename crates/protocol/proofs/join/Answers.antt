@@ -1,4 +1,5 @@
 -- `protocol::join` meets its contract. Assumes nothing.
+use Rattle.std.proofs.Common.{rules}
 use Rattle.protocol.proofs.Joining.{joins_none, joins_too_long, joins}
 use Rattle.protocol.proofs.join.Goals as goal
 
@@ -16,8 +17,5 @@ returns-then-line-n-2 c =
 pub returns : goal.returns
 returns c =
     let a = c.args in
-    let pre = c.requires in
-    let if1 = c.if-line-n in
-    let if2 = c.if-line-n-2 in
     let put = c.put in
-    joins a.n a.line.now a.part.now (pre) if1.false if2.false put.ensures.0 put.ensures.1
+    joins a.n a.line.now a.part.now c.requires c.if-line-n.false c.if-line-n-2.false put.ensures.end (search (rules, put.ensures.written))

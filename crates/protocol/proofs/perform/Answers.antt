@@ -9,36 +9,21 @@ use Rattle.protocol.proofs.perform.Goals as goal
 
 pub returns-then-is_word : goal.returns-then-is_word
 returns-then-is_word c =
-    let a = c.args in
-    let is_word = c.is_word in
-    let if1 = c.if-is_word in
-    let resize = c.resize in (
-      rw (is_resize (words_of a.line.now) (sym is_word.ensures ∙ if1.true)) resize.ensures.0,
-      resize.ensures.1,
-    )
+    let e = is_resize (words_of c.args.line.bytes.now) (sym c.is_word.ensures ∙ c.if-is_word.true) in
+    rw c.carried_out.ensures (rw e c.resize.ensures.0, c.resize.ensures.1)
 
 pub returns-then-is_word-2 : goal.returns-then-is_word-2
 returns-then-is_word-2 c =
-    let a = c.args in
-    let is_word = c.is_word in
-    let if1 = c.if-is_word in
-    let is-word2 = c.is_word-2 in
-    let if2 = c.if-is_word-2 in
-    let empty = c.empty in (
-      rw (is_empty (words_of a.line.now) (sym is_word.ensures ∙ if1.false) (sym is-word2.ensures ∙ if2.true)) empty.ensures.0,
-      empty.ensures.1,
-    )
+    let e = is_empty (words_of c.args.line.bytes.now) (sym c.is_word.ensures ∙ c.if-is_word.false) (sym c.is_word-2.ensures ∙ c.if-is_word-2.true) in
+    rw c.carried_out-then-is_word-2.ensures (rw e c.empty.ensures.0, c.empty.ensures.1)
 
 pub returns : goal.returns
 returns c =
     let a = c.args in
-    let pre = c.requires in
-    let is_word = c.is_word in
-    let if1 = c.if-is_word in
-    let is-word2 = c.is_word-2 in
-    let if2 = c.if-is_word-2 in
-    performs a.s _ _ _ _ _ _ _ (take a.s.register a.reg.now) (take a.s.overrides a.overrides.now) (take a.s.ledger a.led.now) _
-    (lends_changed _ _ _ pre.1.register_held (c.run-reply.auto.reg ∙ sym (lent_length pre.1.register_held)))
-    (lends_changed _ _ _ pre.1.overrides_held (c.run-reply.auto.overrides ∙ sym (lent_length pre.1.overrides_held)))
-    (lends_changed _ _ _ pre.1.ledger_held (c.run-reply.auto.led ∙ sym (lent_length pre.1.ledger_held)))
-    (is_lent (words_of a.line.now) (sym is_word.ensures ∙ if1.false) (sym is-word2.ensures ∙ if2.false)) c.run-reply.ensures
+    let held = c.requires.1 in
+    performs a.lent _ _ _ _ _ _ _ (take a.lent.register a.reg.now) (take a.lent.overrides a.overrides.now) (take a.lent.ledger a.led.now) _
+    (lends_changed _ _ _ held.register_held (c.run-reply.auto.register ∙ sym (lent_length held.register_held)))
+    (lends_changed _ _ _ held.overrides_held (c.run-reply.auto.overrides ∙ sym (lent_length held.overrides_held)))
+    (lends_changed _ _ _ held.ledger_held (c.run-reply.auto.ledger ∙ sym (lent_length held.ledger_held)))
+    (is_lent (words_of a.line.bytes.now) (sym c.is_word.ensures ∙ c.if-is_word.false) (sym c.is_word-2.ensures ∙ c.if-is_word-2.false))
+    c.run-reply.ensures

@@ -1,29 +1,16 @@
 -- `routes::role` meets its contract. Assumes nothing.
-use mathlib.Core.Path.{sym, ◌∙◌}
-use native.Mathlib.Omega.{arith}
-use Rattle.routes.proofs.Accessing.{no_role, its_role}
-use Rattle.routes.proofs.Stamping.{slot_in}
+use Rattle.std.proofs.Common.{◌≡◌, sym, ◌∙◌, ap, refl}
+use Rattle.std.specs.Prelude.{Ok}
+use Rattle.types.specs.Numbers.{role_number}
+use Rattle.routes.proofs.Accessing.{its_role}
 use Rattle.routes.proofs.role.Goals as goal
 
-pub overflow_mul-i : goal.overflow_mul-i
-overflow_mul-i c = omega (arith, slot_in c.requires)
-
-pub overflow_add-i : goal.overflow_add-i
-overflow_add-i c = omega (arith, slot_in c.requires)
-
-pub overflow_add-i-2 : goal.overflow_add-i-2
-overflow_add-i-2 c = omega (arith, slot_in c.requires)
-
-pub offset_bounds-led-i : goal.offset_bounds-led-i
-offset_bounds-led-i c = omega (arith, slot_in c.requires)
-
-pub bounds-led-i : goal.bounds-led-i
-bounds-led-i c = omega (arith, slot_in c.requires)
-
-pub returns-in_default : goal.returns-in_default
-returns-in_default c =
-    no_role c.requires (sym c.from_number.ensures ∙ c.in_default.is)
+pub unwrap-requires : goal.unwrap-requires
+unwrap-requires c = rw (rw c.slot.ensures at c.try_from.ensures, (its_role c.requires).1) refl
 
 pub returns : goal.returns
 returns c =
-    its_role c.requires (sym c.from_number.ensures ∙ c.in-Is.is)
+    let p = its_role c.requires in
+    let e : Ok c.unwrap.result ≡ Ok p.0 = sym c.unwrap.ensures ∙ (rw c.slot.ensures at c.try_from.ensures) ∙ p.1 in
+    let same : c.unwrap.result ≡ p.0 = cc in
+    ap role_number same ∙ p.2

@@ -1,10 +1,8 @@
-use Prim.Native.Nat.{◌-◌}
-use lib.ListN.{length}
-use Rattle.snapshot.proofs.Copying.{Packing}
+use Prim.Native.Nat.{◌*◌}
+use mathlib.Core.Path.{◌≡◌}
+use lib.ListN.{take}
+use Rattle.snapshot.specs.Snapshot.{word_bytes, bytes_of}
 use Rattle.snapshot.proofs.pack.Given as goal
 
 abbrev pub invariant-loop-i : goal.invariant-loop-i
-invariant-loop-i l = Packing l.words l.initial.into l.into l.at l.p l.i
-
-abbrev pub decreases-loop-i : goal.decreases-loop-i
-decreases-loop-i l = length l.words - l.i
+invariant-loop-i l = take (word_bytes * l.i) l.into ≡ bytes_of (take l.i l.words)

@@ -5,4 +5,4 @@ use Rattle.storing.proofs.find.Goals as goal
 
 pub returns : goal.returns
 returns c =
-    (c.search-found.ensures.0, omega (arith, c.search-found.ensures.0, (begins c.args.led.now c.requires c.args.number.0).within))
+    (c.search.ensures.0, omega (arith, c.search.ensures.0, (begins c.args.led.now c.requires c.args.number.0).within))

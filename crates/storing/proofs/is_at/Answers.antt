@@ -1,4 +1,6 @@
 -- `storing::is_at` meets its contract. Assumes nothing.
+use borrow.Author.Tests.{le-ltb}
+use mathlib.Core.Path.{◌∙◌}
 use native.Mathlib.Omega.{arith}
 use Rattle.ledger.proofs.Looking.{head_within, past, there_in, there}
 use Rattle.storing.proofs.is_at.Goals as goal
@@ -14,6 +16,7 @@ pub returns-then-position-word : goal.returns-then-position-word
 returns-then-position-word c =
     there c.args.led.now c.requires.0 c.args.number.0 c.requires.1 c.word.ensures.0 c.if-position-word.true
 
-pub returns : goal.returns
-returns c =
-    past c.args.led.now c.requires.0 c.args.number.0 c.requires.1 c.word.ensures.0 c.if-position-word.false
+pub returns-else-position-word : goal.returns-else-position-word
+returns-else-position-word c =
+    le-ltb c.args.position _ c.if-position-word.false
+    ∙ past c.args.led.now c.requires.0 c.args.number.0 c.requires.1 c.word.ensures.0 c.if-position-word.false

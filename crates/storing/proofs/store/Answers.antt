@@ -20,18 +20,18 @@ returns-then-word-path c = sym (full_paths _ _ c.requires.1
     (sym c.is_at.ensures ∙ c.if-is_at.false) c.word-2.ensures.0 c.if-word-path.true)
 
 pub insert-requires : goal.insert-requires
-insert-requires c = let r = route_for c.args.number.0 (role_number c.args.role) c.args.neighbour.0 c.args.verdict c.args.path.now in
+insert-requires c = let r = route_for c.args.number.0 (role_number c.args.neighbour.role) c.args.neighbour.number.0 c.args.verdict c.args.path.now in
     store_fits
     (storable _ r _ c.requires.0 c.requires.1 (sym c.is_at.ensures ∙ c.if-is_at.false) c.find-position.ensures.0
     c.word.ensures.0 c.if-word-ge-MOST_ROUTES.false c.word-2.ensures.0 c.if-word-path.false)
-    (entry_is r c.number.ensures c.ground.ensures
-    c.number-2.ensures c.place_a.ensures c.place_b.ensures)
+    (entry_is r c.from.ensures c.ground.ensures
+    c.number.ensures c.place_a.ensures c.place_b.ensures)
 
 pub returns : goal.returns
-returns c = let r = route_for c.args.number.0 (role_number c.args.role) c.args.neighbour.0 c.args.verdict c.args.path.now in
+returns c = let r = route_for c.args.number.0 (role_number c.args.neighbour.role) c.args.neighbour.number.0 c.args.verdict c.args.path.now in
     store_done
     (storable _ r _ c.requires.0 c.requires.1 (sym c.is_at.ensures ∙ c.if-is_at.false) c.find-position.ensures.0
     c.word.ensures.0 c.if-word-ge-MOST_ROUTES.false c.word-2.ensures.0 c.if-word-path.false)
-    (entry_is r c.number.ensures c.ground.ensures
-    c.number-2.ensures c.place_a.ensures c.place_b.ensures)
+    (entry_is r c.from.ensures c.ground.ensures
+    c.number.ensures c.place_a.ensures c.place_b.ensures)
     c.insert.ensures

@@ -1,35 +1,34 @@
--- `table::restart` meets its contract. The invariant: what is left to do makes of the slice what was to be made of it at the start.
--- Assumes nothing.
-use mathlib.Core.Path.{sym, ◌∙◌}
-use Prim.Native.Nat.{◌+◌, ◌≤◌}
-use native.Mathlib.Omega.{arith}
-use lib.ListN.{length, length-set}
+-- `table::restart` meets its contract.
+use Rattle.std.proofs.Common.{◌≡◌, ◌+◌, ◌-◌, ◌*◌, ◌<◌, ◌≤◌, ℕ, length, sym, ◌∙◌, arith}
 use Rattle.table.specs.Table.{width}
-use Rattle.table.proofs.Laws.{peel, restart_step, counts_step, restart_done}
+use Rattle.table.proofs.Laws.{restart_step, counts_step, restart_done}
+use Rattle.table.proofs.Sounds.{less_mul}
 use Rattle.table.proofs.restart.Goals as goal
 
 pub overflow_add-next : goal.overflow_add-next
 overflow_add-next c =
-    let l = c.loop-left in
+    let l = c.loop-i in
     let a = c.args in
-    omega (arith, counts_step l.s a.h a.t l.p l.left l.next c.loop-left-test.true)
+    let some : 0 < a.m - l.i = omega arith in
+    rw c.width.ensures (omega (arith, counts_step l.s a.layout.head a.layout.tail (a.at + l.i * width a.layout.head a.layout.tail) (a.m - l.i) l.next some))
 
-pub loop-left-preserved : goal.loop-left-preserved
-loop-left-preserved c =
-    let room : c.loop-left.p + width c.args.h c.args.t ≤ length c.loop-left.s = let a = c.args in
-    omega (arith, peel c.loop-left.left (width a.h a.t) c.loop-left-test.true) in
-    let l = c.loop-left in
+pub loop-i-preserved : goal.loop-i-preserved
+loop-i-preserved c =
+    let l = c.loop-i in
     let a = c.args in
-    let r = room in
-    let k = counts_step l.s a.h a.t l.p l.left l.next c.loop-left-test.true in
-    let e = peel l.left (width a.h a.t) c.loop-left-test.true in (
-      simp length-set l.invariant.0,
-      simp length-set (omega arith),
-      omega arith,
-      restart_step l.s a.h a.t l.p l.left l.next c.loop-left-test.true r ∙ l.invariant.3,
-    )
+    let w : ℕ = width a.layout.head a.layout.tail in
+    let slot : ℕ = a.at + l.i * w in
+    let some : 0 < a.m - l.i = omega arith in
+    let turn : a.at + (l.i + 1) * w ≡ slot + w = omega arith in
+    let fewer : a.m - (l.i + 1) ≡ a.m - l.i - 1 = omega arith in
+    let room : slot + w ≤ length l.s = omega (arith, less_mul l.i a.m w c.loop-i-test.true) in
+    record {
+      counted = rw (c.width.ensures, turn, fewer) (omega (arith, counts_step l.s a.layout.head a.layout.tail slot (a.m - l.i) l.next some));
+      same = rw (c.width.ensures, turn, fewer) (restart_step l.s a.layout.head a.layout.tail slot (a.m - l.i) l.next some room ∙ l.invariant.same);
+    }
 
 pub returns : goal.returns
 returns c =
-    let l = c.loop-left in
-    sym (restart_done _ _ _ l.p l.left l.next c.loop-left-test.false) ∙ l.invariant.3
+    let l = c.loop-i in
+    let none : c.args.m - l.i ≤ 0 = omega arith in
+    sym (restart_done _ _ _ _ _ l.next none) ∙ l.invariant.same

@@ -1,16 +1,14 @@
-use mathlib.Core.Path.{◌≡◌}
-use mathlib.Core.List.{◌++◌}
-use Prim.Native.Nat.{◌+◌, ◌*◌, ◌≤◌, ◌<◌, ◌^◌}
-use lib.ListN.{length, take, drop}
+use Rattle.std.proofs.Common.{◌≡◌, ◌++◌, ◌+◌, ◌-◌, ◌*◌, ◌<◌, ◌^◌, take, drop}
 use Rattle.table.specs.Table.{width}
 use Rattle.table.specs.Helpers.{restarted, counts}
 use Rattle.table.proofs.restart.Given as goal
 
-abbrev pub invariant-loop-left : goal.invariant-loop-left
-invariant-loop-left l = (length l.s ≡ length l.initial.s)
-    × (l.p + l.left * width l.h l.t ≤ length l.s)
-    × (l.next + counts l.h l.t l.left (drop l.p l.s) < 2 ^ 32)
-    × (take l.p l.s ++ restarted l.h l.t l.left l.next (drop l.p l.s) ≡ take l.at l.initial.s ++ restarted l.h l.t l.m l.o (drop l.at l.initial.s))
-
-abbrev pub decreases-loop-left : goal.decreases-loop-left
-decreases-loop-left l = l.left
+-- What is left to do makes of the slice what was to be made of it at the start.
+abbrev pub invariant-loop-i : goal.invariant-loop-i
+invariant-loop-i l =
+    let slot = l.at + l.i * width l.layout.head l.layout.tail in
+    let anew = restarted l.layout.head l.layout.tail in
+    record {
+      counted : l.next + counts l.layout.head l.layout.tail (l.m - l.i) (drop slot l.s) < 2 ^ 32;
+      same : take slot l.s ++ anew (l.m - l.i) l.next (drop slot l.s) ≡ take l.at l.initial.s ++ anew l.m l.o (drop l.at l.initial.s);
+    }

@@ -1,11 +1,16 @@
-use mathlib.Core.Path.{◌≡◌}
-use Prim.Native.Nat.{◌+◌, ◌*◌, ◌≤◌}
-use lib.ListN.{length, drop}
+use Rattle.std.proofs.Common.{◌≡◌, ◌≤◌, ◌/◌, length}
+use Rattle.std.specs.Slice.Iter.{chunks_exact_rest, chunks_exact_size}
 use Rattle.table.specs.Table.{width, slots_ok}
 use Rattle.table.proofs.slots_ok.Given as goal
 
-abbrev pub invariant-loop-left : goal.invariant-loop-left
-invariant-loop-left l = (l.next ≤ l.b) × (l.p + l.left * width l.h l.t ≤ length l.s) × (slots_ok l.h l.t l.left l.next l.b (drop l.p l.s) ≡ slots_ok l.h l.t l.m 0 l.b (drop l.at l.s))
-
-abbrev pub decreases-loop-left : goal.decreases-loop-left
-decreases-loop-left l = l.left
+-- The check of the slots that are left gives the result.
+abbrev pub invariant-loop-slot : goal.invariant-loop-slot
+invariant-loop-slot l =
+    let rest = chunks_exact_rest l.slot-iterator in
+    let w = width l.layout.head l.layout.tail in
+    let ok = slots_ok l.layout.head l.layout.tail in
+    record {
+      wide : chunks_exact_size l.slot-iterator ≡ w;
+      within : l.next ≤ l.b;
+      same : ok (length rest / w) l.next l.b rest ≡ ok (length l.slots / w) 0 l.b l.slots;
+    }

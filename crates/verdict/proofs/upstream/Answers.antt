@@ -1,19 +1,28 @@
 -- `verdict::upstream` meets its contract. Assumes nothing.
-use mathlib.Core.Path.{sym, ◌∙◌, ap}
-use native.Mathlib.Omega.{arith}
-use Rattle.rules.specs.Verdicts.{upstream}
-use Rattle.register.proofs.Looking.{head_within}
-use Rattle.registers.specs.Registers.{lent}
-use Rattle.registers.proofs.Choosing.{public_ok, overrides_ok, hops_alone}
+use mathlib.Core.Path.{ap}
+use Rattle.rules.specs.Hops.{is_not_plus, is_unattested}
+use Rattle.verdict.proofs.Rising.{rises, rises_refused, rises_on, rises_noted, risen_unknown, risen_valid}
 use Rattle.verdict.proofs.upstream.Goals as goal
+use Rattle.verdict.proofs.upstream.Goals.{in-ProviderPlus, in-NoAttestation}
 
-pub word-requires : goal.word-requires
-word-requires c =
-    omega (arith, head_within c.args.overrides.now (overrides_ok (lent c.args.public.now c.args.overrides.now) c.requires.0))
+pub loop-i-init : goal.loop-i-init
+loop-i-init g c = rises _ _ c.requires.0
 
-pub upstream_alone-requires : goal.upstream_alone-requires
-upstream_alone-requires c = (public_ok (lent c.args.public.now c.args.overrides.now) c.requires.0, c.requires.1, c.requires.2)
+pub returns-in-NotProviderPlus : goal.returns-in-NotProviderPlus
+returns-in-NotProviderPlus g c = rises_refused c.loop-i.invariant c.loop-i-test.true c.hop.ensures c.in-NotProviderPlus.is
 
-pub returns-then-word-eq0 : goal.returns-then-word-eq0
-returns-then-word-eq0 c =
-    c.upstream_alone.ensures ∙ ap (λ hop. upstream hop c.args.path.now) (sym (hops_alone (lent c.args.public.now c.args.overrides.now) c.requires.0 c.word.ensures.0 c.if-word-eq0.true))
+pub loop-i-preserved : goal.loop-i-preserved
+loop-i-preserved g c =
+    let i = c.loop-i.invariant in
+    let h = c.loop-i-test.true in
+    elim c.match-hop.branch [
+      | in-ProviderPlus w ↦
+          rw w.unattested-is (rises_on i h c.hop.ensures (ap is_not_plus w.in-ProviderPlus.is) (ap is_unattested w.in-ProviderPlus.is))
+      | in-NoAttestation w ↦ rw (w.unattested-is, w.or-unattested.ensures) (rises_noted i h c.hop.ensures w.in-NoAttestation.is)
+    ]
+
+pub returns-in-Some : goal.returns-in-Some
+returns-in-Some g c = risen_unknown c.loop-i.invariant c.loop-i-test.false c.in-Some.is
+
+pub returns-in-None : goal.returns-in-None
+returns-in-None g c = risen_valid c.loop-i.invariant c.loop-i-test.false c.in-None.is
