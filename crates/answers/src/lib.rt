@@ -197,6 +197,7 @@ fn put_file(text: &mut Text, n: usize, output: &[u8])
     text.put_hex(&output[..n.min(output.len())]);
 }
 
+// No `Put`: it takes the output too.
 pub fn put_written(text: &mut Text, written: Result<usize, Refusal>, output: &[u8])
     requires { Room text.old (answer_room + 2 * length output.now) }
     ensures wrote { Wrote text.old text.new (written_text output.now written) }

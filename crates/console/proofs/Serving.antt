@@ -6,28 +6,30 @@ use native.Mathlib.Omega.{arith}
 use borrow.Author.Tests.{ne_eqb}
 use lib.ListN.{length, take, drop, length-drop, drop_of_length-le, replicate}
 use lib.Seq.{take_all, drop-drop}
-use Rattle.calls.specs.Commands.{most_line}
 use Rattle.register.specs.Register.{register_words}
 use Rattle.ledger.specs.Routes.{ledger_words}
-use Rattle.protocol.specs.declared.State.{State}
-use Rattle.protocol.specs.declared.Lent.{Lent}
 use Rattle.calls.specs.Commands.{most_lent}
-use Rattle.protocol.specs.Feeding.{Session, fed, fed_bytes, HeldAll, lent_tables, line_in, most_text, Ready}
+use Rattle.protocol.specs.declared.Console.{Console}
+use Rattle.protocol.specs.Feeding.{Session, fed, fed_bytes, HeldAll, SameBuffers}
 use Rattle.protocol.specs.Sessions.{fed_all}
 use Rattle.protocol.proofs.Feedings.{some_used}
 use Rattle.protocol.proofs.Holding.{lends_zeros}
 
--- The tables are held as they were, and there is room for an answer.
-pub ready :
-    (r : State) {lent : Lent} (line reg overrides led out : List ℕ) → length line ≡ most_line → HeldAll lent reg overrides led → r.lent ≡ lent → r.out + most_text ≤ length out
-    → Ready r line reg overrides led out
-ready r line reg overrides led out l h e room = record { line_size = l; held = rw e h; room = room }
+-- The buffers stay.
+pub same_still : (c : Console) → SameBuffers c c
+same_still c = record { tables = record { register = refl; overrides = refl; ledger = refl }; line = refl; out = refl }
 
--- The session is the same where what is lent and the line are.
-pub same_session :
-    {l k : Lent} {m n : ℕ} (line reg overrides led : List ℕ) → l ≡ k → m ≡ n
-    → ◌≡◌ {A = Session} (record { tables = lent_tables l reg overrides led; line = line_in m line }) (record { tables = lent_tables k reg overrides led; line = line_in n line })
-same_session line reg overrides led e f = λ i. record { tables = lent_tables (e i) reg overrides led; line = line_in (f i) line }
+pub same_then : {a b c : Console} → SameBuffers a b → SameBuffers b c → SameBuffers a c
+same_then p q =
+    record {
+      tables = record {
+        register = q.tables.register ∙ p.tables.register;
+        overrides = q.tables.overrides ∙ p.tables.overrides;
+        ledger = q.tables.ledger ∙ p.tables.ledger;
+      };
+      line = q.line ∙ p.line;
+      out = q.out ∙ p.out;
+    }
 
 -- ---- a piece, from index from on
 
@@ -86,15 +88,12 @@ module _ {piece : List ℕ} {first now : Session} {from : ℕ} (g : Taking piece
 
 -- All three tables empty, of their full lengths.
 pub starts :
-    (line reg overrides led out : List ℕ) → length line ≡ most_line → reg ≡ replicate most_lent 0 → overrides ≡ replicate most_lent 0 → led ≡ replicate most_lent 0 → most_text ≤ length out
-    → Ready (record { lent = record { register = register_words; overrides = register_words; ledger = ledger_words }; line = 0; out = 0 }) line reg overrides led out
-starts line reg overrides led out l e o f room =
+    {reg overrides led : List ℕ}
+    → reg ≡ replicate most_lent 0 → overrides ≡ replicate most_lent 0 → led ≡ replicate most_lent 0
+    → HeldAll (record { register = register_words; overrides = register_words; ledger = ledger_words }) reg overrides led
+starts {reg = reg} {overrides = overrides} {led = led} e o f =
     record {
-      line_size = l;
-      held = record {
-        register_held = (lends_zeros register_words reg (omega arith) e).held;
-        overrides_held = (lends_zeros register_words overrides (omega arith) o).held;
-        ledger_held = (lends_zeros ledger_words led (omega arith) f).held;
-      };
-      room = omega arith;
+      register_held = (lends_zeros register_words reg (omega arith) e).held;
+      overrides_held = (lends_zeros register_words overrides (omega arith) o).held;
+      ledger_held = (lends_zeros ledger_words led (omega arith) f).held;
     }

@@ -1,4 +1,5 @@
-// The calls of the filter. Each takes any tables and any arguments, and tests its rows in their order.
+// The calls of the filter. Each takes any tables and any arguments, and tests its rows in their order. The tables are lent one by one, as the C
+// interface has them.
 #![tactic(auto)]
 
 ghost use Rattle.std.specs.Prelude.{◌≡◌, true, length, Some, None, MatchResult};

@@ -22,7 +22,7 @@ pub struct Range {
     pub steps: usize,
 }
 
-// Key a stands before key b.
+// Key a stands before key b: `<`, promised in the words of the rules.
 pub fn is_before(a: Key, b: Key) -> bool
     ensures { result ≡ before_pair (key_of a) (key_of b) }
 {

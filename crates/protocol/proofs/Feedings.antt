@@ -2,36 +2,33 @@
 use Prim.Native.Nat.{ℕ, ◌+◌, ◌≤◌, ◌<◌}
 use mathlib.Core.Path.{◌≡◌, refl, sym, ap, ◌∙◌}
 use mathlib.Core.Bool.{Bool, true, false, cond}
-use mathlib.Core.List.{List, [], ◌++◌}
+use mathlib.Core.List.{List, []}
 use native.Mathlib.Omega.{arith}
 use borrow.Author.Tests.{lt-ltb, le-ltb, ne_eqb, ltb-true, ltb-false}
 use lib.Dec.{ltb}
 use lib.ListN.{length, take}
 use lib.Seq.{length-take-le}
-use Rattle.text.specs.Ascii.{ascii}
 use Rattle.lines.specs.Words.{before}
 use Rattle.lines.proofs.Marks.{before_taken}
 use Rattle.text.specs.declared.Text.{Text}
 use Rattle.text.specs.Wrote.{Wrote}
-use Rattle.text.proofs.Wrote.{wrote_then}
 use Rattle.history.specs.Calls.{Tables}
 use Rattle.calls.specs.declared.Reply.{Reply}
 use Rattle.calls.specs.Commands.{Command, most_line}
-use Rattle.calls.specs.Performing.{Result, after, performed}
-use Rattle.replies.specs.Texts.{reply_text, most_reply}
-use Rattle.protocol.specs.Feeding.{answer_line, joined, command_in, Session, grown, fed, fed_text, fed_bytes, is_blank, finished, last_text, line_in, most_text}
+use Rattle.calls.specs.Performing.{Result, after, reply_to, performed}
+use Rattle.replies.specs.Texts.{reply_text}
+use Rattle.protocol.specs.Feeding.{answer_line, joined, command_in, Session, grown, fed, fed_text, fed_bytes, is_blank, finished, last_text, line_in}
 use Rattle.protocol.proofs.Joining.{line_is, line_too_long}
 use Rattle.std.specs.Prelude.{Option, Some}
 
--- A reply and a newline.
-pub answers :
-    (t : Tables) (c : Command) (t' : Tables) (reply : Reply) {first then last : Text}
+-- The text of a command's reply.
+pub replied :
+    (t : Tables) (c : Command) (t' : Tables) (reply : Reply) {first last : Text}
     → record { reply = reply; tables = t' } ≡ performed t c
-    → Wrote first then (reply_text t' reply) → then.end ≤ first.end + most_reply → Wrote then last (ascii "\n")
-    → Wrote first last (answer_line t c) × (last.end ≤ first.end + most_text)
-answers t c t' reply {first = first} {last = last} p w h n =
-    let text : reply_text t' reply ++ (ascii "\n") ≡ answer_line t c = ap (λ (x : Result). reply_text x.tables x.reply ++ (ascii "\n")) p in
-    (rw text at (wrote_then w n), omega (arith, h, n.end))
+    → Wrote first last (reply_text t' reply) → Wrote first last (reply_text (after t c) (reply_to t c))
+replied t c t' reply p w =
+    let text : reply_text t' reply ≡ reply_text (after t c) (reply_to t c) = ap (λ (x : Result). reply_text x.tables x.reply) p in
+    rw text at w
 
 -- ---- the bytes up to a newline
 

@@ -3,16 +3,17 @@ use Rattle.std.specs.Prelude.{ℕ, ◌+◌, ◌≤◌, ◌≡◌, Bool, false, c
 use Rattle.std.proofs.lemmas.List.Edits.{sets}
 use Rattle.table.specs.Table.{pad}
 use Rattle.text.specs.Ascii.{ascii}
+use Rattle.text.specs.declared.Text.{Text}
+use Rattle.text.specs.Wrote.{Room, Wrote}
 use Rattle.lines.specs.Words.{before, words_of}
 use Rattle.history.specs.Calls.{Tables}
 use Rattle.protocol.specs.declared.Lent.{Lent}
-use Rattle.protocol.specs.declared.State.{State}
-use Rattle.protocol.specs.declared.Fed.{Fed}
-use Rattle.protocol.specs.declared.Performed.{Performed}
-use Rattle.calls.specs.declared.Reply.TheVariants.{Done, Error}
+use Rattle.protocol.specs.declared.Lending.{Lending}
+use Rattle.protocol.specs.declared.Console.{Console}
+use Rattle.calls.specs.declared.Reply.{Reply}
 use Rattle.calls.specs.Commands.{Command, bad, most_lent, most_line}
 use Rattle.commands.specs.Commands.{command_of}
-use Rattle.calls.specs.Performing.{tables_of, reply_to, after, result_of, performed}
+use Rattle.calls.specs.Performing.{tables_of, reply_to, after, performed}
 use Rattle.replies.specs.Texts.{reply_text, most_reply}
 
 -- ---- one line
@@ -81,15 +82,20 @@ pub record HeldAll (s : Lent) (reg overrides led : List ℕ) : Type 0 where
   pub overrides_held : Held s.overrides overrides
   pub ledger_held : Held s.ledger led
 
-abbrev pub lent_tables : Lent → List ℕ → List ℕ → List ℕ → Tables
-lent_tables s reg overrides led = tables_of (take s.register reg) (take s.overrides overrides) (take s.ledger led)
+-- The words of the tables that are lent.
+abbrev pub lent_in : Lending → Tables
+lent_in l =
+    tables_of (take l.lent.register l.tables.register.now) (take l.lent.overrides l.tables.overrides.now) (take l.lent.ledger l.tables.ledger.now)
+
+abbrev pub HeldIn : Lending → Type 0
+HeldIn l = HeldAll l.lent l.tables.register.now l.tables.overrides.now l.tables.ledger.now
 
 -- A line of n bytes, and of one more than the most where it is too long.
 unfoldable pub line_in : ℕ → List ℕ → Option (List ℕ)
 line_in n buffer = cond (ltb most_line n) None (Some (take n buffer))
 
-abbrev pub session_in : State → List ℕ → List ℕ → List ℕ → List ℕ → Session
-session_in s line reg overrides led = record { tables = lent_tables s.lent reg overrides led; line = line_in s.line line }
+abbrev pub session_in : Console → Session
+session_in c = record { tables = lent_in c.lending; line = line_in c.line.end c.line.buffer.now }
 
 -- What adding bytes to a line of n leaves in its buffer.
 unfoldable pub line_stored : ℕ → List ℕ → List ℕ → List ℕ
@@ -99,67 +105,76 @@ line_stored n buffer part = cond (ltb most_line (n + length part)) buffer (sets 
 abbrev pub most_text : ℕ
 most_text = most_reply + 1
 
-pub record Ready (s : State) (buffer reg overrides led output : List ℕ) : Type 0 where
-  pub line_size : length buffer ≡ most_line
-  pub held : HeldAll s.lent reg overrides led
-  pub room : s.out + most_text ≤ length output
+pub record Ready (c : Console) : Type 0 where
+  pub line_size : length c.line.buffer.now ≡ most_line
+  pub held : HeldIn c.lending
+  pub room : Room c.out most_text
 
 -- ---- what the functions on these buffers promise
 
-pub record Buffers : Type 0 where
-  pub line : List ℕ
-  pub register : List ℕ
-  pub overrides : List ℕ
-  pub ledger : List ℕ
-  pub output : List ℕ
-
-abbrev pub buffers : List ℕ → List ℕ → List ℕ → List ℕ → List ℕ → Buffers
-buffers line reg overrides led out = record { line = line; register = reg; overrides = overrides; ledger = led; output = out }
+-- They are the same tables.
+pub record SameTables (old new : Lending) : Type 0 where
+  pub register : new.tables.register.ghost_name ≡ old.tables.register.ghost_name
+  pub overrides : new.tables.overrides.ghost_name ≡ old.tables.overrides.ghost_name
+  pub ledger : new.tables.ledger.ghost_name ≡ old.tables.ledger.ghost_name
 
 -- A command carried out: the reply, and the words that the tables are then lent with.
-abbrev pub Carried : Lent → List ℕ → List ℕ → List ℕ → Command → Performed → List ℕ → List ℕ → List ℕ → Type 0
-Carried s reg overrides led c r reg' overrides' led' =
-    (result_of r.reply (take r.lent.register reg') (take r.lent.overrides overrides') (take r.lent.ledger led')
-    ≡ performed (lent_tables s reg overrides led) c)
-    × HeldAll r.lent reg' overrides' led'
+pub record Carries (old new : Lending) (reply : Reply) (command : Command) : Type 0 where
+  pub same : SameTables old new
+  pub result : record { reply = reply; tables = lent_in new } ≡ performed (lent_in old) command
+  pub held : HeldIn new
 
--- A command that does no more than lend the tables with other numbers of words. What lends none is no command.
-abbrev pub carried_out : Lent → Option Lent → Performed
-carried_out s (Some lent) = record { lent = lent; reply = Done }
-carried_out s None = record { lent = s; reply = Error }
+-- The same with the reply's text.
+pub record Answers (old new : Lending) (out out' : Text) (command : Command) : Type 0 where
+  pub same : SameTables old new
+  pub tables : lent_in new ≡ after (lent_in old) command
+  pub text : Wrote out out' (reply_text (after (lent_in old) command) (reply_to (lent_in old) command))
+  pub within : out'.end ≤ out.end + most_reply
+  pub held : HeldIn new
 
--- The command that ends a line of n bytes.
-abbrev pub command_ending : State → List ℕ → Command
-command_ending s line = command_in (line_in s.line line)
+-- Bytes added to a line, in its buffer.
+pub record Joins (old new : Text) (part : List ℕ) : Type 0 where
+  pub same : new.buffer.ghost_name ≡ old.buffer.ghost_name
+  pub line : line_in new.end new.buffer.now ≡ joined (line_in old.end old.buffer.now) part
+  pub stored : new.buffer.now ≡ line_stored old.end old.buffer.now part
+  pub size : length new.buffer.now ≡ length old.buffer.now
+
+-- They are the same buffers.
+pub record SameBuffers (old new : Console) : Type 0 where
+  pub tables : SameTables old.lending new.lending
+  pub line : new.line.buffer.ghost_name ≡ old.line.buffer.ghost_name
+  pub out : new.out.buffer.ghost_name ≡ old.out.buffer.ghost_name
+
+-- The command that a line ends.
+abbrev pub command_ending : Console → Command
+command_ending c = command_in (line_in c.line.end c.line.buffer.now)
 
 -- The line is answered behind what the output holds, and the next begins.
-abbrev pub EndsLine : State → Buffers → State → Buffers → Type 0
-EndsLine s b r e =
-    (lent_tables r.lent e.register e.overrides e.ledger ≡ after (lent_tables s.lent b.register b.overrides b.ledger) (command_ending s b.line))
-    × (r.line ≡ 0)
-    × (r.out ≡ s.out + length (answer_line (lent_tables s.lent b.register b.overrides b.ledger) (command_ending s b.line)))
-    × (e.output ≡ sets b.output s.out (answer_line (lent_tables s.lent b.register b.overrides b.ledger) (command_ending s b.line)))
-    × (r.out ≤ s.out + most_text)
-    × HeldAll r.lent e.register e.overrides e.ledger
-
-abbrev pub session_of : State → Buffers → Session
-session_of s b = session_in s b.line b.register b.overrides b.ledger
+pub record EndsLine (old new : Console) : Type 0 where
+  pub same : SameBuffers old new
+  pub stored : new.line.buffer.now ≡ old.line.buffer.now
+  pub tables : lent_in new.lending ≡ after (lent_in old.lending) (command_ending old)
+  pub ended : new.line.end ≡ 0
+  pub text : Wrote old.out new.out (answer_line (lent_in old.lending) (command_ending old))
+  pub within : new.out.end ≤ old.out.end + most_text
+  pub held : HeldIn new.lending
 
 -- A piece fed: the session after it, how many of its bytes are used, and the text behind what the output holds.
-abbrev pub Feeds : List ℕ → State → Buffers → Fed → Buffers → Type 0
-Feeds piece s b r e =
-    (session_of r.state e ≡ fed (session_of s b) piece)
-    × (r.used ≡ fed_bytes piece)
-    × (e.line ≡ line_stored s.line b.line (before 10 piece))
-    × (r.state.out ≡ s.out + length (fed_text (session_of s b) piece))
-    × (e.output ≡ sets b.output s.out (fed_text (session_of s b) piece))
-    × (r.state.out ≤ s.out + most_text)
-    × HeldAll r.state.lent e.register e.overrides e.ledger
+pub record Feeds (piece : List ℕ) (old new : Console) (n : ℕ) : Type 0 where
+  pub same : SameBuffers old new
+  pub session : session_in new ≡ fed (session_in old) piece
+  pub used : n ≡ fed_bytes piece
+  pub stored : new.line.buffer.now ≡ line_stored old.line.end old.line.buffer.now (before 10 piece)
+  pub size : length new.line.buffer.now ≡ length old.line.buffer.now
+  pub text : Wrote old.out new.out (fed_text (session_in old) piece)
+  pub within : new.out.end ≤ old.out.end + most_text
+  pub held : HeldIn new.lending
 
 -- The input's end: the session after it, and the text behind what the output holds.
-abbrev pub Finishes : State → Buffers → State → Buffers → Type 0
-Finishes s b r e =
-    (session_of r e ≡ finished (session_of s b))
-    × (r.out ≡ s.out + length (last_text (session_of s b)))
-    × (e.output ≡ sets b.output s.out (last_text (session_of s b)))
-    × (r.out ≤ s.out + most_text)
+pub record Finishes (old new : Console) : Type 0 where
+  pub same : SameBuffers old new
+  pub session : session_in new ≡ finished (session_in old)
+  pub stored : new.line.buffer.now ≡ old.line.buffer.now
+  pub text : Wrote old.out new.out (last_text (session_in old))
+  pub within : new.out.end ≤ old.out.end + most_text
+  pub held : HeldIn new.lending

@@ -1,5 +1,7 @@
 -- Lines and answers of the console, by computation.
-use Rattle.std.specs.Prelude.{ℕ, ◌≡◌, refl, [], ◌∷◌, map, pos, negsuc, Err, Ok}
+use Rattle.std.specs.Prelude.{ℕ, ◌≡◌, refl, List, [], ◌∷◌, map, pos, negsuc, None, Err, Ok}
+use Rattle.std.specs.Option.{option_map_or}
+use Rattle.std.proofs.Common.{ap}
 use Prim.Native.String.{String}
 use Rattle.text.specs.Ascii.{ascii}
 use Rattle.text.specs.Numbers.{value_from, all_digits, number_from, digits_before}
@@ -27,7 +29,7 @@ use Rattle.snapshot.specs.Snapshot.{snapshot_of, bytes_of}
 use Rattle.snapshot.specs.Calls.{write_effect, read_effect}
 use Rattle.history.specs.Calls.{Tables, blank, file, withdraw, clear, keep, drop, rejudge}
 use Rattle.calls.specs.declared.Named.TheVariants.{Register, Overrides, Ledger}
-use Rattle.calls.specs.Commands.{Command, call, judge, hop, lookup, read, write, show, words, poke, resize, empty, bad, named_by}
+use Rattle.calls.specs.Commands.{Command, call, judge, hop, lookup, read, write, show, words, poke, resize, empty, bad, most_lent, named_by, with_number, up_to, show_command, words_command, poke_command, resize_command}
 use Rattle.commands.specs.Commands.{lent_command, command_of}
 use Rattle.calls.specs.Performing.{after}
 use Rattle.protocol.specs.Feeding.{answer_line}
@@ -97,7 +99,22 @@ pub unknown : map command ("" ∷ "hello" ∷ "File" ∷ "words x" ∷ "poke x 0
 unfolding command_of lent_command named_by same_bytes split number_from all_digits value_from all_numbers numbers_in pairs pair_value hex_value all_bytes
 unknown = refl
 
--- Such a line answers `error`, and changes nothing.
+-- Whatever else stands in it, a command with a word that names no table is bad.
+pub unnamed :
+    (word : List ℕ)
+    → named_by word ≡ None
+    → (name index value to : List ℕ)
+    → show_command (word ∷ []) ∷ words_command (name ∷ word ∷ []) ∷ poke_command (name ∷ word ∷ index ∷ value ∷ []) ∷ resize_command (name ∷ word ∷ to ∷ []) ∷ []
+    ≡ bad ∷ bad ∷ bad ∷ bad ∷ []
+unnamed word none name index value to =
+    ap (λ n.
+    option_map_or show n bad
+    ∷ option_map_or words n bad
+    ∷ option_map_or (λ n. with_number (name ∷ word ∷ index ∷ value ∷ []) 2 (λ i. with_number (name ∷ word ∷ index ∷ value ∷ []) 3 (λ v. poke n i v))) n bad
+    ∷ option_map_or (λ n. with_number (name ∷ word ∷ to ∷ []) 2 (λ k. up_to most_lent k (resize n k))) n bad
+    ∷ []) none
+
+-- What is bad answers `error`, and changes nothing.
 pub no_table : (t : Tables) → answer_line t bad ≡ ascii "error\n"
 no_table t = refl
 

@@ -1,15 +1,16 @@
 // The console's protocol: a line in, a line out, over tables and buffers that the caller lends.
 #![tactic(auto)]
 
-ghost use Rattle.std.specs.Prelude.{◌≡◌, ◌+◌, ◌≤◌, length, take, Some};
+ghost use Rattle.std.specs.Prelude.{◌≡◌, ◌+◌, ◌≤◌, length, take};
 ghost use Rattle.table.specs.Table.{pad};
+ghost use Rattle.text.specs.Wrote.{Room, Wrote};
 ghost use Rattle.lines.specs.Words.{words_of};
 ghost use Rattle.calls.specs.Commands.{most_line, most_lent, resize, resize_command, empty_command};
+ghost use Rattle.calls.specs.Lent.{or_error};
 ghost use Rattle.calls.specs.Performing.{tables_of, result_of, performed};
-ghost use Rattle.replies.specs.Texts.{Small, reply_text, most_reply};
-ghost use Rattle.text.specs.Wrote.{Room, Wrote};
 ghost use Rattle.commands.specs.Commands.{lent_command, command_of};
-ghost use Rattle.protocol.specs.Feeding.{joined, command_in, line_in, line_stored, HeldAll, Ready, buffers, Carried, carried_out, EndsLine, Feeds, Finishes};
+ghost use Rattle.replies.specs.Texts.{Small, reply_text, most_reply};
+ghost use Rattle.protocol.specs.Feeding.{command_in, line_in, HeldIn, Carries, Answers, Joins, Ready, EndsLine, Feeds, Finishes};
 
 use calls::{Named, Reply, Tables};
 use lines::Line;
@@ -23,26 +24,26 @@ pub struct Lent {
     pub ledger: usize,
 }
 
-// A command's reply, and how many words each table is lent with after it.
-#[derive(Clone, Copy)]
-pub struct Performed {
+// The words of empty tables.
+pub const EMPTY: Lent = Lent {
+    register: register::WORDS,
+    overrides: register::WORDS,
+    ledger: ledger::WORDS,
+};
+
+// The tables, all their words, and how many of them each is lent with.
+#[derive(Drop)]
+pub struct Lending<'a> {
+    pub tables: Tables<'a>,
     pub lent: Lent,
-    pub reply: Reply,
 }
 
-// How many bytes stand in the line and in the output. One byte more than a line may have marks one that is too long.
-#[derive(Clone, Copy)]
-pub struct State {
-    pub lent: Lent,
-    pub line: usize,
-    pub out: usize,
-}
-
-// The state after a piece, and how many of its bytes were used.
-#[derive(Clone, Copy)]
-pub struct Fed {
-    pub state: State,
-    pub used: usize,
+// A session: what stands in its line ends one byte past the buffer where the line is too long.
+#[derive(Drop)]
+pub struct Console<'a> {
+    pub lending: Lending<'a>,
+    pub line: Text<'a>,
+    pub out: Text<'a>,
 }
 
 // The room that an answer takes at most, with its newline.
@@ -54,104 +55,6 @@ fn cut(table: &mut [u32], to: usize)
     ensures { table.new ≡ pad (length table.old) (take to table.old) }
 {
     table[to..].fill(0);
-}
-
-fn resize_named(
-    named: Named,
-    to: usize,
-    lent: Lent,
-    reg: &mut [u32],
-    overrides: &mut [u32],
-    led: &mut [u32],
-) -> Lent
-    requires { (to ≤ most_lent) × (HeldAll lent reg.old overrides.old led.old) }
-    ensures { Carried lent reg.old overrides.old led.old (resize named to)
-        (carried_out lent (Some result)) reg.new overrides.new led.new }
-{
-    match named {
-        Named::Register => {
-            cut(reg, to);
-            Lent {
-                register: to,
-                ..lent
-            }
-        }
-        Named::Overrides => {
-            cut(overrides, to);
-            Lent {
-                overrides: to,
-                ..lent
-            }
-        }
-        Named::Ledger => {
-            cut(led, to);
-            Lent { ledger: to, ..lent }
-        }
-    }
-}
-
-// How many words each table is lent with, if the line is a command.
-fn resize(
-    line: Line<'_>,
-    lent: Lent,
-    reg: &mut [u32],
-    overrides: &mut [u32],
-    led: &mut [u32],
-) -> Option<Lent>
-    requires { HeldAll lent reg.old overrides.old led.old }
-    ensures { Carried lent reg.old overrides.old led.old (resize_command (words_of line.entry.bytes.now))
-        (carried_out lent result) reg.new overrides.new led.new }
-{
-    if line.count != 3 {
-        return None;
-    }
-    let named = commands::choice::named(line, 1)?;
-    let to = line.number(2)? as usize;
-    if calls::MOST_LENT < to {
-        return None;
-    }
-    Some(resize_named(named, to, lent, reg, overrides, led))
-}
-
-// The same.
-fn empty(
-    line: Line<'_>,
-    lent: Lent,
-    reg: &mut [u32],
-    overrides: &mut [u32],
-    led: &mut [u32],
-) -> Option<Lent>
-    requires { HeldAll lent reg.old overrides.old led.old }
-    ensures { Carried lent reg.old overrides.old led.old (empty_command (words_of line.entry.bytes.now))
-        (carried_out lent result) reg.new overrides.new led.new }
-{
-    if line.count != 1 {
-        return None;
-    }
-    cut(reg, 0);
-    cut(overrides, 0);
-    cut(led, 0);
-    Some(Lent {
-        register: register::WORDS,
-        overrides: register::WORDS,
-        ledger: ledger::WORDS,
-    })
-}
-
-// What is no command leaves the tables as they are lent.
-fn carried_out(before: Lent, after: Option<Lent>) -> Performed
-    ensures { result ≡ carried_out before after }
-{
-    match after {
-        Some(lent) => Performed {
-            lent,
-            reply: Reply::Done,
-        },
-        None => Performed {
-            lent: before,
-            reply: Reply::Error,
-        },
-    }
 }
 
 // Every command that leaves the lengths as they are. (Tables of whole slices: of a part of a slice that a struct holds a proof would not know the end.)
@@ -166,52 +69,6 @@ fn run(line: Line<'_>, register: &mut [u32], overrides: &mut [u32], ledger: &mut
         ledger,
     };
     commands::choice::run(line, &mut tables)
-}
-
-// The command of a line.
-fn perform(
-    line: Line<'_>,
-    lent: Lent,
-    reg: &mut [u32],
-    overrides: &mut [u32],
-    led: &mut [u32],
-) -> Performed
-    requires { (length line.bytes.now ≤ most_line) × (HeldAll lent reg.old overrides.old led.old) }
-    ensures { Carried lent reg.old overrides.old led.old (command_of (words_of line.entry.bytes.now))
-        result reg.new overrides.new led.new }
-{
-    if line.is_word(0, b"resize") {
-        return carried_out(lent, resize(line, lent, reg, overrides, led));
-    }
-    if line.is_word(0, b"empty") {
-        return carried_out(lent, empty(line, lent, reg, overrides, led));
-    }
-    let reply = run(
-        line,
-        &mut reg[..lent.register],
-        &mut overrides[..lent.overrides],
-        &mut led[..lent.ledger],
-    );
-    Performed { lent, reply }
-}
-
-// The command of a line of n bytes of the buffer.
-fn perform_line(
-    n: usize,
-    line: &[u8],
-    lent: Lent,
-    reg: &mut [u32],
-    overrides: &mut [u32],
-    led: &mut [u32],
-) -> Performed
-    requires { (length line.now ≡ most_line) × (HeldAll lent reg.old overrides.old led.old) }
-    ensures { Carried lent reg.old overrides.old led.old (command_in (line_in n line.now))
-        result reg.new overrides.new led.new }
-{
-    if line.len() < n {
-        return carried_out(lent, None);
-    }
-    perform(Line::new(&line[..n]), lent, reg, overrides, led)
 }
 
 // A reply's text. (Tables of whole slices, as above.)
@@ -238,107 +95,163 @@ fn put(
     replies::put(text, reply, &tables);
 }
 
-// The line is answered, and the next begins.
-fn end_line(
-    state: State,
-    line: &[u8],
-    reg: &mut [u32],
-    overrides: &mut [u32],
-    led: &mut [u32],
-    out: &mut [u8],
-) -> State
-    requires { Ready state line.now reg.old overrides.old led.old out.old }
-    ensures { EndsLine state (buffers line.now reg.old overrides.old led.old out.old)
-        result (buffers line.now reg.new overrides.new led.new out.new) }
-{
-    let done = perform_line(state.line, line, state.lent, reg, overrides, led);
-    let lent = done.lent;
-    let mut text = Text {
-        buffer: out,
-        end: state.out,
-    };
-    put(
-        &mut text,
-        done.reply,
-        &mut reg[..lent.register],
-        &mut overrides[..lent.overrides],
-        &mut led[..lent.ledger],
-    );
-    text.put(b"\n");
-    State {
-        lent,
-        line: 0,
-        out: text.end,
+impl Lending<'_> {
+    fn resize_named(&mut self, named: Named, to: usize) -> Reply
+        requires { (to ≤ most_lent) × (HeldIn self.old) }
+        ensures { Carries self.old self.new result (resize named to) }
+    {
+        match named {
+            Named::Register => {
+                cut(self.tables.register, to);
+                self.lent.register = to;
+                Reply::Done
+            }
+            Named::Overrides => {
+                cut(self.tables.overrides, to);
+                self.lent.overrides = to;
+                Reply::Done
+            }
+            Named::Ledger => {
+                cut(self.tables.ledger, to);
+                self.lent.ledger = to;
+                Reply::Done
+            }
+        }
+    }
+
+    fn resize(&mut self, line: Line<'_>) -> Option<Reply>
+        requires { HeldIn self.old }
+        ensures { Carries self.old self.new (or_error result) (resize_command (words_of line.entry.bytes.now)) }
+    {
+        if line.count != 3 {
+            return None;
+        }
+        let named = commands::choice::named(line, 1)?;
+        let to = line.number(2)? as usize;
+        if calls::MOST_LENT < to {
+            return None;
+        }
+        Some(self.resize_named(named, to))
+    }
+
+    fn empty(&mut self, line: Line<'_>) -> Option<Reply>
+        requires { HeldIn self.old }
+        ensures { Carries self.old self.new (or_error result) (empty_command (words_of line.entry.bytes.now)) }
+    {
+        if line.count != 1 {
+            return None;
+        }
+        cut(self.tables.register, 0);
+        cut(self.tables.overrides, 0);
+        cut(self.tables.ledger, 0);
+        self.lent = EMPTY;
+        Some(Reply::Done)
+    }
+
+    // The command of a line.
+    fn perform(&mut self, line: Line<'_>) -> Reply
+        requires { (length line.bytes.now ≤ most_line) × (HeldIn self.old) }
+        ensures { Carries self.old self.new result (command_of (words_of line.entry.bytes.now)) }
+    {
+        if line.is_word(0, b"resize") {
+            self.resize(line).unwrap_or(Reply::Error)
+        } else if line.is_word(0, b"empty") {
+            self.empty(line).unwrap_or(Reply::Error)
+        } else {
+            let lent = self.lent;
+            let tables = &mut self.tables;
+            let register = &mut *tables.register;
+            let overrides = &mut *tables.overrides;
+            let ledger = &mut *tables.ledger;
+            run(
+                line,
+                &mut register[..lent.register],
+                &mut overrides[..lent.overrides],
+                &mut ledger[..lent.ledger],
+            )
+        }
+    }
+
+    // The same of a line that may be too long.
+    fn perform_line(&mut self, line: &Text<'_>) -> Reply
+        requires { (length line.now.buffer.now ≡ most_line) × (HeldIn self.old) }
+        ensures { Carries self.old self.new result (command_in (line_in line.now.end line.now.buffer.now)) }
+    {
+        if line.buffer.len() < line.end {
+            Reply::Error
+        } else {
+            self.perform(Line::new(&line.buffer[..line.end]))
+        }
+    }
+
+    // A line's command, and its answer.
+    fn answer(&mut self, line: &Text<'_>, out: &mut Text<'_>)
+        requires { (length line.now.buffer.now ≡ most_line) × (HeldIn self.old) × (Room out.old most_reply) }
+        ensures { Answers self.old self.new out.old out.new (command_in (line_in line.now.end line.now.buffer.now)) }
+    {
+        let reply = self.perform_line(line);
+        let lent = self.lent;
+        let tables = &mut self.tables;
+        let register = &mut *tables.register;
+        let overrides = &mut *tables.overrides;
+        let ledger = &mut *tables.ledger;
+        put(
+            out,
+            reply,
+            &mut register[..lent.register],
+            &mut overrides[..lent.overrides],
+            &mut ledger[..lent.ledger],
+        );
     }
 }
 
-// The bytes of part go behind the first n of a line, if they have room there.
-fn join(line: &mut [u8], n: usize, part: &[u8]) -> usize
-    requires { length line.old ≡ most_line }
-    ensures { (line_in result line.new ≡ joined (line_in n line.old) part.now)
-        × (line.new ≡ line_stored n line.old part.now) }
+// The bytes of part go behind a line, if they have room there.
+fn join(line: &mut Text<'_>, part: &[u8])
+    requires { length line.old.buffer.now ≡ most_line }
+    ensures { Joins line.old line.new part.now }
 {
-    if line.len() < n {
-        return n;
-    }
-    if line.len() - n < part.len() {
-        return line.len() + 1;
-    }
-    let mut text = Text {
-        buffer: line,
-        end: n,
-    };
-    text.put(part);
-    text.end
-}
-
-// The bytes of a piece up to its first newline: they end the line, which is answered. Where there is none, the line goes on.
-pub fn feed(
-    piece: &[u8],
-    state: State,
-    line: &mut [u8],
-    reg: &mut [u32],
-    overrides: &mut [u32],
-    led: &mut [u32],
-    out: &mut [u8],
-) -> Fed
-    requires { Ready state line.old reg.old overrides.old led.old out.old }
-    ensures { Feeds piece.now state (buffers line.old reg.old overrides.old led.old out.old)
-        result (buffers line.new reg.new overrides.new led.new out.new) }
-{
-    let to = lines::find(piece, 0, b'\n');
-    let n = state.line;
-    let grown = State {
-        line: join(line, n, &piece[..to]),
-        ..state
-    };
-    if to < piece.len() {
-        return Fed {
-            state: end_line(grown, line, reg, overrides, led, out),
-            used: to + 1,
-        };
-    }
-    Fed {
-        state: grown,
-        used: to,
+    let most = line.buffer.len();
+    if line.end <= most {
+        if most - line.end < part.len() {
+            line.end = most + 1;
+        } else {
+            line.put(part);
+        }
     }
 }
 
-// The end of the input: what stands in the line is answered.
-pub fn finish(
-    state: State,
-    line: &[u8],
-    reg: &mut [u32],
-    overrides: &mut [u32],
-    led: &mut [u32],
-    out: &mut [u8],
-) -> State
-    requires { Ready state line.now reg.old overrides.old led.old out.old }
-    ensures { Finishes state (buffers line.now reg.old overrides.old led.old out.old)
-        result (buffers line.now reg.new overrides.new led.new out.new) }
-{
-    if state.line == 0 {
-        return state;
+impl Console<'_> {
+    // The line is answered, and the next begins.
+    fn end_line(&mut self)
+        requires { Ready self.old }
+        ensures { EndsLine self.old self.new }
+    {
+        self.lending.answer(&self.line, &mut self.out);
+        self.out.put(b"\n");
+        self.line.end = 0;
     }
-    end_line(state, line, reg, overrides, led, out)
+
+    // The bytes of a piece up to its first newline: they end the line, which is answered. Where there is none, the line goes on. How many bytes were used.
+    pub fn feed(&mut self, piece: &[u8]) -> usize
+        requires { Ready self.old }
+        ensures { Feeds piece.now self.old self.new result }
+    {
+        let to = lines::find(piece, 0, b'\n');
+        join(&mut self.line, &piece[..to]);
+        if to < piece.len() {
+            self.end_line();
+            return to + 1;
+        }
+        to
+    }
+
+    // The end of the input: what stands in the line is answered.
+    pub fn finish(&mut self)
+        requires { Ready self.old }
+        ensures { Finishes self.old self.new }
+    {
+        if self.line.end != 0 {
+            self.end_line();
+        }
+    }
 }

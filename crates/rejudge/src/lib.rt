@@ -1,4 +1,5 @@
-// Every kept route without a ground judged anew, in place.
+// Every kept route without a ground judged anew, in place. The ledger stands under a clause and in no type of its own: it is read and stamped in
+// turn, so a type over its words would be made anew at each step.
 #![tactic(auto)]
 
 ghost use Rattle.std.specs.Prelude.{◌≡◌, true, length};

@@ -33,7 +33,7 @@ fn find(led: &[u32], number: RouteNumber) -> usize
     search(led, number).low
 }
 
-// Whether the route at a position that `find` answered is the one looked for.
+// Whether the route at a position that `find` answered is the one looked for. Its number decides, where `finding::is_at` compares a pair.
 fn is_at(led: &[u32], position: usize, number: RouteNumber) -> bool
     requires { (ledger_ok led.now ≡ true) × (position ≡ position_of number.0 (routes_of led.now)) }
     ensures { result ≡ holds_route number.0 (routes_of led.now) }

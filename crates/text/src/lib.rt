@@ -80,7 +80,7 @@ pub fn read_bytes(word: &[u8], into: &mut [u8]) -> Option<usize>
     }
 }
 
-// Whether two words are equal.
+// Whether two words are equal: `==`, promised byte for byte.
 pub fn same(word: &[u8], other: &[u8]) -> bool
     ensures { result ≡ same_bytes word.now other.now }
 {

@@ -23,7 +23,7 @@ pub const HOP_WORDS: usize = 3;
 // Of a look-up: the register, where the list starts there, how many numbers it has.
 pub const PART_WORDS: usize = 3;
 
-// What a refused call writes, which no answer has: in place of a verdict,
+// What a refused call writes for C, which no answer has: in place of a verdict,
 const NO_VERDICT: u32 = 3;
 
 // of a hop,

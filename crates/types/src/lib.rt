@@ -127,6 +127,7 @@ pub enum Origins {
     Two(Origin, Origin),
 }
 
+// Numbers and no Option: these are words that C is told.
 impl Origins {
     pub fn first(self) -> u32
         ensures { result ≡ first_origin self }
@@ -162,6 +163,7 @@ pub enum Verdict {
     Unknown(u32, u32),
 }
 
+// The words of a verdict, as C and a ledger have them: 0 stands where there is none.
 impl Verdict {
     pub fn number(self) -> u32
         ensures { result ≡ verdict_number self }
@@ -303,6 +305,7 @@ pub enum Refusal {
 }
 
 impl Refusal {
+    // A method and no From: the place of a fault is lost in it.
     pub fn number(self) -> u32
         ensures { result ≡ refusal_number self }
     {
