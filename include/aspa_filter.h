@@ -344,7 +344,7 @@ uint32_t aspa_write(const uint32_t *public_register, size_t public_len, const ui
  * What was written comes back word for word, and a file that is accepted is, byte for byte, the one that aspa_write
  * gives of the tables that it yields. Only a file's form is checked, and not where it comes from. Its verdicts may no
  * longer be true, or never have been: call aspa_rejudge before you go by them.
- * It takes some 98 KiB of stack, where the file's words are checked before any word of the tables changes.
+ * It takes some 101 KiB of stack, where the file's words are checked before any word of the tables changes.
  */
 ASPA_USE_RESULT
 uint32_t aspa_read(const uint8_t *file, size_t file_len, uint32_t *public_register, size_t public_len,

@@ -69,7 +69,7 @@ impl Tables {
         count(told, possible).map(|length| length as usize)
     }
 
-    /// Reads a snapshot into both tables. Their earlier words are not looked at, only their lengths. It takes some 98 KiB of stack.
+    /// Reads a snapshot into both tables. Their earlier words are not looked at, only their lengths. It takes some 101 KiB of stack.
     ///
     /// # Errors
     ///

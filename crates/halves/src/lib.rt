@@ -22,11 +22,11 @@ pub struct Range {
     pub steps: usize,
 }
 
-// Key a stands before key b: `<`, promised in the words of the rules.
+// Key a stands before key b. By its parts: with the derived `<` the check of two registers takes a fifth longer.
 pub fn is_before(a: Key, b: Key) -> bool
     ensures { result ≡ before_pair (key_of a) (key_of b) }
 {
-    a < b
+    a.first < b.first || (a.first == b.first && a.second < b.second)
 }
 
 // The key of the entry at a position of a table whose slots have so many words.

@@ -1,4 +1,4 @@
-// Runs of words moved within a lent slice.
+// Runs of words moved within a lent slice. They move in loops and not by `copy_within`, for which the archive would need a `memmove` from outside.
 #![tactic(auto)]
 
 ghost use Rattle.std.specs.Prelude.{◌≡◌, ◌+◌, ◌≤◌, length, take, drop};
@@ -9,7 +9,9 @@ pub fn open_room(s: &mut [u32], at: usize, k: usize, used: usize)
     requires { (at ≤ used) × (used + k ≤ length s.old) }
     ensures { s.new ≡ opened s.old at k used }
 {
-    s.copy_within(at..used, at + k);
+    for i in (at..used).rev() {
+        s[i + k] = s[i];
+    }
 }
 
 // Zeros from index at up to, and not including, index end.
@@ -25,7 +27,9 @@ pub fn close_room(s: &mut [u32], at: usize, k: usize, used: usize)
     requires { (at + k ≤ used) × (used ≤ length s.old) }
     ensures { s.new ≡ closed s.old at k used }
 {
-    s.copy_within(at + k..used, at);
+    for i in at..used - k {
+        s[i] = s[i + k];
+    }
     zero(s, used - k, used);
 }
 
@@ -51,5 +55,7 @@ pub fn copy_down(s: &mut [u32], to: usize, from: usize, k: usize)
     requires { (to ≤ from) × (from + k ≤ length s.old) }
     ensures { s.new ≡ pasted s.old to (take k (drop from s.old)) }
 {
-    s.copy_within(from..from + k, to);
+    for j in 0..k {
+        s[to + j] = s[from + j];
+    }
 }
