@@ -22,11 +22,17 @@ pub struct Range {
     pub steps: usize,
 }
 
-// Key a stands before key b. By its parts: with the derived `<` the check of two registers takes a fifth longer.
+// Key a stands before key b. By its parts and with a branch on the first: with the derived `<` the check of two registers takes a fifth longer.
 pub fn is_before(a: Key, b: Key) -> bool
     ensures { result ≡ before_pair (key_of a) (key_of b) }
 {
-    a.first < b.first || (a.first == b.first && a.second < b.second)
+    if a.first < b.first {
+        return true;
+    }
+    if a.first == b.first {
+        return a.second < b.second;
+    }
+    false
 }
 
 // The key of the entry at a position of a table whose slots have so many words.

@@ -1,67 +1,22 @@
--- One turn of each loop, and its end, and what is left after a run of words was moved or written, as laws of lists. Assumes nothing.
+-- What is left after a run of words was moved or written, as laws of lists. Assumes nothing.
 use mathlib.Core.Path.{◌≡◌, sym, ap, ◌∙◌}
 use mathlib.Core.List.{List, [], ◌∷◌, ◌++◌, append_assoc}
-use Prim.Native.Nat.{ℕ, suc, ◌+◌, ◌-◌, ◌≤◌, ◌<◌}
+use Prim.Native.Nat.{ℕ, ◌+◌, ◌-◌, ◌≤◌, ◌<◌}
 use native.Mathlib.Omega.{arith}
 use native.Mathlib.Nat.{suc-add, add-zero, zero-add}
 use native.Mathlib.Numerals.{add-one}
-use lib.ListN.{length, take, drop, set, get_or, length-set, length-append, length-take, length-drop, take-append-drop}
-use lib.Seq.{take-set-le, drop-set-lt, take-set-lt, drop-cons, take-suc, get_or-set_same, get_or-take, length-take-le, slice_empty, take-suc-set}
-use lib.Seq.{drop-drop, take_at, drop_at, drop-append-add, set_split, take-take, take-append-le, drop-append-le, set-append_left}
+use lib.ListN.{length, take, drop, set, length-set, length-append, length-drop, take-append-drop}
+use lib.Seq.{length-take-le}
+use lib.Seq.{drop-drop, take_at, drop_at, drop-append-add, set_split, take-take, take-append-le, set-append_left}
+use Rattle.std.specs.List.{copy_within}
+use Rattle.std.proofs.Common.{rules}
+use Rattle.std.proofs.lemmas.Slice.{between_is}
 use Rattle.runs.specs.Words.{opened, closed, zeroed, pasted, spliced}
 
--- A word that moves up by k, where those above it have: the rest is left to do.
-pub open_step : (s : List ℕ) (at j k : ℕ) → at ≤ j → j + k < length s → opened (set s (j + k) (get_or s j 0)) at k j ≡ opened s at k (suc j)
-unfolding opened
-open_step s at j k low room =
-    let v : ℕ = get_or s j 0 in
-    let in_set : j + k < length (set s (j + k) v) = simp length-set room in
-    let in_s : j < length s = omega arith in
-    let len : at ≤ length (take j s) = simp length-take (omega arith) in
-    let head : take (at + k) (set s (j + k) v) ≡ take (at + k) s = take-set-le (at + k) s (j + k) v (omega arith) in
-    let same : take j (set s (j + k) v) ≡ take j s = take-set-le j s (j + k) v (omega arith) in
-    let behind : drop (j + k) (set s (j + k) v) ≡ v ∷ drop (suc (j + k)) s =
-    drop-cons (set s (j + k) v) (j + k) 0 in_set
-    ∙ (λ p. get_or-set_same s (j + k) v 0 room p ∷ drop-set-lt (suc (j + k)) s (j + k) v (omega arith) p) in
-    let last : drop at (take (suc j) s) ≡ drop at (take j s) ++ (v ∷ []) =
-    ap (drop at) (take-suc s j 0 in_s) ∙ drop-append-le at (take j s) (v ∷ []) len in
-    (λ p. head p ++ (drop at (same p) ++ behind p))
-    ∙ ap (λ (l : List ℕ). take (at + k) s ++ l) (sym (append_assoc (drop at (take j s)) (v ∷ []) (drop (suc (j + k)) s)))
-    ∙ (λ p. take (at + k) s ++ (sym last p ++ drop (sym (suc-add j k) p) s))
-
--- Where no word is left to move up, nothing changes.
-pub open_done : (s : List ℕ) (at k : ℕ) → opened s at k at ≡ s
-unfolding opened
-open_done s at k = rw slice_empty (take-append-drop (at + k) s)
-
--- A word that moves down by k.
-pub close_step : (s : List ℕ) (i k used : ℕ) → i + k < used → used ≤ length s → closed (set s i (get_or s (i + k) 0)) (i + 1) k used ≡ closed s i k used
-unfolding closed
-close_step s i k used h u =
-    let v : ℕ = get_or s (i + k) 0 in
-    let i_in : i < length s = omega arith in
-    let i_used : i < used = omega arith in
-    let j_in : i + k < length (take used s) = simp length-take (omega arith) in
-    let same : get_or (take used s) (i + k) 0 ≡ v = get_or-take used s (i + k) 0 h in
-    let less : i < suc (i + k) = omega arith in
-    rw (
-      add-one,
-      suc-add,
-      take-suc-set s i v,
-      take-set-lt used s i v,
-      drop-set-lt (suc (i + k)) (take used s) i v,
-      drop-set-lt used s i v,
-      drop-cons (take used s) (i + k) 0,
-      same,
-      append_assoc,
-    )
-
--- Where no word is left to move down, the zeros are left to write.
-pub close_done : (s : List ℕ) (i k used : ℕ) → i + k ≡ used → zeroed s i used ≡ closed s i k used
-unfolding closed zeroed
-close_done s i k used e =
-    let z : used - i ≡ k = omega arith in
-    rw (e, z, slice_empty used s)
+-- A copy of all of src is src pasted.
+pub paste_done : (s src : List ℕ) (at j : ℕ) → j ≡ length src → lib.Seq.paste s at src j ≡ pasted s at src
+unfolding pasted
+paste_done s src at j e = rw (e, lib.Seq.take-length, append_assoc)
 
 -- A gap that is opened and then written over.
 pub splice_done : (s src : List ℕ) (at used : ℕ) → at + length src ≤ length s → pasted (opened s at (length src) used) at src ≡ spliced s at used src
@@ -111,16 +66,6 @@ pub store_paste : (s p : List ℕ) (at n a : ℕ) → at + length p ≡ n → n 
 store_paste s p at n a e room =
     let l : length (pasted s at p) ≡ length s = length_pasted s p at (omega arith) in
     store_one (pasted s at p) n a (omega arith) ∙ paste_paste s p (a ∷ []) at n e (omega arith)
-
--- A word that is copied down: the rest is left to do.
-pub copy_step : (s : List ℕ) (to from n to' from' : ℕ) → to ≤ from → from < length s → to + 1 ≡ to' → from + 1 ≡ from'
-    → pasted (set s to (get_or s from 0)) to' (take n (drop from' (set s to (get_or s from 0)))) ≡ pasted s to (take (suc n) (drop from s))
-copy_step s to from n to' from' low room et ef =
-    let v : ℕ = get_or s from 0 in
-    let back : drop from' (set s to v) ≡ drop (suc from) s = drop-set-lt from' s to v (omega arith) ∙ ap (λ (j : ℕ). drop j s) (sym ef ∙ add-one from) in
-    (λ i. pasted (store_one s to v (omega arith) i) to' (take n (back i)))
-    ∙ paste_paste s (v ∷ []) (take n (drop (suc from) s)) to to' et (omega arith)
-    ∙ ap (λ (l : List ℕ). pasted s to (take (suc n) l)) (sym (drop-cons s from 0 room))
 
 -- Where no word is left to write, nothing changes.
 pub paste_none : (s : List ℕ) (at : ℕ) → pasted s at [] ≡ s
@@ -176,3 +121,37 @@ set_pasted s p at j a inside room =
     ∙ set_append_add x (p ++ d) j a
     ∙ ap (λ (l : List ℕ). x ++ l) (set-append_left p d j a inside)
     ∙ ap (λ (m : ℕ). x ++ (set p j a ++ drop (at + m) s)) n
+
+-- The words i..j of a slice.
+inner : (s : List ℕ) (i j : ℕ) → take (j - i) (drop i s) ≡ drop i (take j s)
+inner s i j = search (rules, between_is)
+
+-- The words i..j, copied within the slice to index at.
+copied : (s : List ℕ) (i j at : ℕ) → i ≤ j → j ≤ length s → copy_within s i j at ≡ pasted s at (drop i (take j s))
+unfolding pasted
+copied s i j at low room =
+    let long : length (drop i (take j s)) ≡ j - i = omega (arith, length-drop i (take j s), length-take-le j s room) in
+    rw (long, inner s i j, append_assoc)
+
+-- The words that move up.
+pub opened_by_copy : (s : List ℕ) (at k used : ℕ) → at ≤ used → copy_within s at used (at + k) ≡ opened s at k used
+unfolding opened
+opened_by_copy s at k used low =
+    let end : at + k + (used - at) ≡ used + k = omega arith in
+    rw (end, inner s at used, append_assoc)
+
+-- The words that move down, and the zeros behind them.
+pub closed_by_copy : (s : List ℕ) (at k used : ℕ) → at + k ≤ used → used ≤ length s
+    → zeroed (copy_within s (at + k) used at) (used - k) used ≡ closed s at k used
+unfolding zeroed closed
+closed_by_copy s at k used low room =
+    let p : List ℕ = drop (at + k) (take used s) in
+    let long : length p ≡ used - (at + k) = omega (arith, length-drop (at + k) (take used s), length-take-le used s room) in
+    let zeros : used - (used - k) ≡ k = omega arith in
+    rw (
+      copied s (at + k) used at low room,
+      take_to_pasted s p at (used - k) (omega arith) (omega arith),
+      drop_pasted s p at used (omega arith) (omega arith),
+      zeros,
+      append_assoc,
+    )

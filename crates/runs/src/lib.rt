@@ -1,4 +1,4 @@
-// Runs of words moved within a lent slice. They move in loops and not by `copy_within`, for which the archive would need a `memmove` from outside.
+// Runs of words moved within a lent slice.
 #![tactic(auto)]
 
 ghost use Rattle.std.specs.Prelude.{◌≡◌, ◌+◌, ◌≤◌, length, take, drop};
@@ -9,9 +9,7 @@ pub fn open_room(s: &mut [u32], at: usize, k: usize, used: usize)
     requires { (at ≤ used) × (used + k ≤ length s.old) }
     ensures { s.new ≡ opened s.old at k used }
 {
-    for i in (at..used).rev() {
-        s[i + k] = s[i];
-    }
+    s.copy_within(at..used, at + k);
 }
 
 // Zeros from index at up to, and not including, index end.
@@ -27,18 +25,19 @@ pub fn close_room(s: &mut [u32], at: usize, k: usize, used: usize)
     requires { (at + k ≤ used) × (used ≤ length s.old) }
     ensures { s.new ≡ closed s.old at k used }
 {
-    for i in at..used - k {
-        s[i] = s[i + k];
-    }
+    s.copy_within(at + k..used, at);
     zero(s, used - k, used);
 }
 
-// All of src, from index at on.
+// All of src, from index at on. (A loop: `copy_from_slice` of a length that is not known becomes a call of `memmove`, which the archive for C would
+// need from outside.)
 pub fn paste(s: &mut [u32], at: usize, src: &[u32])
     requires { at + length src.now ≤ length s.old }
     ensures { s.new ≡ pasted s.old at src.now }
 {
-    s[at..at + src.len()].copy_from_slice(src);
+    for j in 0..src.len() {
+        s[at + j] = src[j];
+    }
 }
 
 // All of src goes in at index at; the words at..used move up to make room.
@@ -55,7 +54,5 @@ pub fn copy_down(s: &mut [u32], to: usize, from: usize, k: usize)
     requires { (to ≤ from) × (from + k ≤ length s.old) }
     ensures { s.new ≡ pasted s.old to (take k (drop from s.old)) }
 {
-    for j in 0..k {
-        s[to + j] = s[from + j];
-    }
+    s.copy_within(from..from + k, to);
 }
