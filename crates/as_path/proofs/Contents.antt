@@ -4,26 +4,47 @@ use mathlib.Core.Path.{◌≡◌, refl, ◌∙◌, ap}
 use mathlib.Core.Bool.{Bool, true, false}
 use mathlib.Core.List.{List}
 use native.Mathlib.Omega.{arith}
-use borrow.Author.Tests.{ltb-true, ltb-false}
+use borrow.Author.Tests.{lt-ltb, le-ltb, ltb-true, ltb-false}
 use lib.Dec.{ltb}
 use lib.ListN.{length}
 use Rattle.types.specs.declared.Ground.{Ground}
 use Rattle.types.specs.declared.Fault.{Fault}
+use Rattle.types.specs.declared.Refusal.TheVariants.{PathLength}
+use Rattle.as_path.specs.declared.Reading.TheVariants.{Path}
 use Rattle.types.specs.declared.Ground.TheVariants.{Empty}
 use Rattle.types.proofs.Clashes.{clash}
 use Rattle.as_path.specs.Segments.{number_bytes, segments}
 use Rattle.as_path.specs.Faults.{first_fault}
 use Rattle.as_path.specs.Grounds.{ground_of}
 use Rattle.as_path.specs.Merging.{merged_path}
-use Rattle.as_path.specs.Reading.{faulty, grounded, merged, after_ground, after_scan, content_of}
+use Rattle.as_path.specs.Reading.{most_numbers, faulty, grounded, merged, after_ground, after_scan, content_of, reading_of}
+use Rattle.as_path.specs.Helpers.{Stored}
 use Rattle.as_path.proofs.Grounding.{ground_empty}
-use Rattle.std.specs.Prelude.{Option, Some, None}
+use Rattle.std.specs.Prelude.{Option, Some, None, Ok, Err}
 
-pub content_merged :
-    (role neighbour : ℕ) (xs : List ℕ) → first_fault number_bytes xs ≡ None → ground_of role neighbour (segments number_bytes xs) ≡ None
-    → content_of role neighbour xs ≡ merged (merged_path (segments number_bytes xs))
-unfolding content_of
-content_merged role neighbour xs e e' = rw (e, e')
+module _ (role : ℕ) (neighbour : ℕ) (xs : List ℕ) where
+  pub content_faulty : {f : Fault} {p : ℕ} → first_fault number_bytes xs ≡ Some (f, p) → content_of role neighbour xs ≡ faulty f p
+  unfolding content_of
+  content_faulty e = rw e
+
+  module _ (e : first_fault number_bytes xs ≡ None) where
+    pub content_grounded : {g : Ground} → ground_of role neighbour (segments number_bytes xs) ≡ Some g → content_of role neighbour xs ≡ grounded g
+    unfolding content_of
+    content_grounded e' = rw (e, e')
+
+    pub content_merged : ground_of role neighbour (segments number_bytes xs) ≡ None → content_of role neighbour xs ≡ merged (merged_path (segments number_bytes xs))
+    unfolding content_of
+    content_merged e' = rw (e, e')
+
+-- How many numbers a merged path has decides row 17.
+module _ {before l after : List ℕ} {n : ℕ} (s : Stored before 0 l after n) where
+  pub too_long : most_numbers < n → Err PathLength ≡ reading_of (merged l)
+  too_long h = rw (lt-ltb most_numbers (length l) (omega (arith, s.index)))
+
+  pub short_enough : n ≤ most_numbers → Ok (Path n) ≡ reading_of (merged l)
+  short_enough h =
+      let e' : n ≡ length l = omega (arith, s.index) in
+      rw (e', le-ltb most_numbers (length l) (omega arith))
 
 -- What a merged path shows: no fault, at least a byte, and which path it is.
 pub record Merged (xs l : List ℕ) : Type 0 where

@@ -5,6 +5,7 @@ pub mod Meanings
 pub mod Runs
 pub mod MergedPaths
 pub mod Scanning
+pub mod Faulty
 pub mod Grounding
 pub mod Storing
 pub mod Contents

@@ -8,6 +8,7 @@ pub mod Answers
 pub mod Places
 pub mod Laws
 pub mod Looking
+pub mod Passing
 pub mod Lookups
 pub mod Gaps
 pub mod Overridden

@@ -1,8 +1,8 @@
 -- Each way through Hop and the look-up is its definition. Assumes nothing.
 use Prim.Native.Nat.{ℕ, ◌-◌, ◌≤◌, ◌<◌}
 use mathlib.Core.Path.{◌≡◌, refl, sym, ◌∙◌}
-use mathlib.Core.Bool.{true, false, true≢false}
-use mathlib.Core.List.{List, [], ◌∷◌}
+use mathlib.Core.Bool.{true, false}
+use mathlib.Core.List.{List, []}
 use native.Mathlib.Omega.{arith}
 use borrow.Author.Tests.{eq-eqb, ne_eqb, lt-ltb, le-ltb, not-false}
 use lib.ListN.{length, take, drop}
@@ -79,7 +79,7 @@ module _ (reg : Registers) (source customer : ℕ) where
 
   module _ (e : first_given (look_rows reg source customer) ≡ None) where
     -- None is given: both registers keep their rules,
-    formed : both_ok reg ≡ true
+    pub formed : both_ok reg ≡ true
     formed = not-false _ (row_passed _ _ (accepted_none (look_rows reg source customer) e 1))
 
     long : both_long reg ≡ true

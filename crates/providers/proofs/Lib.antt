@@ -1,3 +1,4 @@
+pub mod Lists
 pub mod Members
 pub mod Seeking
 pub mod Halving

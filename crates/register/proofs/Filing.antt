@@ -87,6 +87,40 @@ pub clear_early : (ws : List ℕ) (source : ℕ) (r : Refusal) → first_given (
 unfolding clear_effect
 clear_early ws source r e = rw e
 
+-- Row by row, each of the three calls.
+module _ (ws : List ℕ) (source customer : ℕ) (list : List ℕ) where
+  pub file_length : (length ws ≡ register_words → ⊥) → file_effect ws source customer list ≡ record { answer = Err TableLength; words = ws }
+  file_length a = sym (file_early ws source customer list TableLength (rows_length ws source a))
+
+  module _ (a : length ws ≡ register_words) where
+    pub file_malformed : register_ok ws ≡ false → file_effect ws source customer list ≡ record { answer = Err RegisterMalformed; words = ws }
+    file_malformed b = sym (file_early ws source customer list RegisterMalformed (rows_malformed ws source a b))
+
+    pub file_source : register_ok ws ≡ true → last_source < source → file_effect ws source customer list ≡ record { answer = Err SourceNumber; words = ws }
+    file_source b c = sym (file_early ws source customer list SourceNumber (rows_source ws source a b c))
+
+module _ (ws : List ℕ) (source customer : ℕ) where
+  pub withdraw_length : (length ws ≡ register_words → ⊥) → withdraw_effect ws source customer ≡ record { answer = Err TableLength; words = ws }
+  withdraw_length a = sym (withdraw_early ws source customer TableLength (rows_length ws source a))
+
+  module _ (a : length ws ≡ register_words) where
+    pub withdraw_malformed : register_ok ws ≡ false → withdraw_effect ws source customer ≡ record { answer = Err RegisterMalformed; words = ws }
+    withdraw_malformed b = sym (withdraw_early ws source customer RegisterMalformed (rows_malformed ws source a b))
+
+    pub withdraw_source : register_ok ws ≡ true → last_source < source → withdraw_effect ws source customer ≡ record { answer = Err SourceNumber; words = ws }
+    withdraw_source b c = sym (withdraw_early ws source customer SourceNumber (rows_source ws source a b c))
+
+module _ (ws : List ℕ) (source : ℕ) where
+  pub clear_length : (length ws ≡ register_words → ⊥) → clear_effect ws source ≡ record { answer = Err TableLength; words = ws }
+  clear_length a = sym (clear_early ws source TableLength (rows_length ws source a))
+
+  module _ (a : length ws ≡ register_words) where
+    pub clear_malformed : register_ok ws ≡ false → clear_effect ws source ≡ record { answer = Err RegisterMalformed; words = ws }
+    clear_malformed b = sym (clear_early ws source RegisterMalformed (rows_malformed ws source a b))
+
+    pub clear_source : register_ok ws ≡ true → last_source < source → clear_effect ws source ≡ record { answer = Err SourceNumber; words = ws }
+    clear_source b c = sym (clear_early ws source SourceNumber (rows_source ws source a b c))
+
 -- ---- the rows of a filing behind them
 
 module _ (ws : List ℕ) (source customer : ℕ) (list : List ℕ) (p : Passes ws source) where
@@ -324,12 +358,12 @@ kept_entries source (r ∷ rs) = go (eqb r.source source) (kept_entries source r
     go true h = h
     go false h = ap (λ l. entry_of r ∷ l) h
 
-module _ (ws : List ℕ) (source : ℕ) (p : Passes ws source) where
+module _ (ws : List ℕ) (source : ℕ) (a : length ws ≡ register_words) (b : register_ok ws ≡ true) where
   pub clear_may : Clearable record_head record_tail ws source_word
-  clear_may = record { sound = sound ws p.ok; within = omega arith; small = omega (arith, p.long) }
+  clear_may = record { sound = sound ws b; within = omega arith; small = omega (arith, a) }
 
   kept : staying_entries source_word source (decode record_head record_tail ws) ≡ map entry_of (clear_records source (records_of ws))
-  kept = ap (staying_entries source_word source) (decoded ws (sound ws p.ok)) ∙ kept_entries source (records_of ws)
+  kept = ap (staying_entries source_word source) (decoded ws (sound ws b)) ∙ kept_entries source (records_of ws)
 
   module _ {gone : ℕ} (g : gone + length (staying_entries source_word source (decode record_head record_tail ws)) ≡ length (decode record_head record_tail ws)) where
     pub gone_is : gone ≡ count_records source (records_of ws)
@@ -338,15 +372,18 @@ module _ (ws : List ℕ) (source : ℕ) (p : Passes ws source) where
           arith,
           cleared_count source (records_of ws),
           ap length kept ∙ length_entries (clear_records source (records_of ws)),
-          length_records ws (sound ws p.ok),
+          length_records ws (sound ws b),
         )
 
     pub gone_few : gone ≤ most_records
-    gone_few = omega (arith, length_records ws (sound ws p.ok), room_records (records_of ws) (has_room (records_of ws) (records-ok ws p.ok)))
+    gone_few = omega (arith, length_records ws (sound ws b), room_records (records_of ws) (has_room (records_of ws) (records-ok ws b)))
 
-    pub clear_done : {ws' : List ℕ} → ws' ≡ encode (length ws) (staying_entries source_word source (decode record_head record_tail ws))
-        → effect (Ok gone) ws' ≡ clear_effect ws source
-    unfolding clear_effect first_given register_of
-    clear_done e =
-        rw (eq-eqb (length ws) register_words p.long, p.ok, le-ltb last_source source p.known)
-        (λ i. effect (Ok (gone_is i)) ((e ∙ (λ j. encode (p.long j) (kept j))) i))
+pub clear_done :
+    (ws : List ℕ) (source : ℕ) (p : Passes ws source) {gone : ℕ}
+    → gone + length (staying_entries source_word source (decode record_head record_tail ws)) ≡ length (decode record_head record_tail ws)
+    → {ws' : List ℕ} → ws' ≡ encode (length ws) (staying_entries source_word source (decode record_head record_tail ws))
+    → effect (Ok gone) ws' ≡ clear_effect ws source
+unfolding clear_effect first_given register_of
+clear_done ws source p g e =
+    rw (eq-eqb (length ws) register_words p.long, p.ok, le-ltb last_source source p.known)
+    (λ i. effect (Ok (gone_is ws source p.long p.ok g i)) ((e ∙ (λ j. encode (p.long j) (kept ws source p.long p.ok j))) i))

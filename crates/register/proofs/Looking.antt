@@ -88,6 +88,11 @@ module _ (ws : List ℕ) (e : register_ok ws ≡ true) where
         let z : from + n - from ≡ length (record_at (records_of ws) i).providers = omega arith in
         rw (z, ef) (list_is ws (sound ws e) i h)
 
+  -- The slot at a pair's position is within the words, unless the position is past the last record.
+  pub there_in : (c s : ℕ) {position n : ℕ} → position ≡ position_of c s (records_of ws) → n ≡ get_or ws 0 0 → position < n
+      → counters + position * record_width + record_width ≤ length ws
+  there_in c s {position} p q h = slot_in position (omega (arith, count_is))
+
   module _ (c s : ℕ) {position : ℕ} (p : position ≡ position_of c s (records_of ws)) where
     -- Past the last record the register does not hold the pair's.
     pub past : length (records_of ws) ≤ position → false ≡ holds_record c s (records_of ws)

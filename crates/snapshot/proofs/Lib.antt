@@ -6,4 +6,5 @@ pub mod Parts
 pub mod RoundTrips
 pub mod Writing
 pub mod Reading
+pub mod Fitting
 pub mod Laws

@@ -1,14 +1,15 @@
--- Reading, step by step: the rows from 22 on refuse in their turn, and what passes is loaded. Assumes nothing.
+-- Reading, step by step: each row refuses in its turn, and what passes is loaded. Assumes nothing.
 use Prim.Native.Nat.{ℕ, ◌+◌, ◌-◌, ◌*◌, ◌≤◌}
-use mathlib.Core.Path.{◌≡◌, sym, ap, ◌∙◌}
+use mathlib.Core.Path.{◌≡◌, refl, sym, ap, ◌∙◌}
 use mathlib.Core.Bool.{true, false}
 use mathlib.Core.List.{List}
 use native.Mathlib.Omega.{arith}
 use lib.Dec.{eqb}
 use lib.ListN.{length, take, drop, length-drop}
 use lib.Seq.{take_all}
+use borrow.Author.Tests.{eq-eqb, ne_eqb}
 use Rattle.types.specs.declared.Refusal.{Refusal}
-use Rattle.types.specs.declared.Refusal.TheVariants.{RegisterMalformed, RoutesMalformed}
+use Rattle.types.specs.declared.Refusal.TheVariants.{TableLength, RegisterMalformed, RoutesMalformed}
 use Rattle.types.specs.Rows.{or_else, first_given}
 use Rattle.types.proofs.Clashes.{clash}
 use Rattle.table.specs.Table.{pad}
@@ -28,14 +29,31 @@ module _ (file reg led : List ℕ) where
   unfolding read_effect
   refuses x e = rw e
 
-  -- What the check of the contents says.
-  pub contents_refused : length reg ≡ register_words → length led ≡ ledger_words → (x : Refusal) → Err x ≡ answer_by (first_given (contents_rows file))
-      → reading (Err x) reg led ≡ read_effect file reg led
-  contents_refused n m x e = refuses x (rows_left file reg led n m ∙ go (first_given (contents_rows file)) e)
-    where
-      go : (o : Option Refusal) → Err x ≡ answer_by o → or_else o (first_given (body_rows file)) ≡ Some x
-      go (Some y) h = cc
-      go None h = clash (cc)
+  pub register_length_wrong : (length reg ≡ register_words → ⊥) → reading (Err TableLength) reg led ≡ read_effect file reg led
+  unfolding first_given
+  register_length_wrong h = refuses TableLength (rw (ne_eqb (length reg) register_words h))
+
+  module _ (n : length reg ≡ register_words) where
+    pub ledger_length_wrong : (length led ≡ ledger_words → ⊥) → reading (Err TableLength) reg led ≡ read_effect file reg led
+    unfolding first_given
+    ledger_length_wrong h = refuses TableLength (rw (eq-eqb (length reg) register_words n, ne_eqb (length led) ledger_words h))
+
+    module _ (m : length led ≡ ledger_words) where
+      -- What the check of the contents says.
+      pub contents_refused : (x : Refusal) → Err x ≡ answer_by (first_given (contents_rows file))
+          → reading (Err x) reg led ≡ read_effect file reg led
+      contents_refused x e = refuses x (rows_left file reg led n m ∙ go (first_given (contents_rows file)) e)
+        where
+          go : (o : Option Refusal) → Err x ≡ answer_by o → or_else o (first_given (body_rows file)) ≡ Some x
+          go (Some y) h = cc
+          go None h = clash (cc)
+
+      pub loadable : Ok tt ≡ answer_by (first_given (contents_rows file)) → Loadable file reg led
+      loadable e = go (first_given (contents_rows file)) refl e
+        where
+          go : (o : Option Refusal) → first_given (contents_rows file) ≡ o → Ok tt ≡ answer_by o → Loadable file reg led
+          go (Some y) q h = clash (cc)
+          go None q h = record { register_long = n; ledger_long = m; passed = q }
 
   module _ (l : Loadable file reg led) where
     body_left : first_given (read_rows file reg led) ≡ first_given (body_rows file)
@@ -60,10 +78,10 @@ module _ (file reg led : List ℕ) where
 -- ---- the tables of a file, as the code cuts and unpacks them
 
 module _ (file : List ℕ) (q : first_given (contents_rows file) ≡ None) (r : ℕ) (f : r ≡ register_bytes file) where
-  first_cut : take (contents_bytes + r - contents_bytes) (drop contents_bytes file) ≡ first_part file
+  pub first_cut : take (contents_bytes + r - contents_bytes) (drop contents_bytes file) ≡ first_part file
   first_cut = let e : contents_bytes + r - contents_bytes ≡ register_bytes file = omega arith in ap (λ n. take n (drop contents_bytes file)) e
 
-  second_cut : take (length file - (contents_bytes + r)) (drop (contents_bytes + r) file) ≡ second_part file
+  pub second_cut : take (length file - (contents_bytes + r)) (drop (contents_bytes + r) file) ≡ second_part file
   second_cut = take_all (length file - (contents_bytes + r)) (drop (contents_bytes + r) file) (simp length-drop (omega arith)) ∙ ap (λ n. drop (contents_bytes + n) file) f
 
   -- The register's bytes fit its table, and unpacked they are the file's register.

@@ -1,13 +1,14 @@
--- Writing: the file is put together in the output, and its last row. Assumes nothing.
+-- Writing: the file is put together in the output, and each row refuses in its turn. Assumes nothing.
 use Prim.Native.Nat.{ℕ, ◌+◌, ◌*◌, ◌≤◌, ◌<◌}
 use mathlib.Core.Path.{◌≡◌, refl, sym, ap, ◌∙◌}
-use mathlib.Core.Bool.{true}
+use mathlib.Core.Bool.{true, false}
 use mathlib.Core.List.{List, ◌++◌, append_assoc}
 use native.Mathlib.Omega.{arith}
 use lib.ListN.{length, take, drop, length-append}
 use lib.Seq.{drop-drop}
-use borrow.Author.Tests.{eq-eqb, lt-ltb, le-ltb}
-use Rattle.types.specs.declared.Refusal.TheVariants.{OutputLength}
+use borrow.Author.Tests.{eq-eqb, ne_eqb, lt-ltb, le-ltb}
+use Rattle.types.specs.declared.Refusal.{Refusal}
+use Rattle.types.specs.declared.Refusal.TheVariants.{TableLength, RegisterMalformed, RoutesMalformed, OutputLength}
 use Rattle.types.specs.Rows.{first_given, effect, unless_refused}
 use Rattle.register.specs.Register.{register_words, record_width, register_ok}
 use Rattle.ledger.specs.Routes.{ledger_words, route_width, ledger_ok}
@@ -56,6 +57,29 @@ emitted reg led out a b c e =
 
 -- ---- the rows
 
+module _ (reg led out : List ℕ) where
+  refuses : (x : Refusal) → first_given (write_rows reg led out) ≡ Some x → effect (Err x) out ≡ write_effect reg led out
+  unfolding write_effect
+  refuses x e = rw e
+
+  pub register_length_wrong : (length reg ≡ register_words → ⊥) → effect (Err TableLength) out ≡ write_effect reg led out
+  unfolding first_given
+  register_length_wrong h = refuses TableLength (rw (ne_eqb (length reg) register_words h))
+
+  module _ (n : length reg ≡ register_words) where
+    pub ledger_length_wrong : (length led ≡ ledger_words → ⊥) → effect (Err TableLength) out ≡ write_effect reg led out
+    unfolding first_given
+    ledger_length_wrong h = refuses TableLength (rw (eq-eqb (length reg) register_words n, ne_eqb (length led) ledger_words h))
+
+    module _ (m : length led ≡ ledger_words) where
+      pub register_wrong : register_ok reg ≡ false → effect (Err RegisterMalformed) out ≡ write_effect reg led out
+      unfolding first_given
+      register_wrong h = refuses RegisterMalformed (rw (eq-eqb (length reg) register_words n, eq-eqb (length led) ledger_words m, h))
+
+      pub ledger_wrong : register_ok reg ≡ true → ledger_ok led ≡ false → effect (Err RoutesMalformed) out ≡ write_effect reg led out
+      unfolding first_given
+      ledger_wrong k h = refuses RoutesMalformed (rw (eq-eqb (length reg) register_words n, eq-eqb (length led) ledger_words m, k, h))
+
 module _ (reg led out : List ℕ) (t : FormedTables reg led) where
   no_row : length (snapshot_of reg led) ≤ length out → first_given (write_rows reg led out) ≡ None
   unfolding first_given
@@ -97,8 +121,7 @@ module _ (reg led out : List ℕ) (t : FormedTables reg led) where
     bytes = omega (arith, long reg led t)
 
     pub short : length out < contents_bytes + word_bytes * (r + l) → effect (Err OutputLength) out ≡ write_effect reg led out
-    unfolding write_effect
-    short h = rw (short_row (omega (arith, bytes)))
+    short h = refuses reg led out OutputLength (short_row (omega (arith, bytes)))
 
     pub written_whole : contents_bytes + word_bytes * (r + l) ≤ length out → (out' : List ℕ) → out' ≡ over (file_of (take r reg) (take l led)) out
         → effect (Ok (contents_bytes + word_bytes * (r + l))) out' ≡ write_effect reg led out

@@ -1,3 +1,4 @@
 pub mod Clashes
 pub mod Refusing
+pub mod RefusedBy
 pub mod RoleNumbers

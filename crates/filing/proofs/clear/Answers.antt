@@ -13,11 +13,11 @@ returns-in_err-check c =
     rw (p.1, p.2) (clear_early c.args.reg.now c.args.source _ c.in_err-check.ensures)
 
 pub clear-gone-requires : goal.clear-gone-requires
-clear-gone-requires c = clear_may c.args.reg.now c.args.source (passes _ _ c.in_ok-check.ensures.1)
+clear-gone-requires c = let p = passes c.args.reg.now c.args.source c.in_ok-check.ensures.1 in clear_may c.args.reg.now c.args.source p.long p.ok
 
 pub overflow_cast-result : goal.overflow_cast-result
-overflow_cast-result c = let a = c.args in
-    omega (arith, gone_few a.reg.now a.source (passes _ _ c.in_ok-check.ensures.1) (went source_word a.source (decode record_head record_tail a.reg.now) c.clear-gone.ensures.1))
+overflow_cast-result c = let a = c.args in let p = passes a.reg.now a.source c.in_ok-check.ensures.1 in
+    omega (arith, gone_few a.reg.now a.source p.long p.ok (went source_word a.source (decode record_head record_tail a.reg.now) c.clear-gone.ensures.1))
 
 pub returns : goal.returns
 returns c = let a = c.args in
