@@ -3,12 +3,13 @@ use Prim.Native.Nat.{ℕ, ◌≤◌, ◌<◌}
 use mathlib.Core.Path.{◌≡◌, refl, sym, ◌∙◌, ap}
 use mathlib.Core.Bool.{Bool, true, false, cond}
 use mathlib.Core.List.{List}
+use borrow.Author.Tests.{eq-eqb, ne_eqb, lt-ltb, le-ltb}
 use lib.Dec.{ltb, eqb}
 use lib.ListN.{length}
 use Rattle.types.specs.declared.Role.{Role}
 use Rattle.types.specs.declared.Neighbour.{Neighbour}
 use Rattle.types.specs.declared.Refusal.{Refusal}
-use Rattle.types.specs.declared.Refusal.TheVariants.{NeighbourZero, AttributeLength}
+use Rattle.types.specs.declared.Refusal.TheVariants.{RoleNumber, NeighbourZero, AttributeLength}
 use Rattle.types.specs.Numbers.{role_number, role_of}
 use Rattle.types.specs.Roles.{is_role}
 use Rattle.types.specs.Rows.{first_given}
@@ -21,6 +22,20 @@ use Rattle.filter.specs.Helpers.{after_role, known_from}
 use Rattle.std.specs.Prelude.{Err, None, Ok, Option, Some}
 
 module _ (role neighbour : ℕ) (xs : List ℕ) where
+  pub know_none : role_of role ≡ None → Err RoleNumber ≡ known_from role neighbour xs
+  know_none e = rw e
+
+  module _ {k : Role} (e : role_of role ≡ Some k) where
+    pub know_neighbour : neighbour ≡ 0 → Err NeighbourZero ≡ known_from role neighbour xs
+    know_neighbour z = rw (e, eq-eqb neighbour 0 z)
+
+    module _ (some : neighbour ≡ 0 → ⊥) where
+      pub know_length : most_bytes < length xs → Err AttributeLength ≡ known_from role neighbour xs
+      know_length h = rw (e, ne_eqb neighbour 0 some, lt-ltb most_bytes (length xs) h)
+
+      pub know_role : length xs ≤ most_bytes → Ok (record { role = k; number = record { 0 = neighbour } }) ≡ known_from role neighbour xs
+      know_role h = rw (e, ne_eqb neighbour 0 some, le-ltb most_bytes (length xs) h)
+
   -- A refusal is the first of the three rows.
   pub known_refused : (r : Refusal) → known_from role neighbour xs ≡ Err r → first_given (argument_rows role neighbour xs) ≡ Some r
   unfolding first_given

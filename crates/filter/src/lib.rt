@@ -10,7 +10,7 @@ ghost use Rattle.rules.specs.Judging.{answer_to};
 ghost use Rattle.register.specs.Calls.{file_effect, withdraw_effect, clear_effect};
 ghost use Rattle.ledger.specs.Routes.{ledger_words, ledger_ok};
 ghost use Rattle.ledger.specs.Calls.{route_for, drop_effect};
-ghost use Rattle.registers.specs.Registers.{lent, hop_in, chosen};
+ghost use Rattle.registers.specs.Registers.{lent, hop_in};
 ghost use Rattle.registers.specs.Words.{words_of};
 ghost use Rattle.effects.specs.Calls.{judge_answer, keeping, keep_effect, rejudge_effect, hop_answer, look_rows, lookup_part, lookup_list};
 ghost use Rattle.effects.specs.Helpers.{stored_effect, Ready};
@@ -222,16 +222,6 @@ pub fn find_list<'a>(
     }
 }
 
-// The words of the register of an origin.
-fn choose<'a>(public: &'a [u32], overrides: &'a [u32], origin: Origin) -> &'a [u32]
-    ensures { result.now ≡ chosen origin (lent public.now overrides.now) }
-{
-    match origin {
-        Origin::Public => public,
-        Origin::Overrides => overrides,
-    }
-}
-
 // The list of a source for a customer itself: a part of the register that counts for the customer, and empty as above.
 pub fn lookup<'a>(
     public: &'a [u32],
@@ -242,7 +232,7 @@ pub fn lookup<'a>(
     ensures { result.now ≡ lookup_list (lent public.now overrides.now) source customer.0 }
 {
     let part = find_list(public, overrides, source, customer);
-    let register = choose(public, overrides, part.origin);
+    let register = registers::choose(public, overrides, part.origin);
     &register[part.from..part.to]
 }
 

@@ -37,15 +37,15 @@ less c s x (second e h) = absurd (omega arith)
 
 module _ (rs : List Record) (a : ascends key_of same_pair before_pair rs ≡ true) where
   -- The records below x's position have lesser customers.
-  customers_below : (x i : ℕ) → i < position_of x 0 rs → (record_at rs i).customer < x
+  pub customers_below : (x i : ℕ) → i < position_of x 0 rs → (record_at rs i).customer < x
   customers_below x i h = less _ (record_at rs i).source x (before_says (key_of (record_at rs i)) (x, 0) ((begins rs a x 0).below i h))
 
   -- The records from x's position on do not.
-  customers_above : (x i : ℕ) → position_of x 0 rs ≤ i → i < length rs → x ≤ (record_at rs i).customer
+  pub customers_above : (x i : ℕ) → position_of x 0 rs ≤ i → i < length rs → x ≤ (record_at rs i).customer
   customers_above x i h l = not_less _ (record_at rs i).source x 0 ((begins rs a x 0).behind i h l)
 
   -- Customers do not descend.
-  customers_ascend : (i j : ℕ) → i ≤ j → j < length rs → (record_at rs i).customer ≤ (record_at rs j).customer
+  pub customers_ascend : (i j : ℕ) → i ≤ j → j < length rs → (record_at rs i).customer ≤ (record_at rs j).customer
   customers_ascend i j h l =
       let c = (record_at rs i).customer in
       let s = (record_at rs i).source in
@@ -64,7 +64,7 @@ pub record Naming (rs : List Record) (x y : ℕ) (first : Option ℕ) (i : ℕ) 
 
 module _ (rs : List Record) (a : ascends key_of same_pair before_pair rs ≡ true) (x : ℕ) {position : ℕ} (p : position ≡ position_of x 0 rs) where
   -- The records before position tell nothing of x.
-  from_position : told x (drop position rs) ≡ told x rs
+  pub from_position : told x (drop position rs) ≡ told x rs
   from_position =
       sym (skips x rs 0 position (omega arith) (omega (arith, (begins rs a x 0).within))
       (λ j l m q. omega (arith, customers_below rs a x j (omega arith))))

@@ -1,6 +1,6 @@
 -- Which register counts: what a look-up in the overrides shows, and what the register that counts says. Assumes nothing.
 use Prim.Native.Nat.{ℕ}
-use mathlib.Core.Path.{◌≡◌, refl, ◌∙◌, ap}
+use mathlib.Core.Path.{◌≡◌, refl, sym, ◌∙◌, ap}
 use mathlib.Core.Bool.{Bool, true, false, cond}
 use mathlib.Core.List.{List, [], ◌∷◌}
 use native.Mathlib.Omega.{arith}
@@ -12,10 +12,12 @@ use Rattle.types.specs.declared.Origin.TheVariants.{Public, Overrides}
 use Rattle.types.specs.declared.Hop.{Hop}
 use Rattle.keyed.proofs.Orders.{both_left, both_right, both_intro}
 use Rattle.rules.specs.Records.{Record, attested, origin_for, counting, hop_of, hop_over}
-use Rattle.register.specs.Register.{register_words, records_of, register_ok}
+use Rattle.register.specs.Register.{register_words, records_of, position_of, register_ok}
+use Rattle.hops.specs.declared.Span.{Span}
+use Rattle.hops.specs.Spans.{span_of}
 use Rattle.registers.specs.declared.Found.{Found}
 use Rattle.registers.specs.declared.Registers as declared
-use Rattle.registers.specs.Registers.{Registers, hop_in, both_long, both_ok, chosen, found_in}
+use Rattle.registers.specs.Registers.{Registers, hop_in, both_long, both_ok, chosen, found_of, found_in, part, part_in}
 use Rattle.registers.specs.Words.{words_of}
 
 -- ---- rows 1 and 2 of both
@@ -47,8 +49,19 @@ both_formed r = both_intro _ _ r.public.register.well_formed r.overrides.registe
 
 -- ---- the register that counts
 
+module _ (p o : List Record) (x : ℕ) where
+  -- The overrides have a record of x.
+  pub found_overrides : {i : ℕ} → attested o x ≡ true → i ≡ position_of x 0 o
+      → ◌≡◌ {A = Found} (record { origin = Overrides; position = i }) (found_of p o x)
+  found_overrides e q = rw (e, q)
+
+  -- They have none.
+  pub found_public : {i : ℕ} → attested o x ≡ false → i ≡ position_of x 0 p
+      → ◌≡◌ {A = Found} (record { origin = Public; position = i }) (found_of p o x)
+  found_public e q = rw (e, q)
+
 -- Where there is no record, x has none.
-none_attested : (rs : List Record) → length rs ≡ 0 → (x : ℕ) → attested rs x ≡ false
+pub none_attested : (rs : List Record) → length rs ≡ 0 → (x : ℕ) → attested rs x ≡ false
 unfolding attested
 none_attested [] e x = refl
 none_attested (r ∷ rs) e x = absurd (omega arith)
@@ -79,6 +92,19 @@ module _ (reg : Registers) (x : ℕ) where
     counted : records_of ws ≡ counts
     counted = ap records_of (w ∙ ap (λ f. chosen f.origin reg) e) ∙ chosen_counts
 
+    pub words_ok : both_ok reg ≡ true → register_ok ws ≡ true
+    words_ok b = ap register_ok w ∙ chosen_ok reg b f.origin
+
+    pub words_position : f.position ≡ position_of x 0 (records_of ws)
+    words_position = ap (λ f. f.position) e ∙ ap (position_of x 0) (sym counted)
+
     pub words_hop : (y : ℕ) {h : Hop} → h ≡ hop_of f.origin (records_of ws) x y → h ≡ hop_in reg x y
     unfolding hop_over
     words_hop y d = d ∙ (λ i. hop_of (e i).origin (counted i) x y)
+
+  -- The part of the words that were chosen.
+  pub words_part : (source : ℕ) {o : Origin} {ws : List ℕ} {s : Span} → o ≡ origin → ws ≡ chosen o reg → s ≡ span_of (records_of ws) source x
+      → part o s ≡ part_in reg source x
+  words_part source e w d =
+      let c : records_of _ ≡ counts = ap records_of (w ∙ ap (λ o. chosen o reg) e) ∙ chosen_counts in
+      λ i. part (e i) ((d ∙ ap (λ rs. span_of rs source x) c) i)

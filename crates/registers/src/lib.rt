@@ -3,7 +3,7 @@
 
 ghost use Rattle.std.specs.Prelude.{◌≡◌, true, false, MatchOption, MatchResult};
 ghost use Rattle.rules.specs.Records.{attested, origin_for};
-ghost use Rattle.register.specs.Register.{records_of, position_of};
+ghost use Rattle.register.specs.Register.{records_of, position_of, register_ok};
 ghost use Rattle.registers.specs.Registers.{lent, hop_in, both_long, both_ok, chosen, found_in, part_in};
 ghost use Rattle.registers.specs.Words.{words_of};
 
@@ -162,5 +162,31 @@ impl<'a> Registers<'a> {
             from: span.from,
             to: span.to,
         }
+    }
+}
+
+// ---- of words that no `Registers` holds
+
+// The register that counts for a number, by the overrides alone.
+pub fn origin_for(overrides: &[u32], x: AsNumber) -> Origin
+    requires { register_ok overrides.now ≡ true }
+    ensures { result ≡ origin_for (records_of overrides.now) x.0 }
+{
+    let register = Register { words: overrides };
+    let position = finding::find(register, x, 0);
+    if hops::attests(register, position, x) {
+        Origin::Overrides
+    } else {
+        Origin::Public
+    }
+}
+
+// The register of an origin, well formed or not.
+pub fn choose<'a>(public: &'a [u32], overrides: &'a [u32], origin: Origin) -> &'a [u32]
+    ensures { result.now ≡ chosen origin (lent public.now overrides.now) }
+{
+    match origin {
+        Origin::Public => public,
+        Origin::Overrides => overrides,
     }
 }

@@ -38,10 +38,12 @@ fn upstream<L: Lookup>(lookup: L, path: &[u32]) -> Verdict
     let mut unattested = None;
     for i in 1..n {
         let u = i + 1;
-        match lookup.hop(AsNumber(path[n - i]), AsNumber(path[n - u])) {
+        let hop = lookup.hop(AsNumber(path[n - i]), AsNumber(path[n - u]));
+        match hop {
             Hop::ProviderPlus(_, _) => {}
-            Hop::NotProviderPlus(origin) => {
-                return Verdict::Invalid(Cause::ByHops(u as u32, 0, Origins::One(origin)));
+            Hop::NotProviderPlus(_) => {
+                let origins = Origins::One(rules::origin(hop));
+                return Verdict::Invalid(Cause::ByHops(u as u32, 0, origins));
             }
             Hop::NoAttestation => unattested = unattested.or(Some(u)),
         }
