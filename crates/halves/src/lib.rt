@@ -27,12 +27,12 @@ pub fn is_before(a: Key, b: Key) -> bool
     ensures { result ≡ before_pair (key_of a) (key_of b) }
 {
     if a.first < b.first {
-        return true;
+        true
+    } else if a.first == b.first {
+        a.second < b.second
+    } else {
+        false
     }
-    if a.first == b.first {
-        return a.second < b.second;
-    }
-    false
 }
 
 // The key of the entry at a position of a table whose slots have so many words.
