@@ -170,6 +170,14 @@ pub record Feeds (piece : List ℕ) (old new : Console) (n : ℕ) : Type 0 where
   pub within : new.out.end ≤ old.out.end + most_text
   pub held : HeldIn new.lending
 
+-- The input's end, where n bytes stand in a line that is lent shared: the tables and the empty line after it, and the text behind what the output holds.
+pub record Closes (n : ℕ) (line : List ℕ) (old new : Lending) (out out' : Text) : Type 0 where
+  pub same : SameTables old new
+  pub session : ◌≡◌ {A = Session} (record { tables = lent_in new; line = Some [] }) (finished (record { tables = lent_in old; line = line_in n line }))
+  pub text : Wrote out out' (last_text (record { tables = lent_in old; line = line_in n line }))
+  pub within : out'.end ≤ out.end + most_text
+  pub held : HeldIn new
+
 -- The input's end: the session after it, and the text behind what the output holds.
 pub record Finishes (old new : Console) : Type 0 where
   pub same : SameBuffers old new

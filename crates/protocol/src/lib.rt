@@ -9,8 +9,8 @@ ghost use Rattle.calls.specs.Commands.{most_line, most_lent, resize, resize_comm
 ghost use Rattle.calls.specs.Lent.{or_error};
 ghost use Rattle.calls.specs.Performing.{tables_of, result_of, performed};
 ghost use Rattle.commands.specs.Commands.{lent_command, command_of};
-ghost use Rattle.replies.specs.Texts.{Small, reply_text, most_reply};
-ghost use Rattle.protocol.specs.Feeding.{command_in, line_in, HeldIn, Carries, Answers, Joins, Ready, EndsLine, Feeds, Finishes};
+ghost use Rattle.replies.specs.Texts.{reply_text, most_reply};
+ghost use Rattle.protocol.specs.Feeding.{command_in, line_in, lent_in, most_text, HeldIn, Carries, Answers, Joins, Ready, EndsLine, Feeds, Closes, Finishes};
 
 use calls::{Named, Reply, Tables};
 use lines::Line;
@@ -69,30 +69,6 @@ fn run(line: Line<'_>, register: &mut [u32], overrides: &mut [u32], ledger: &mut
         ledger,
     };
     commands::choice::run(line, &mut tables)
-}
-
-// A reply's text. (Tables of whole slices, as above.)
-fn put(
-    text: &mut Text<'_>,
-    reply: Reply,
-    register: &mut [u32],
-    overrides: &mut [u32],
-    ledger: &mut [u32],
-)
-    requires small { Small (tables_of register.old overrides.old ledger.old) }
-    requires room { Room text.old most_reply }
-    ensures wrote { Wrote text.old text.new (reply_text (tables_of register.old overrides.old ledger.old) reply) }
-    ensures within { text.new.end ≤ text.old.end + most_reply }
-    ensures register_stays { register.new ≡ register.old }
-    ensures overrides_stay { overrides.new ≡ overrides.old }
-    ensures ledger_stays { ledger.new ≡ ledger.old }
-{
-    let tables = Tables {
-        register,
-        overrides,
-        ledger,
-    };
-    replies::put(text, reply, &tables);
 }
 
 impl Lending<'_> {
@@ -172,36 +148,64 @@ impl Lending<'_> {
         }
     }
 
-    // The same of a line that may be too long.
-    fn perform_line(&mut self, line: &Text<'_>) -> Reply
-        requires { (length line.now.buffer.now ≡ most_line) × (HeldIn self.old) }
-        ensures { Carries self.old self.new result (command_in (line_in line.now.end line.now.buffer.now)) }
+    // The same of the line up to end, which may be too long.
+    fn perform_line(&mut self, line: &[u8], end: usize) -> Reply
+        requires { (length line.now ≡ most_line) × (HeldIn self.old) }
+        ensures { Carries self.old self.new result (command_in (line_in end line.now)) }
     {
-        if line.buffer.len() < line.end {
+        if line.len() < end {
             Reply::Error
         } else {
-            self.perform(Line::new(&line.buffer[..line.end]))
+            self.perform(Line::new(&line[..end]))
         }
     }
 
-    // A line's command, and its answer.
+    // A reply's text. (Each table is borrowed whole first: a part of a slice behind two references is not covered by the check.)
+    fn put(&self, reply: Reply, out: &mut Text<'_>)
+        requires { (HeldIn self.now) × (Room out.old most_reply) }
+        ensures wrote { Wrote out.old out.new (reply_text (lent_in self.now) reply) }
+        ensures within { out.new.end ≤ out.old.end + most_reply }
+    {
+        let lent = self.lent;
+        let register = &*self.tables.register;
+        let overrides = &*self.tables.overrides;
+        let ledger = &*self.tables.ledger;
+        replies::put(
+            out,
+            reply,
+            &register[..lent.register],
+            &overrides[..lent.overrides],
+            &ledger[..lent.ledger],
+        );
+    }
+
+    // The command of the line up to end, and its answer.
+    fn answer_to(&mut self, line: &[u8], end: usize, out: &mut Text<'_>)
+        requires { (length line.now ≡ most_line) × (HeldIn self.old) × (Room out.old most_reply) }
+        ensures { Answers self.old self.new out.old out.new (command_in (line_in end line.now)) }
+    {
+        let reply = self.perform_line(line, end);
+        self.put(reply, out);
+    }
+
+    // The same of a line in its buffer. (In `Console` the line's bytes alone cannot be lent beside the tables and the output: that is not covered either.)
     fn answer(&mut self, line: &Text<'_>, out: &mut Text<'_>)
         requires { (length line.now.buffer.now ≡ most_line) × (HeldIn self.old) × (Room out.old most_reply) }
         ensures { Answers self.old self.new out.old out.new (command_in (line_in line.now.end line.now.buffer.now)) }
     {
-        let reply = self.perform_line(line);
-        let lent = self.lent;
-        let tables = &mut self.tables;
-        let register = &mut *tables.register;
-        let overrides = &mut *tables.overrides;
-        let ledger = &mut *tables.ledger;
-        put(
-            out,
-            reply,
-            &mut register[..lent.register],
-            &mut overrides[..lent.overrides],
-            &mut ledger[..lent.ledger],
-        );
+        let end = line.end;
+        self.answer_to(line.buffer, end, out);
+    }
+
+    // The end of the input where the line is lent shared: what stands in it up to end is answered, and then no line stands.
+    pub fn finish(&mut self, line: &[u8], end: usize, out: &mut Text<'_>)
+        requires { (length line.now ≡ most_line) × (HeldIn self.old) × (Room out.old most_text) }
+        ensures { Closes end line.now self.old self.new out.old out.new }
+    {
+        if end != 0 {
+            self.answer_to(line, end, out);
+            out.put(b"\n");
+        }
     }
 }
 

@@ -3,14 +3,15 @@
 
 ghost use Rattle.std.specs.Prelude.{◌≡◌, ◌+◌, ◌*◌, ◌≤◌, ◌<◌, ◌^◌, length, replicate};
 ghost use Rattle.text.specs.Wrote.{Room, Wrote};
-ghost use Rattle.calls.specs.Lent.{tables_in, registers_in};
+ghost use Rattle.registers.specs.Registers.{lent};
+ghost use Rattle.calls.specs.Performing.{tables_of};
 ghost use Rattle.calls.specs.Commands.{most_lent, most_output};
 ghost use Rattle.answers.specs.Texts.{spaced_text};
 ghost use Rattle.replies.specs.Texts.{table_named, slot_width, used_words, without_zeros, sized_text, snapshot_text, lookup_text, reply_text};
 ghost use Rattle.replies.specs.Texts.{Small, most_reply};
 
 use answers::Put;
-use calls::{Named, Reply, Tables};
+use calls::{Named, Reply};
 use text::Text;
 use types::AsNumber;
 
@@ -18,15 +19,15 @@ use types::AsNumber;
 // most, take less.
 pub const MOST_REPLY: usize = 128 + 2 * calls::MOST_OUTPUT;
 
-fn named<'a>(tables: &'a Tables<'_>, name: Named) -> &'a [u32]
-    requires { Small (tables_in tables.now) }
-    ensures same { result.now ≡ table_named (tables_in tables.now) name }
+fn named<'a>(register: &'a [u32], overrides: &'a [u32], ledger: &'a [u32], name: Named) -> &'a [u32]
+    requires { Small (tables_of register.now overrides.now ledger.now) }
+    ensures same { result.now ≡ table_named (tables_of register.now overrides.now ledger.now) name }
     ensures small { length result.now ≤ most_lent }
 {
     match name {
-        Named::Register => tables.register,
-        Named::Overrides => tables.overrides,
-        Named::Ledger => tables.ledger,
+        Named::Register => register,
+        Named::Overrides => overrides,
+        Named::Ledger => ledger,
     }
 }
 
@@ -104,32 +105,33 @@ fn no_output() -> [u8; calls::MOST_OUTPUT]
 }
 
 // A snapshot of the public register and the ledger, written to an output of so many bytes and put as text.
-fn put_snapshot(text: &mut Text, capacity: usize, tables: &Tables<'_>)
+fn put_snapshot(text: &mut Text, capacity: usize, register: &[u32], ledger: &[u32])
     requires { Room text.old most_reply }
-    ensures wrote { Wrote text.old text.new (snapshot_text tables.now.register.now tables.now.ledger.now capacity) }
+    ensures wrote { Wrote text.old text.new (snapshot_text register.now ledger.now capacity) }
     ensures within { text.new.end ≤ text.old.end + most_reply }
 {
     let mut output = no_output();
     let lent = &mut output[..capacity.min(calls::MOST_OUTPUT)];
-    let written = snapshot::write(tables.register, tables.ledger, lent);
+    let written = snapshot::write(register, ledger, lent);
     answers::put_written(text, written, lent);
 }
 
 // The part of a register that is looked up goes into the text as it stands there.
 #[tactic(auto, using(crate::proofs::Lookups::list_short))]
-fn put_lookup(text: &mut Text, source: u32, customer: AsNumber, tables: &Tables<'_>)
+fn put_lookup(text: &mut Text, source: u32, customer: AsNumber, register: &[u32], overrides: &[u32])
     requires { Room text.old most_reply }
-    ensures wrote { Wrote text.old text.new (lookup_text (registers_in tables.now) source customer.0) }
+    ensures wrote { Wrote text.old text.new (lookup_text (lent register.now overrides.now) source customer.0) }
     ensures within { text.new.end ≤ text.old.end + most_reply }
 {
-    let providers = filter::lookup(tables.register, tables.overrides, source, customer);
+    let providers = filter::lookup(register, overrides, source, customer);
     answers::put_list(text, providers);
 }
 
-pub fn put(text: &mut Text, reply: Reply, tables: &Tables<'_>)
-    requires small { Small (tables_in tables.now) }
+// The tables are lent one by one and shared, since no reply changes any: those of `Tables` are lent exclusively.
+pub fn put(text: &mut Text, reply: Reply, register: &[u32], overrides: &[u32], ledger: &[u32])
+    requires small { Small (tables_of register.now overrides.now ledger.now) }
     requires room { Room text.old most_reply }
-    ensures wrote { Wrote text.old text.new (reply_text (tables_in tables.now) reply) }
+    ensures wrote { Wrote text.old text.new (reply_text (tables_of register.now overrides.now ledger.now) reply) }
     ensures within { text.new.end ≤ text.old.end + most_reply }
 {
     match reply {
@@ -142,9 +144,14 @@ pub fn put(text: &mut Text, reply: Reply, tables: &Tables<'_>)
         Reply::Hopped(hop) => hop.put(text),
         Reply::Rejudged(count) => answers::put_count(text, b"changed ", count),
         Reply::Restored(done) => done.put(text),
-        Reply::Written(capacity) => put_snapshot(text, capacity, tables),
-        Reply::Listed(source, customer) => put_lookup(text, source, AsNumber(customer), tables),
-        Reply::Shown(name) => put_spaced(text, used(named(tables, name), width(name))),
-        Reply::Sized(name) => put_sized(text, named(tables, name)),
+        Reply::Written(capacity) => put_snapshot(text, capacity, register, ledger),
+        Reply::Listed(source, customer) => {
+            put_lookup(text, source, AsNumber(customer), register, overrides);
+        }
+        Reply::Shown(name) => {
+            let table = named(register, overrides, ledger, name);
+            put_spaced(text, used(table, width(name)));
+        }
+        Reply::Sized(name) => put_sized(text, named(register, overrides, ledger, name)),
     }
 }

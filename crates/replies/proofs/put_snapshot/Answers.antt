@@ -4,6 +4,5 @@ use Rattle.replies.proofs.put_snapshot.Goals as goal
 
 pub returns-clause-wrote : goal.returns-clause-wrote
 returns-clause-wrote c =
-    let tables = c.args.tables.now in
-    writes_snapshot tables.register.now tables.ledger.now most_output c.args.capacity c.no_output-output.ensures c.min.ensures c.write-written.ensures
+    writes_snapshot c.args.register.now c.args.ledger.now most_output c.args.capacity c.no_output-output.ensures c.min.ensures c.write-written.ensures
     c.put_written.ensures.wrote
