@@ -12,21 +12,31 @@ use std::io;
 use std::io::{Read, Stdin, Stdout};
 use text::Text;
 
+// Lent shared, the output is written as it stands.
+fn flush(stdout: Stdout, out: &Text<'_>) -> io::Result<()>
+    requires { out.now.end ≤ length out.now.buffer.now }
+{
+    let bytes = &*out.buffer;
+    stdout.write_all(&bytes[..out.end])
+}
+
 // Whoever types a line waits for its answer, so the output is written before the next read.
 fn write(stdout: Stdout, out: &mut Text<'_>) -> io::Result<()>
     requires { (out.old.end ≤ length out.old.buffer.now) × (most_text ≤ length out.old.buffer.now) }
     ensures same { out.new.buffer.ghost_name ≡ out.old.buffer.ghost_name }
+    ensures stays { out.new.buffer.now ≡ out.old.buffer.now }
     ensures room { Room out.new most_text }
 {
-    let end = out.end;
+    let written = flush(stdout, out);
     out.end = 0;
-    stdout.write_all(&out.buffer[..end])
+    written
 }
 
 // Writes the output where it has no room for another answer.
 fn make_room(stdout: Stdout, out: &mut Text<'_>) -> io::Result<()>
     requires { (out.old.end ≤ length out.old.buffer.now) × (most_text ≤ length out.old.buffer.now) }
     ensures same { out.new.buffer.ghost_name ≡ out.old.buffer.ghost_name }
+    ensures stays { out.new.buffer.now ≡ out.old.buffer.now }
     ensures room { Room out.new most_text }
 {
     if out.buffer.len() - out.end < protocol::MOST_TEXT {
