@@ -3,16 +3,16 @@ use Prim.Native.Nat.{ℕ, zero, suc, ◌+◌, ◌*◌, ◌/◌, ◌%◌, ◌≤�
 use mathlib.Core.Path.{◌≡◌, refl, sym, ap, ◌∙◌}
 use native.Mathlib.Numerals.{add-one}
 use mathlib.Core.Bool.{Bool, true, false, cond}
-use mathlib.Core.List.{List, [], ◌∷◌, ◌++◌}
+use mathlib.Core.List.{List, [], ◌∷◌, ◌++◌, append_assoc}
 use native.Mathlib.Omega.{arith}
 use borrow.Author.Tests.{ne_eqb, ltb-true, ltb-false}
 use lib.Dec.{ltb}
-use lib.ListN.{length, get_or, take}
+use lib.ListN.{length, get_or, take, set, length-set}
 use Rattle.std.proofs.Common.{Some}
+use Rattle.std.proofs.lemmas.List.{take_more_set}
 use Rattle.text.specs.Laws.{HexLaws}
 use Rattle.text.specs.Bytes.{hex_value, pair_value, pairs, all_bytes, bytes_of, bytes_in, hex_digit, hex_text}
 use Rattle.text.proofs.Pairs.{decimal, letter, both}
-use Rattle.text.proofs.Wrote.{writing}
 
 -- ---- the bytes
 
@@ -33,8 +33,23 @@ one_more [] i h = absurd (omega arith)
 one_more (b ∷ bs) zero h = refl
 one_more (b ∷ bs) (suc i) h = rw add-one (ap (λ t. hex_digit (b / 16) ∷ (hex_digit (b % 16) ∷ t)) (rw add-one at (one_more bs i (omega arith))))
 
--- What the loop that writes them needs.
-pub ruleset hex_steps = (no_bytes, one_more, writing)
+-- One byte more fills two places.
+pub fills_on :
+    (bytes out : List ℕ) {i high low : ℕ}
+    → take (2 * i) out ≡ hex_text (take i bytes) → i < length bytes → length out ≡ 2 * length bytes
+    → high ≡ hex_digit (get_or bytes i 0 / 16) → low ≡ hex_digit (get_or bytes i 0 % 16)
+    → take (2 * (i + 1)) (set (set out (2 * i) high) (2 * i + 1) low) ≡ hex_text (take (i + 1) bytes)
+fills_on bytes out {i} {high} {low} same h long p q =
+    let once : List ℕ = set out (2 * i) high in
+    let n : 2 * (i + 1) ≡ 2 * i + 1 + 1 = omega arith in
+    let room : 2 * i < length out = omega arith in
+    let more : 2 * i + 1 < length once = simp length-set (omega arith) in
+    ap (λ m. take m (set once (2 * i + 1) low)) n
+    ∙ take_more_set once (2 * i + 1) low more
+    ∙ ap (λ l. l ++ low ∷ []) (take_more_set out (2 * i) high room)
+    ∙ append_assoc (take (2 * i) out) (high ∷ []) (low ∷ [])
+    ∙ (λ j. same j ++ (p j ∷ (q j ∷ [])))
+    ∙ sym (one_more bytes i h)
 
 -- ---- read back
 

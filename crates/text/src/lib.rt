@@ -111,6 +111,18 @@ fn hex_digit(v: u8) -> u8
     if v < 10 { b'0' + v } else { b'a' - 10 + v }
 }
 
+// Two hex digits for each of the bytes fill a buffer. (The loop writes to a slice: where it put each byte behind a `Text`, a snapshot took four times
+// as long.)
+fn fill_hex(bytes: &[u8], out: &mut [u8])
+    requires { length out.old ≡ 2 * length bytes.now }
+    ensures { out.new ≡ hex_text bytes.now }
+{
+    for (i, b) in bytes.iter().enumerate() {
+        out[2 * i] = hex_digit(*b / 16);
+        out[2 * i + 1] = hex_digit(*b % 16);
+    }
+}
+
 // Text that grows in a lent buffer, up to index end.
 #[derive(Drop)]
 pub struct Text<'a> {
@@ -153,14 +165,14 @@ impl Text<'_> {
     }
 
     // Two hex digits for each of the bytes.
-    #[tactic(auto, using(crate::proofs::HexTexts::hex_steps))]
+    #[tactic(auto, using(crate::proofs::HexTexts::two_digits, crate::proofs::Wrote::copying))]
     pub fn put_hex(&mut self, bytes: &[u8])
         requires { Room self.old (2 * length bytes.now) }
         ensures wrote { Wrote self.old self.new (hex_text bytes.now) }
         ensures twice { self.new.end ≡ self.old.end + 2 * length bytes.now }
     {
-        for b in bytes {
-            self.put(&[hex_digit(*b / 16), hex_digit(*b % 16)]);
-        }
+        let end = self.end + 2 * bytes.len();
+        fill_hex(bytes, &mut self.buffer[self.end..end]);
+        self.end = end;
     }
 }
