@@ -171,8 +171,8 @@ impl Text<'_> {
         ensures wrote { Wrote self.old self.new (hex_text bytes.now) }
         ensures twice { self.new.end ≡ self.old.end + 2 * length bytes.now }
     {
-        let end = self.end + 2 * bytes.len();
-        fill_hex(bytes, &mut self.buffer[self.end..end]);
-        self.end = end;
+        let twice = 2 * bytes.len();
+        fill_hex(bytes, &mut self.buffer[self.end..self.end + twice]);
+        self.end += twice;
     }
 }
